@@ -1,0 +1,8 @@
+pub mod FaultPlan
+pub mod MemorySink
+pub mod MemorySource
+pub mod Sink
+pub mod Source
+pub mod StdSink
+pub mod StdSource
+pub mod Which
