@@ -1,12 +1,12 @@
 -- What a source and a sink in memory do exactly is what a source and a sink owe.
-use Rattle.std.proofs.Common.{◌≡◌, ℕ, ◌+◌, ◌-◌, ◌<◌, ◌≤◌, Bool, true, false, List, [], ◌∷◌, ◌++◌, length, take, drop, min, Option, Some, None, Result, Ok, Err, refl, sym, ap, ◌∙◌, subst, ⊎_elim, arith, length-append, length-drop, append-nil, ltb}
+use Rattle.std.proofs.Common.{◌≡◌, ℕ, ◌+◌, ◌-◌, ◌<◌, ◌≤◌, Bool, true, false, List, ◌++◌, length, take, drop, min, Some, Result, Ok, Err, refl, sym, ap, ◌∙◌, ⊎_elim, arith, length-append, length-drop, append-nil, ltb}
 use Rattle.std.specs.Prelude.{if◌then◌else◌, nat_lt, nat_le, ◌&&◌, ◌||◌}
 use Rattle.std.proofs.lemmas.Bool.{and_parts, and_cases, leb-true, leb-false, ltb-false, cond_both}
-use Rattle.std.proofs.lemmas.List.{length-take, length-take-le, take-append-drop, take_at, nil_from_length}
+use Rattle.std.proofs.lemmas.List.{length-take-le, take-append-drop, take_at, nil_from_length}
 use Rattle.rt_base.specs.declared.failed.Failed.{Failed}
-use Rattle.rt_base.specs.FaultPlan.{fails_now, after_call, faults_of}
+use Rattle.rt_base.specs.FaultPlan.{fails_now, after_call}
 use Rattle.rt_base.specs.Source.{Reads, Came, FailsToRead, Rises, one_more}
-use Rattle.rt_base.specs.Sink.{Writes, Took, FailsToWrite}
+use Rattle.rt_base.specs.Sink.{Writes}
 use Rattle.rt_base.specs.MemorySink.{SinkTold, sink_meaning, fitting, is_full_for, write_answer, after_write}
 use Rattle.rt_base.specs.MemorySource.{SourceTold, source_meaning, given, read_answer, after_read, filled}
 use Rattle.rt_base.proofs.Faults.{faults_grow, faults_rise}
