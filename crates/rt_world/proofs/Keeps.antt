@@ -1,0 +1,205 @@
+-- Each event keeps a world safe, and its answer is right.
+use Rattle.std.proofs.Common.{◌≡◌, ◌≢◌, ◌+◌, ◌-◌, ◌<◌, ◌≤◌, ◌==◌, ℕ, Bool, true, false, if◌then◌else◌, List, [], ◌∷◌, ◌++◌, length, take, drop, min, slice_set, get_or, pos, All, Ok, Err, refl, sym, ◌∙◌, ap, subst, arith}
+use Rattle.std.proofs.lemmas.Bool.{eqb-true, eqb-false}
+use Rattle.std.proofs.lemmas.List.{length-append, length-take, length-take-le, length-drop, length-set, take-append-le, drop-append-le, drop-drop, get_or-set_same, get_or-set_other, append_assoc}
+use Rattle.std.proofs.lemmas.List.{append-nil}
+use Rattle.std.proofs.lemmas.List.Elements.{All-nil, All-cons}
+use Rattle.std.proofs.Math.Seq.{take-add}
+use Rattle.rt_base.specs.declared.numbers.Instance.{Instance}
+use Rattle.rt_base.specs.declared.numbers.Partition.{Partition}
+use Rattle.rt_base.specs.declared.numbers.Sequence.{Sequence}
+use Rattle.rt_base.specs.declared.range.Range.{Range}
+use Rattle.rt_model.specs.declared.answer.Answer.{Answer}
+use Rattle.rt_model.specs.declared.answer.Cell.TheVariants.{Whole}
+use Rattle.rt_model.specs.declared.setup.Setup.{Setup}
+use Rattle.rt_world.specs.declared.event.Event.{Event}
+use Rattle.rt_world.specs.declared.event.Event.TheVariants.{Produce, Consume, Query}
+use Rattle.rt_world.specs.declared.outcome.Outcome.{Outcome}
+use Rattle.rt_world.specs.declared.replica.Replica.{Replica}
+use Rattle.rt_world.specs.declared.state.State.{State}
+use Rattle.rt_world.specs.Due.{Due, due_of, produce_due, consume_due, events_limit}
+use Rattle.rt_world.specs.Held.{IsHeld, messages_of, messages_between, placed_from}
+use Rattle.rt_world.specs.RightAnswer.{IsRightCount, IsRightOutcome, IsNamed, AreApart, rows_of}
+use Rattle.rt_world.specs.Safe.{IsSafe}
+use Rattle.rt_world.specs.Step.{start, after, produced, consumed, took, batch, count_of, ranges_of}
+use Rattle.rt_world.proofs.Places.{placed_append, length_placed_from, limited_took}
+use Rattle.rt_world.proofs.Tests.{produce_within, consume_within, room_true}
+
+-- the messages of two ranges that meet
+pub between_append :
+    (ms : List (List ℕ)) (a b c : ℕ) → a ≤ b → b ≤ c →
+    messages_between ms a c ≡ messages_between ms a b ++ messages_between ms b c
+between_append ms a b c h k =
+    ap (λ n. take n (drop a ms)) (omega (arith, h, k))
+    ∙ take-add (b - a) (c - b) (drop a ms)
+    ∙ ap (λ rest. take (b - a) (drop a ms) ++ take (c - b) rest)
+    (drop-drop (b - a) a ms ∙ ap (λ n. drop n ms) (omega (arith, h)))
+
+pub length_between :
+    (ms : List (List ℕ)) (a b : ℕ) → a ≤ b → b ≤ length ms → length (messages_between ms a b) ≡ b - a
+length_between ms a b h k =
+    length-take-le (b - a) (drop a ms) (omega (arith, h, k, length-drop a ms))
+
+-- what is held stays held as the log grows
+pub held_grows : (ms more : List (List ℕ)) (r : Replica) → IsHeld ms r → IsHeld (ms ++ more) r
+held_grows ms more r k =
+    record {
+      ordered = k.ordered;
+      within = omega (arith, k.within, length-append ms more);
+      rows =
+          k.rows
+          ∙ ap (placed_from r.start.0)
+          (sym
+          (ap (take (r.cur.0 - r.start.0)) (drop-append-le r.start.0 ms more (omega (arith, k.ordered, k.within)))
+          ∙ take-append-le (r.cur.0 - r.start.0) (drop r.start.0 ms) more
+          (omega (arith, k.ordered, k.within, length-drop r.start.0 ms))));
+    }
+
+pub length_held : (ms : List (List ℕ)) (r : Replica) → IsHeld ms r → length r.held ≡ r.cur.0 - r.start.0
+length_held ms r k =
+    ap length k.rows
+    ∙ length_placed_from r.start.0 (messages_between ms r.start.0 r.cur.0)
+    ∙ length_between ms r.start.0 r.cur.0 k.ordered k.within
+
+pub lt_from_ne : (a b : ℕ) → a ≤ b → (a ≡ b → ⊥) → a < b
+lt_from_ne a b h n = omega (arith, h, n)
+
+-- a batch adds the messages from `cur` on
+pub held_took :
+    (limit max : ℕ) (ms : List (List ℕ)) (r : Replica) →
+    IsHeld ms r → IsHeld ms (took limit (batch limit max r ms) r ms)
+held_took limit max ms r k =
+    let count = batch limit max r ms in
+    let cur = r.cur.0 in
+    let begin = r.start.0 in
+    let old = messages_between ms begin cur in
+    let fits : cur + count ≤ length ms = omega (arith, k.within) in
+    record {
+      ordered = omega (arith, k.ordered);
+      within = fits;
+      rows =
+          ap (λ held. held ++ placed_from cur (messages_between ms cur (cur + count))) k.rows
+          ∙ ap (λ n. placed_from begin old ++ placed_from n (messages_between ms cur (cur + count)))
+          (omega (arith, k.ordered, length_between ms begin cur k.ordered k.within))
+          ∙ sym (placed_append begin old (messages_between ms cur (cur + count)))
+          ∙ ap (placed_from begin) (sym (between_append ms begin cur (cur + count) k.ordered (omega arith)));
+    }
+
+-- the messages of a partition after one came to some partition
+abbrev pub log_with : List (List (List ℕ)) → Partition → List ℕ → List (List (List ℕ))
+log_with log p m = slice_set log p.0 (messages_of log p ++ m ∷ [])
+
+pub held_produced_at :
+    (log : List (List (List ℕ))) (p q : Partition) (m : List ℕ) (r : Replica) (b : Bool) →
+    p.0 < length log → (q.0 == p.0) ≡ b → IsHeld (messages_of log q) r → IsHeld (messages_of (log_with log p m) q) r
+held_produced_at log p q m r true h e k =
+    let same : q.0 ≡ p.0 = eqb-true q.0 p.0 e in
+    let here : messages_of (log_with log p m) q ≡ messages_of log q ++ m ∷ [] =
+    ap (λ n. get_or (log_with log p m) n []) same
+    ∙ get_or-set_same log p.0 (messages_of log p ++ m ∷ []) [] h
+    ∙ ap (λ n. get_or log n [] ++ m ∷ []) (sym same) in
+    subst (λ ms. IsHeld ms r) (sym here) (held_grows (messages_of log q) (m ∷ []) r k)
+held_produced_at log p q m r false h e k =
+    subst (λ ms. IsHeld ms r)
+    (sym (get_or-set_other log p.0 q.0 (messages_of log p ++ m ∷ []) [] (eqb-false q.0 p.0 e)))
+    k
+
+-- a message more
+pub Safe_produced :
+    (w : State) (p : Partition) (m : List ℕ) →
+    IsSafe w → produce_due w p m ≡ Ok tt → IsSafe (produced w p m).0
+Safe_produced w p m s due =
+    let within = produce_within w p m due in
+    record {
+      logged = omega (arith, s.logged, length-set w.log p.0 (messages_of w.log p ++ m ∷ []));
+      held = held_produced_at w.log p w.replica.partition m w.replica (w.replica.partition.0 == p.0) within.0 refl s.held;
+      limited = s.limited;
+      counted = within.1;
+    }
+
+-- a batch more
+pub Safe_consumed :
+    (w : State) (i : Instance) (p : Partition) (q : Sequence) (max : ℕ) →
+    IsSafe w → consume_due w i p q max ≡ Ok tt → IsSafe (consumed w p max).0
+Safe_consumed w i p q max s due =
+    let within = consume_within w i p q max due in
+    let same : messages_of w.log w.replica.partition ≡ messages_of w.log p =
+    ap (λ n. get_or w.log n []) within.1 in
+    let held : IsHeld (messages_of w.log p) w.replica = subst (λ ms. IsHeld ms w.replica) same s.held in
+    let limit = w.setup.table.rows in
+    record {
+      logged = s.logged;
+      held =
+          subst (λ ms. IsHeld ms (took limit (batch limit max w.replica (messages_of w.log p)) w.replica (messages_of w.log p)))
+          (sym same)
+          (held_took limit max (messages_of w.log p) w.replica held);
+      limited = limited_took limit max w.replica (messages_of w.log p) s.limited;
+      counted = within.2;
+    }
+
+pub Safe_after : (w : State) (event : Event) → IsSafe w → due_of w event ≡ Ok tt → IsSafe (after w event).0
+Safe_after w (Produce p m) s due = Safe_produced w p m s due
+Safe_after w (Consume i p q max) s due = Safe_consumed w i p q max s due
+Safe_after w Query s due =
+    record { logged = s.logged; held = s.held; limited = s.limited; counted = room_true 4 w due }
+
+-- the count of a replica counts the rows of the range that it names
+abbrev pub counted_as : List (Partition × Range) → ℕ → Answer
+counted_as ranges n =
+    record { ranges = ranges; missing = []; rows = record { cells = Whole (pos n) ∷ [] } ∷ [] }
+
+pub right_none : (log : List (List (List ℕ))) (n : ℕ) → n ≡ 0 → IsRightCount log (counted_as [] n)
+right_none log n e =
+    record {
+      named = All-nil (IsNamed log);
+      apart = tt;
+      missing = refl;
+      rows = ap (λ k. record { cells = Whole (pos k) ∷ [] } ∷ []) e;
+    }
+
+pub right_one :
+    (log : List (List (List ℕ))) (r : Partition × Range) (n : ℕ) →
+    IsNamed log r → n ≡ r.1.end.0 - r.1.start.0 → IsRightCount log (counted_as (r ∷ []) n)
+right_one log r n named e =
+    let rows = messages_between (messages_of log r.0) r.1.start.0 r.1.end.0 in
+    let size = length_between (messages_of log r.0) r.1.start.0 r.1.end.0 (omega (arith, named.1)) named.2 in
+    record {
+      named = All-cons (IsNamed log) r [] named (All-nil (IsNamed log));
+      apart = (tt, tt);
+      missing = refl;
+      rows =
+          ap (λ k. record { cells = Whole (pos k) ∷ [] } ∷ [])
+          (e ∙ sym size ∙ ap length (sym (append-nil rows)));
+    }
+
+pub right_count_at :
+    (log : List (List (List ℕ))) (r : Replica) (b : Bool) →
+    (r.start.0 == r.cur.0) ≡ b → r.partition.0 < length log → IsHeld (messages_of log r.partition) r →
+    IsRightCount log (counted_as (if b then [] else (r.partition, record { start = r.start; end = r.cur }) ∷ []) (length r.held))
+right_count_at log r true e h k =
+    right_none log (length r.held)
+    (omega (arith, eqb-true r.start.0 r.cur.0 e, length_held (messages_of log r.partition) r k))
+right_count_at log r false e h k =
+    right_one log (r.partition, record { start = r.start; end = r.cur }) (length r.held)
+    (h, lt_from_ne r.start.0 r.cur.0 k.ordered (eqb-false r.start.0 r.cur.0 e), k.within)
+    (length_held (messages_of log r.partition) r k)
+
+pub right_count :
+    (w : State) → IsSafe w → IsRightCount w.log (count_of w.replica)
+right_count w s = right_count_at w.log w.replica (w.replica.start.0 == w.replica.cur.0) refl s.logged s.held
+
+pub right_after :
+    (w : State) (event : Event) → IsSafe w → IsRightOutcome (after w event).0 (after w event).1
+right_after w (Produce p m) s = tt
+right_after w (Consume i p q max) s = tt
+right_after w Query s = right_count w s
+
+-- the first world is safe
+pub Safe_start : (setup : Setup) → IsSafe (start setup)
+Safe_start setup =
+    record {
+      logged = omega arith;
+      held = record { ordered = omega arith; within = omega arith; rows = refl };
+      limited = omega arith;
+      counted = omega arith;
+    }

@@ -1,0 +1,34 @@
+-- What is true of every world.
+use Rattle.std.specs.Prelude.{◌≡◌, ◌<◌, ◌≤◌, ℕ, Bool, true, false, List, length, Ok, Err}
+use Rattle.rt_model.specs.declared.setup.Setup.{Setup}
+use Rattle.rt_model.specs.declared.replica_state.ReplicaState.{ReplicaState}
+use Rattle.rt_world.specs.declared.state.State.{State}
+use Rattle.rt_world.specs.Held.{IsHeld, messages_of}
+use Rattle.rt_world.specs.Kept.{Kept}
+use Rattle.rt_world.specs.Due.{events_limit}
+use Rattle.rt_world.specs.Step.{Given}
+
+-- a cluster of one server, one controller and one partition
+pub record IsSetup (setup : Setup) : Type 0 where
+  pub servers : setup.servers ≡ 1
+  pub controllers : setup.controllers ≡ 1
+  pub partitions : setup.partitions ≡ 1
+  pub replication : setup.table.replication ≡ 1
+  pub rows : 0 < setup.table.rows
+
+pub record IsSafe (w : State) : Type 0 where
+  -- the replica's partition is in the log
+  pub logged : w.replica.partition.0 < length w.log
+  -- what the replica holds is the stream's, from its start up to `cur`
+  pub held : IsHeld (messages_of w.log w.replica.partition) w.replica
+  -- it consumes up to the row limit, and no further
+  pub limited : length w.replica.held ≤ w.setup.table.rows
+  pub counted : w.events ≤ events_limit
+
+abbrev pub IsSafeAfter : Given → Type 0
+IsSafeAfter (Ok x) = IsSafe x.0
+IsSafeAfter (Err refusal) = Unit {0}
+
+-- a world is safe as long as memory has not run out
+abbrev pub IsSafeKept : Kept → Type 0
+IsSafeKept w = w.spent ≡ false → IsSafe w.state

@@ -1,0 +1,148 @@
+-- What each event makes of a world, and what comes of it.
+use Rattle.std.specs.Prelude.{
+  ◌≡◌,
+  ◌+◌,
+  ◌-◌,
+  ℕ,
+  Bool,
+  true,
+  false,
+  if◌then◌else◌,
+  ◌==◌,
+  nat_le,
+  min,
+  List,
+  [],
+  ◌∷◌,
+  ◌++◌,
+  length,
+  slice_set,
+  Result,
+  Ok,
+  Err,
+  pos,
+}
+use Rattle.rt_base.specs.declared.numbers.Partition.{Partition}
+use Rattle.rt_base.specs.declared.range.Range.{Range}
+use Rattle.rt_model.specs.declared.answer.Answer.{Answer}
+use Rattle.rt_model.specs.declared.answer.Cell.TheVariants.{Whole}
+use Rattle.rt_model.specs.declared.replica_state.ReplicaState.{ReplicaState}
+use Rattle.rt_model.specs.declared.replica_state.ReplicaState.TheVariants.{InitialConsuming, Holding}
+use Rattle.rt_model.specs.declared.setup.Setup.{Setup}
+use Rattle.rt_world.specs.declared.event.Event.{Event}
+use Rattle.rt_world.specs.declared.event.Event.TheVariants.{Produce, Consume, Query}
+use Rattle.rt_world.specs.declared.outcome.Outcome.{Outcome}
+use Rattle.rt_world.specs.declared.outcome.Outcome.TheVariants.{Produced, Consumed, Answered}
+use Rattle.rt_world.specs.declared.refusal.Refusal.{Refusal}
+use Rattle.rt_world.specs.declared.refusal.Refusal.TheVariants.{NoSuchMessage, NoSuchNode, NodeDown, NothingToDo, Limit, Memory}
+use Rattle.rt_world.specs.declared.replica.Replica.{Replica}
+use Rattle.rt_world.specs.declared.state.State.{State}
+use Rattle.rt_world.specs.Due.{Due, due_of}
+use Rattle.rt_world.specs.Held.{messages_of, messages_between, placed_from}
+use Rattle.rt_world.specs.Kept.{Kept}
+
+-- the first world of a setup
+abbrev pub first_replica : Replica
+first_replica =
+    record {
+      instance = record { 0 = 0 };
+      partition = record { 0 = 0 };
+      sequence = record { 0 = 0 };
+      start = record { 0 = 0 };
+      cur = record { 0 = 0 };
+      state = InitialConsuming;
+      held = [];
+    }
+
+abbrev pub start : Setup → State
+start setup = record { setup = setup; log = [] ∷ []; replica = first_replica; events = 0 }
+
+-- a message comes to the end of its partition
+abbrev pub produced : State → Partition → List ℕ → State × Outcome
+produced w partition message =
+    let messages = messages_of w.log partition in (
+      record w { log = slice_set w.log partition.0 (messages ++ message ∷ []); events = w.events + 1 },
+      Produced (record { 0 = length messages }),
+    )
+
+-- how many messages a batch takes: as many as were asked for, as there are, and as the row limit lets
+abbrev pub batch : ℕ → ℕ → Replica → List (List ℕ) → ℕ
+batch limit max r messages = min max (min (length messages - r.cur.0) (limit - length r.held))
+
+-- a replica holds where it has as many rows as the limit
+abbrev pub state_at : ℕ → ℕ → ReplicaState
+state_at limit rows = if nat_le limit rows then Holding else InitialConsuming
+
+-- a replica after it took so many messages
+abbrev pub took : ℕ → ℕ → Replica → List (List ℕ) → Replica
+took limit count r messages =
+    record r {
+      cur = record { 0 = r.cur.0 + count };
+      held = r.held ++ placed_from r.cur.0 (messages_between messages r.cur.0 (r.cur.0 + count));
+      state = state_at limit (length r.held + count);
+    }
+
+abbrev pub consumed_by : State → Replica → State × Outcome
+consumed_by w r =
+    (record w { replica = r; events = w.events + 1 }, Consumed r.cur (length r.held) r.state)
+
+abbrev pub consumed : State → Partition → ℕ → State × Outcome
+consumed w partition max =
+    let messages = messages_of w.log partition in
+    let limit = w.setup.table.rows in
+    consumed_by w (took limit (batch limit max w.replica messages) w.replica messages)
+
+-- the range of the messages that a replica holds, where it holds one
+abbrev pub ranges_of : Replica → List (Partition × Range)
+ranges_of r =
+    if r.start.0 == r.cur.0 then [] else (r.partition, record { start = r.start; end = r.cur }) ∷ []
+
+-- the count of the rows that a replica holds
+abbrev pub count_of : Replica → Answer
+count_of r =
+    record {
+      ranges = ranges_of r;
+      missing = [];
+      rows = record { cells = Whole (pos (length r.held)) ∷ [] } ∷ [];
+    }
+
+abbrev pub counted : State → State × Outcome
+counted w = (record w { events = w.events + 4 }, Answered (count_of w.replica))
+
+-- the world after an event that is due, and what comes of it
+abbrev pub after : State → Event → State × Outcome
+after w (Produce partition message) = produced w partition message
+after w (Consume instance partition sequence max) = consumed w partition max
+after w Query = counted w
+
+-- the world after an event and what came of it, or why it did not happen
+abbrev pub Given : Type 0
+Given = Result (State × Outcome) Refusal
+
+abbrev pub given_by : Due → State × Outcome → Given
+given_by (Ok u) x = Ok x
+given_by (Err refusal) x = Err refusal
+
+abbrev pub step : State → Event → Given
+step w event = given_by (due_of w event) (after w event)
+
+-- a refused event changes nothing, and want of memory is free
+abbrev pub Applies : State → Given → State → Result Outcome Refusal → Type 0
+Applies old given new (Ok outcome) = given ≡ Ok (new, outcome)
+Applies old given new (Err Memory) = Unit {0}
+Applies old given new (Err NoSuchMessage) = (given ≡ Err NoSuchMessage) × (new ≡ old)
+Applies old given new (Err NoSuchNode) = (given ≡ Err NoSuchNode) × (new ≡ old)
+Applies old given new (Err NodeDown) = (given ≡ Err NodeDown) × (new ≡ old)
+Applies old given new (Err NothingToDo) = (given ≡ Err NothingToDo) × (new ≡ old)
+Applies old given new (Err (Limit which)) = (given ≡ Err (Limit which)) × (new ≡ old)
+
+-- a world at which memory ran out is spent, and answers nothing else any more
+abbrev pub Steps : Kept → Event → Kept → Result Outcome Refusal → Type 0
+Steps old event new (Ok outcome) =
+    (old.spent ≡ false) × (new.spent ≡ false) × (step old.state event ≡ Ok (new.state, outcome))
+Steps old event new (Err Memory) = new.spent ≡ true
+Steps old event new (Err NoSuchMessage) = (old.spent ≡ false) × (step old.state event ≡ Err NoSuchMessage) × (new ≡ old)
+Steps old event new (Err NoSuchNode) = (old.spent ≡ false) × (step old.state event ≡ Err NoSuchNode) × (new ≡ old)
+Steps old event new (Err NodeDown) = (old.spent ≡ false) × (step old.state event ≡ Err NodeDown) × (new ≡ old)
+Steps old event new (Err NothingToDo) = (old.spent ≡ false) × (step old.state event ≡ Err NothingToDo) × (new ≡ old)
+Steps old event new (Err (Limit which)) = (old.spent ≡ false) × (step old.state event ≡ Err (Limit which)) × (new ≡ old)

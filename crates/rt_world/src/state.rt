@@ -1,0 +1,184 @@
+ghost use Rattle.std.specs.Prelude.{◌≡◌, ◌+◌, ◌≤◌, ◌<◌, IfOk, length};
+ghost use Rattle.rt_world.specs.Due.{due_of, produce_due, consume_due, room_for, events_limit};
+ghost use Rattle.rt_world.specs.Held.{messages_of};
+ghost use Rattle.rt_world.specs.Safe.{IsSafe};
+ghost use Rattle.rt_world.specs.Step.{after, start, produced, consumed, counted};
+
+use crate::{Event, Outcome, Refusal, Replica};
+use rt_base::{Instance, Offset, Partition, Sequence, Which};
+use rt_lists::{Bytes, Items};
+use rt_model::Setup;
+use std::alloc::{AllocError, Global};
+
+/// The most events of a run.
+const EVENTS_LIMIT: u64 = 4_000_000;
+
+/// The most bytes of a message.
+const MESSAGE_LIMIT: usize = 65_536;
+
+/// The events that a query stands for: it is asked, routed, read and answered.
+const QUERY_EVENTS: u64 = 4;
+
+/// Everything that there is in a cluster.
+#[derive(Drop)]
+pub struct State {
+    pub setup: Setup,
+    /// The stream: for each partition, its messages.
+    pub log: Items<Items<Bytes>>,
+    /// The one consumer.
+    pub replica: Replica,
+    /// The number of events so far.
+    pub events: u64,
+}
+
+impl State {
+    /// The first state of a cluster.
+    pub fn start(alloc: Global, setup: Setup) -> Result<State, AllocError>
+        ensures { IfOk result (λ w. w ≡ start setup) }
+    {
+        let mut log = Items::new(alloc);
+        log.push(Items::new(alloc))?;
+        Ok(State {
+            setup,
+            log,
+            replica: Replica::first(alloc),
+            events: 0,
+        })
+    }
+
+    /// Why an event can't happen now, if it can't.
+    pub fn due(&self, event: &Event) -> Result<(), Refusal>
+        requires { self.now.events ≤ events_limit }
+        ensures { result ≡ due_of self.now event.now }
+    {
+        match event {
+            Event::Produce { partition, message } => self.produce_due(*partition, message),
+            Event::Consume {
+                instance,
+                partition,
+                sequence,
+                max,
+            } => { self.consume_due(*instance, *partition, *sequence, *max) }
+            Event::Query => self.room_for(QUERY_EVENTS),
+        }
+    }
+
+    fn room_for(&self, count: u64) -> Result<(), Refusal>
+        requires few { count ≤ 4 }
+        requires counted { self.now.events ≤ events_limit }
+        ensures { result ≡ room_for count self.now }
+    {
+        if self.events + count <= EVENTS_LIMIT {
+            Ok(())
+        } else {
+            Err(Refusal::Limit(Which::Events))
+        }
+    }
+
+    fn produce_due(&self, partition: Partition, message: &Bytes) -> Result<(), Refusal>
+        requires { self.now.events ≤ events_limit }
+        ensures { result ≡ produce_due self.now partition message.now }
+    {
+        if partition.0 as usize >= self.log.len() {
+            return Err(Refusal::NoSuchNode);
+        }
+        if message.len() > MESSAGE_LIMIT {
+            return Err(Refusal::Limit(Which::Message));
+        }
+        self.room_for(1)
+    }
+
+    fn consume_due(
+        &self,
+        instance: Instance,
+        partition: Partition,
+        sequence: Sequence,
+        max: u32,
+    ) -> Result<(), Refusal>
+        requires { self.now.events ≤ events_limit }
+        ensures { result ≡ consume_due self.now instance partition sequence max }
+    {
+        if instance.0 >= self.setup.servers || partition.0 as usize >= self.log.len() {
+            return Err(Refusal::NoSuchNode);
+        }
+        let due = self.replica.is_of(instance, partition, sequence)
+            && self.replica.is_consuming()
+            && max > 0;
+        if !due {
+            return Err(Refusal::NothingToDo);
+        }
+        self.room_for(1)
+    }
+
+    /// Has an event happen that is due, and says what comes of it.
+    #[tactic(auto, using(crate::proofs::Tests::produce_within, crate::proofs::Tests::consume_room, crate::proofs::Tests::room_true))]
+    pub fn happen(&mut self, alloc: Global, event: &Event) -> Result<Outcome, AllocError>
+        requires safe { IsSafe self.old }
+        requires due { due_of self.old event.now ≡ Ok tt }
+        ensures { IfOk result (λ outcome. (self.new, outcome) ≡ after self.old event.now) }
+    {
+        match event {
+            Event::Produce { partition, message } => self.produce(alloc, *partition, message),
+            Event::Consume {
+                instance: _,
+                partition,
+                sequence: _,
+                max,
+            } => self.consume(alloc, *partition, *max),
+            Event::Query => self.query(alloc),
+        }
+    }
+
+    /// Appends a message to a partition.
+    fn produce(
+        &mut self,
+        alloc: Global,
+        partition: Partition,
+        message: &Bytes,
+    ) -> Result<Outcome, AllocError>
+        requires partition { partition.0 < length self.old.log }
+        requires counted { self.old.events ≤ events_limit }
+        ensures { IfOk result (λ outcome. (self.new, outcome) ≡ produced self.old partition message.now) }
+    {
+        let copy = message.copy(alloc)?;
+        let messages = self.log.at_mut(partition.0 as usize);
+        let offset = messages.len() as u64;
+        messages.push(copy)?;
+        self.events += 1;
+        Ok(Outcome::Produced(Offset(offset)))
+    }
+
+    /// Has the replica take a batch of messages.
+    fn consume(
+        &mut self,
+        alloc: Global,
+        partition: Partition,
+        max: u32,
+    ) -> Result<Outcome, AllocError>
+        requires partition { partition.0 < length self.old.log }
+        requires counted { self.old.events ≤ events_limit }
+        requires within { self.old.replica.cur.0 ≤ length (messages_of self.old.log partition) }
+        requires limited { length self.old.replica.held ≤ self.old.setup.table.rows }
+        ensures { IfOk result (λ outcome. (self.new, outcome) ≡ consumed self.old partition max) }
+    {
+        let messages = &self.log.as_slice()[partition.0 as usize];
+        self.replica
+            .take(alloc, self.setup.table.rows, max, messages.as_slice())?;
+        self.events += 1;
+        Ok(Outcome::Consumed {
+            cur: self.replica.cur,
+            rows: self.replica.held.len() as u32,
+            state: self.replica.state,
+        })
+    }
+
+    /// Counts the rows of the table.
+    fn query(&mut self, alloc: Global) -> Result<Outcome, AllocError>
+        requires { self.old.events ≤ events_limit }
+        ensures { IfOk result (λ outcome. (self.new, outcome) ≡ counted self.old) }
+    {
+        let answer = self.replica.count(alloc)?;
+        self.events += QUERY_EVENTS;
+        Ok(Outcome::Answered(answer))
+    }
+}
