@@ -8,6 +8,8 @@
 mod bytes;
 mod copied;
 mod items;
+#[cfg(test)]
+mod tests;
 mod text;
 
 pub use bytes::Bytes;
