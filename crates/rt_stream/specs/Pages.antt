@@ -1,0 +1,16 @@
+use Rattle.std.specs.Prelude.{◌≡◌, ℕ, ◌+◌, ◌-◌, ◌≤◌, List, [], ◌∷◌, length, take, drop}
+
+-- the messages of a page, one behind the other in its bytes, each up to the place of its end
+abbrev pub cut : ℕ → List ℕ → List ℕ → List (List ℕ)
+cut start [] bytes = []
+cut start (end ∷ ends) bytes = take (end - start) (drop start bytes) ∷ cut end ends bytes
+
+-- the ends of messages, none of which is too long, the last of them at the end of the bytes
+abbrev pub AreEnds : ℕ → List ℕ → ℕ → Type 0
+AreEnds start [] size = start ≡ size
+AreEnds start (end ∷ ends) size = (start ≤ end) × (end ≤ start + 65536) × AreEnds end ends size
+
+-- pages of 256 messages each
+abbrev pub AreFull : List (List (List ℕ)) → Type 0
+AreFull [] = Unit {0}
+AreFull (page ∷ pages) = (length page ≡ 256) × AreFull pages

@@ -1,0 +1,15 @@
+//! The stream: for each partition a log of messages, which only grows.
+#![tactic(auto)]
+
+mod feed;
+mod message;
+mod page;
+mod partition_log;
+mod stream_log;
+
+pub use feed::{Feed, FeedRefused};
+pub use message::{MESSAGE_LIMIT, Message};
+pub use stream_log::StreamLog;
+
+#[cfg(test)]
+mod tests;

@@ -1,0 +1,106 @@
+ghost use Rattle.std.specs.Prelude.{◌≡◌, ◌≤◌, ◌↔◌, [], length, IfOk, IsTrue};
+
+use rt_lists::{Bytes, Copied};
+use std::alloc::{AllocError, Global};
+use std::marker::Model;
+
+/// The greatest number of bytes of a message.
+pub const MESSAGE_LIMIT: usize = 65_536;
+
+/// A message of the stream: at most `MESSAGE_LIMIT` bytes; contracts see it as the list of them.
+#[derive(Drop)]
+pub struct Message {
+    bytes: Bytes,
+}
+
+impl Model for Message {
+    ghost use Rattle.std.specs.Prelude.{List, ℕ, length, ◌≤◌};
+
+    ghost Value = { List ℕ };
+
+    ghost view = { λ m. m.bytes };
+
+    ghost invariant = { λ m. length m.bytes ≤ 65536 };
+}
+
+impl Message {
+    /// The message of these bytes.
+    pub fn of(bytes: Bytes) -> Message
+        requires { length bytes ≤ MESSAGE_LIMIT }
+        ensures { result ≡ bytes }
+    {
+        Message { bytes }
+    }
+
+    /// The message of a copy of these bytes.
+    pub fn copied_from(alloc: Global, bytes: &[u8]) -> Result<Message, AllocError>
+        requires { length bytes.now ≤ MESSAGE_LIMIT }
+        ensures { IfOk result (λ message. message ≡ bytes.now) }
+    {
+        let bytes = Bytes::copied_from(alloc, bytes)?;
+        Ok(Message { bytes })
+    }
+
+    /// The message's bytes.
+    pub fn as_slice(&self) -> &[u8]
+        ensures bytes { result.now ≡ self.now }
+        ensures short { length self.now ≤ MESSAGE_LIMIT }
+    {
+        self.bytes.as_slice()
+    }
+
+    /// The number of bytes.
+    pub fn len(&self) -> usize
+        ensures { result ≡ length self.now }
+    {
+        self.bytes.len()
+    }
+
+    /// Whether there is no byte.
+    pub fn is_empty(&self) -> bool
+        ensures { IsTrue result ↔ (self.now ≡ []) }
+    {
+        self.bytes.is_empty()
+    }
+
+    /// The bytes of the message, given back.
+    pub fn into_bytes(self) -> Bytes
+        ensures { result ≡ self }
+    {
+        self.bytes
+    }
+
+    /// An equal message, in memory of its own.
+    pub fn copy(&self, alloc: Global) -> Result<Message, AllocError>
+        ensures { IfOk result (λ copy. copy ≡ self.now) }
+    {
+        Message::copied_from(alloc, self.as_slice())
+    }
+}
+
+impl PartialEq for Message {
+    ghost use Rattle.std.proofs.Common.{rules};
+    ghost use Rattle.std.specs.Cmp.Rules.{comparing};
+    ghost use Rattle.std.specs.Str.{bytes_eq};
+
+    ghost eq = { bytes_eq };
+
+    ghost laws = { Prim.search (comparing, rules) };
+
+    fn eq(&self, other: &Message) -> bool {
+        self.bytes == other.bytes
+    }
+}
+
+impl Eq for Message {
+    ghost use Rattle.std.proofs.Common.{rules};
+    ghost use Rattle.std.specs.Cmp.Rules.{comparing};
+
+    ghost laws = { Prim.search (comparing, rules) };
+}
+
+impl Copied for Message {
+    fn copied(&self, alloc: Global) -> Result<Message, AllocError> {
+        self.copy(alloc)
+    }
+}

@@ -1,0 +1,110 @@
+ghost use Rattle.std.specs.Prelude.{◌≡◌, ◌≤◌, ◌<◌, [], ◌∷◌, ◌++◌, length, slice_get, take, drop, IfOk, IfSome, IfNone, OnOk, OnErr};
+
+use crate::page::Page;
+use crate::{MESSAGE_LIMIT, Message};
+use rt_lists::Items;
+use std::alloc::{AllocError, Global};
+use std::marker::Model;
+use std::mem;
+
+/// The messages of a page.
+const PAGE: usize = 256;
+
+/// The greatest number of full pages: no memory holds as many.
+const MOST_PAGES: usize = 1 << 54;
+
+/// The messages of one partition, in pages of which only the last has room.
+#[derive(Drop)]
+pub(crate) struct PartitionLog {
+    full: Vec<Page>,
+    last: Page,
+}
+
+impl Model for PartitionLog {
+    ghost use Rattle.std.specs.Prelude.{List, ℕ, vec_len, length, ◌++◌, ◌≤◌};
+    ghost use Rattle.std.specs.List.{flat_map};
+    ghost use Rattle.rt_stream.specs.Pages.{AreFull};
+
+    ghost Value = { List (List ℕ) };
+
+    ghost view = { λ p. flat_map (λ page. page) p.full.items ++ p.last };
+
+    ghost invariant = { λ p. AreFull p.full.items × (length p.last ≤ 256) × (vec_len p.full ≤ 18014398509481984) };
+}
+
+impl PartitionLog {
+    pub(crate) fn new(alloc: Global) -> PartitionLog
+        ensures { result ≡ [] }
+    {
+        PartitionLog {
+            full: Vec::new(alloc),
+            last: Page::new(alloc),
+        }
+    }
+
+    /// The number of messages.
+    pub(crate) fn len(&self) -> u64
+        ensures { result ≡ length self.now }
+    {
+        (self.full.len() * PAGE + self.last.len()) as u64
+    }
+
+    /// Adds a message. Where memory runs out, the log is as before.
+    pub(crate) fn push(&mut self, alloc: Global, message: &[u8]) -> Result<(), AllocError>
+        requires { length message.now ≤ MESSAGE_LIMIT }
+        ensures ok { OnOk result (self.new ≡ self.old ++ message.now ∷ []) }
+        ensures err { OnErr result (self.new ≡ self.old) }
+    {
+        if self.last.len() < PAGE {
+            return self.last.push(message);
+        }
+        if self.full.len() >= MOST_PAGES {
+            return Err(AllocError);
+        }
+        let mut page = Page::new(alloc);
+        page.push(message)?;
+        self.full.reserve(1)?;
+        let full = mem::replace(&mut self.last, page);
+        self.full.push_reserved(full);
+        Ok(())
+    }
+
+    /// The message at an offset.
+    pub(crate) fn get(&self, offset: u64) -> &[u8]
+        requires { offset < length self.now }
+        ensures message { slice_get self.now offset ≡ Some result.now }
+        ensures short { length result.now ≤ MESSAGE_LIMIT }
+    {
+        let place = (offset % PAGE as u64) as usize;
+        match page_at(&self.full, (offset / PAGE as u64) as usize) {
+            Some(page) => page.get(place),
+            None => self.last.get(place),
+        }
+    }
+
+    /// Copies of the messages from an offset on, at most `max` of them.
+    pub(crate) fn copied_from(
+        &self,
+        alloc: Global,
+        from: u64,
+        max: u32,
+    ) -> Result<Items<Message>, AllocError>
+        requires { from ≤ length self.now }
+        ensures { IfOk result (λ messages. messages ≡ take max (drop from self.now)) }
+    {
+        let count = (self.len() - from).min(u64::from(max));
+        let mut messages = Vec::with_capacity(alloc, count as usize)?;
+        for offset in from..from + count {
+            messages.push_reserved(Message::copied_from(alloc, self.get(offset))?);
+        }
+        Ok(Items::of(messages))
+    }
+}
+
+/// A full page, where there is one of this number.
+fn page_at(pages: &[Page], number: usize) -> Option<&Page>
+    ensures some { IfSome result (λ page. slice_get pages.now number ≡ Some page.now) }
+    ensures none { IfNone result (slice_get pages.now number ≡ None) }
+{
+    pages.get(number)
+}
