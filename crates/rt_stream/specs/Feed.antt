@@ -1,4 +1,4 @@
-use Rattle.std.specs.Prelude.{◌≡◌, ℕ, List, ◌++◌, length, Option, Some, None, Result, Ok, Err}
+use Rattle.std.specs.Prelude.{◌≡◌, ℕ, List, ◌++◌, length, Option, Some, None, Result, Ok, Err, IsOk}
 use Rattle.rt_base.specs.declared.numbers.Partition.{Partition}
 use Rattle.rt_base.specs.declared.numbers.Offset.{Offset}
 use Rattle.rt_stream.specs.declared.feed.FeedRefused.{FeedRefused}
@@ -20,9 +20,9 @@ abbrev pub Sees : Option Log → FeedMeaning → Type 0
 Sees None new = new.told ≡ None
 Sees (Some log) new = (new.told ≡ Some log) × (new.seen ≡ log)
 
--- the answer is this one, unless memory ran out
+-- the answer is this one; memory may run out where it is no refusal
 abbrev pub answered : {X : Type 0} → Result X FeedRefused → Result X FeedRefused → Type 0
-answered (Err Memory) wanted = Unit {0}
+answered (Err Memory) wanted = IsOk wanted
 answered (Err NoPartition) wanted = wanted ≡ Err NoPartition
 answered (Err (PastEnd from length)) wanted = wanted ≡ Err (PastEnd from length)
 answered (Ok x) wanted = wanted ≡ Ok x

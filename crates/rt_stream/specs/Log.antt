@@ -1,4 +1,4 @@
-use Rattle.std.specs.Prelude.{◌≡◌, ℕ, ◌<◌, ◌≤◌, List, [], ◌∷◌, ◌++◌, length, take, drop, Option, Some, None, Result, Ok, Err, nat_le, slice_get, slice_set, unwrap_or, if◌then◌else◌}
+use Rattle.std.specs.Prelude.{◌≡◌, ℕ, ◌<◌, List, [], ◌∷◌, ◌++◌, length, take, drop, Option, Some, None, Result, Ok, Err, nat_le, slice_get, slice_set, unwrap_or, if◌then◌else◌}
 use Rattle.rt_base.specs.declared.numbers.Partition.{Partition}
 use Rattle.rt_base.specs.declared.numbers.Offset.{Offset}
 use Rattle.rt_stream.specs.declared.feed.FeedRefused.{FeedRefused}
@@ -41,6 +41,6 @@ with_message log partition message = slice_set log partition.0 (messages_of log 
 abbrev pub Appends : Log → Log → Partition → List ℕ → Result Offset FeedRefused → Type 0
 Appends old new partition message (Ok offset) =
     (measured old partition ≡ Ok offset) × (new ≡ with_message old partition message)
-Appends old new partition message (Err Memory) = new ≡ old
+Appends old new partition message (Err Memory) = (partition.0 < length old) × (new ≡ old)
 Appends old new partition message (Err NoPartition) = (measured old partition ≡ Err NoPartition) × (new ≡ old)
 Appends old new partition message (Err (PastEnd _ _)) = ⊥

@@ -1,4 +1,4 @@
-use Rattle.std.proofs.Common.{◌≡◌, ◌≤◌, ◌+◌, ◌∷◌, ◌++◌, [], length, ap, sym, ◌∙◌, arith, vec_len, length-append}
+use Rattle.std.proofs.Common.{◌≡◌, ◌+◌, length, ap, ◌∙◌, vec_len, length-append}
 use Rattle.rt_stream.proofs.Cuts.{cut-push, AreEnds-push}
 use Rattle.rt_stream.proofs.page.Page.push.Goals as goal
 

@@ -1,4 +1,4 @@
-use Rattle.std.proofs.Common.{◌≡◌, ◌≤◌, ◌+◌, ◌-◌, sym, arith}
+use Rattle.std.proofs.Common.{sym, arith}
 use Rattle.rt_stream.proofs.Places.{slice_more}
 use Rattle.rt_stream.proofs.partition_log.PartitionLog.copied_from.Goals as goal
 

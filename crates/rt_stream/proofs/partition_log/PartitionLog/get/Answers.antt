@@ -1,4 +1,4 @@
-use Rattle.std.proofs.Common.{◌≡◌, ◌<◌, ◌/◌, ◌++◌, ℕ, List, Some, None, slice_get, length, ap, sym, subst, ◌∙◌, arith}
+use Rattle.std.proofs.Common.{◌<◌, ◌/◌, ℕ, List, slice_get, length, ap, sym, subst, ◌∙◌}
 use Rattle.rt_stream.proofs.Places.{full_get, last_get}
 use Rattle.rt_stream.proofs.partition_log.PartitionLog.get.Goals as goal
 
