@@ -1,4 +1,4 @@
-use Rattle.std.specs.Prelude.{◌≡◌, ℕ, ◌<◌, List, [], ◌∷◌, ◌++◌, length, take, drop, Option, Some, None, Result, Ok, Err, nat_le, slice_get, slice_set, unwrap_or, if◌then◌else◌}
+use Rattle.std.specs.Prelude.{◌≡◌, ℕ, ◌<◌, ◌≤◌, List, [], ◌∷◌, ◌++◌, length, take, drop, Result, Ok, Err, nat_le, nat_lt, slice_index_or, slice_set, if◌then◌else◌}
 use Rattle.rt_base.specs.declared.numbers.Partition.{Partition}
 use Rattle.rt_base.specs.declared.numbers.Offset.{Offset}
 use Rattle.rt_stream.specs.declared.feed.FeedRefused.{FeedRefused}
@@ -8,30 +8,27 @@ use Rattle.rt_stream.specs.declared.feed.FeedRefused.TheVariants.{NoPartition, P
 abbrev pub Log : Type 0
 Log = List (List (List ℕ))
 
--- the messages of a partition, none where there is no such partition
+-- the messages of a partition
 abbrev pub messages_of : Log → Partition → List (List ℕ)
-messages_of log partition = unwrap_or (slice_get log partition.0) []
+messages_of log partition = slice_index_or log partition.0 []
 
 -- the offset after the last message
 abbrev pub end_of : List (List ℕ) → Offset
 end_of messages = record { 0 = length messages }
 
 -- the messages from an offset on, at most this many
-abbrev pub fetched_from : Option (List (List ℕ)) → Offset → ℕ → Result (List (List ℕ)) FeedRefused
-fetched_from None from max = Err NoPartition
-fetched_from (Some messages) from max =
+abbrev pub fetched_from : List (List ℕ) → Offset → ℕ → Result (List (List ℕ)) FeedRefused
+fetched_from messages from max =
     if nat_le from.0 (length messages) then Ok (take max (drop from.0 messages)) else Err (PastEnd from (end_of messages))
 
 abbrev pub fetched : Log → Partition → Offset → ℕ → Result (List (List ℕ)) FeedRefused
-fetched log partition from max = fetched_from (slice_get log partition.0) from max
+fetched log partition from max =
+    if nat_lt partition.0 (length log) then fetched_from (messages_of log partition) from max else Err NoPartition
 
 -- the length of a partition's log
-abbrev pub measured_in : Option (List (List ℕ)) → Result Offset FeedRefused
-measured_in None = Err NoPartition
-measured_in (Some messages) = Ok (end_of messages)
-
 abbrev pub measured : Log → Partition → Result Offset FeedRefused
-measured log partition = measured_in (slice_get log partition.0)
+measured log partition =
+    if nat_lt partition.0 (length log) then Ok (end_of (messages_of log partition)) else Err NoPartition
 
 -- the log with a message more at the end of a partition
 abbrev pub with_message : Log → Partition → List ℕ → Log
@@ -40,7 +37,7 @@ with_message log partition message = slice_set log partition.0 (messages_of log 
 -- an append answers the message's offset, the length that the partition's log had; where it is refused nothing changes
 abbrev pub Appends : Log → Log → Partition → List ℕ → Result Offset FeedRefused → Type 0
 Appends old new partition message (Ok offset) =
-    (measured old partition ≡ Ok offset) × (new ≡ with_message old partition message)
+    (partition.0 < length old) × (offset ≡ end_of (messages_of old partition)) × (new ≡ with_message old partition message)
 Appends old new partition message (Err Memory) = (partition.0 < length old) × (new ≡ old)
-Appends old new partition message (Err NoPartition) = (measured old partition ≡ Err NoPartition) × (new ≡ old)
+Appends old new partition message (Err NoPartition) = (length old ≤ partition.0) × (new ≡ old)
 Appends old new partition message (Err (PastEnd _ _)) = ⊥

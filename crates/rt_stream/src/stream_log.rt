@@ -76,8 +76,8 @@ impl StreamLog {
 impl StreamLog {
     /// The messages of a partition, where there is one of this number.
     fn log_of(&self, partition: Partition) -> Option<&PartitionLog>
-        ensures some { IfSome result (λ log. slice_get self.now partition.0 ≡ Some log.now) }
-        ensures none { IfNone result (slice_get self.now partition.0 ≡ None) }
+        ensures some { IfSome result (λ log. (partition.0 < length self.now) × (log.now ≡ messages_of self.now partition)) }
+        ensures none { IfNone result (length self.now ≤ partition.0) }
     {
         self.partitions.get(partition.0 as usize)
     }
