@@ -1,5 +1,5 @@
 -- The values of a dictionary.
-use Rattle.std.specs.Prelude.{◌≡◌, Bool, true, List, AllPairs, Contains, IsTrue}
+use Rattle.std.specs.Prelude.{◌≡◌, ◌-◌, Bool, true, List, length, AllPairs, Contains, IsTrue, Option, Some, None, slice_get}
 
 -- Each value comes before each later one.
 abbrev pub IsAscending : {K : Type 0} → (K → K → Bool) → List K → Type 0
@@ -10,3 +10,11 @@ pub record AreDistinctValues {K : Type 0} (below : K → K → Bool) (all distin
   pub ascending : IsAscending below distinct
   pub each_stands : (value : K) → Contains all value → Contains distinct value
   pub none_else : (value : K) → Contains distinct value → Contains all value
+
+abbrev pub is_past : {K : Type 0} → (K → K → Bool) → Option K → K → Bool
+is_past below None value = true
+is_past below (Some last) value = below last value
+
+-- Whether a value comes after the last of a list, if there is one.
+abbrev pub is_past_last : {K : Type 0} → (K → K → Bool) → List K → K → Bool
+is_past_last below values value = is_past below (slice_get values (length values - 1)) value

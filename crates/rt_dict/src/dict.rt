@@ -1,6 +1,7 @@
-ghost use Rattle.std.specs.Prelude.{◌≡◌, ℕ, ◌+◌, ◌^◌, ◌<◌, ◌≤◌, ◌↔◌, true, false, not, length, IfOk, IsTrue, slice_get};
-ghost use Rattle.std.specs.List.Sorted.{IsPartitionPoint};
-ghost use Rattle.rt_dict.specs.Values.{IsAscending, AreDistinctValues};
+ghost use Rattle.std.specs.Prelude.{◌≡◌, ℕ, ◌+◌, ◌^◌, ◌<◌, ◌≤◌, ◌↔◌, true, false, not, length, IfOk, IsTrue, slice_get, map};
+ghost use Rattle.std.specs.Ordering.{is_lt};
+ghost use Rattle.std.specs.List.Sorted.{IsPartitionPoint, IsPermutation, IsSortedBy};
+ghost use Rattle.rt_dict.specs.Values.{IsAscending, AreDistinctValues, is_past_last};
 ghost use Rattle.rt_dict.specs.Range.{starts_by, ends_after, IsWithin};
 
 use std::alloc::{AllocError, Global};
@@ -28,6 +29,17 @@ impl<K: Key> Model for Dict<K> {
 }
 
 impl<K: Key> Dict<K> {
+    /// The dictionary of the distinct values of a list. Fails only where memory is refused.
+    pub fn build(alloc: Global, values: &[K]) -> Result<Self, AllocError>
+        requires { length values.now < 2 ^ 32 }
+        ensures { IfOk result (AreDistinctValues K.below values.now) }
+    {
+        let mut keys = references(alloc, values)?;
+        sort(keys.as_mut_slice());
+        let values = distinct_of(alloc, &keys)?;
+        Ok(Dict { values })
+    }
+
     /// How many values there are. Ids are below it.
     pub fn len(&self) -> u32
         ensures count { result ≡ length self.now }
@@ -119,5 +131,58 @@ fn count_until<K: Key>(values: &[K], high: &Edge<K>) -> usize
         Edge::Open => values.len(),
         Edge::At(key) => count_up_to(values, key),
         Edge::Past(key) => count_below(values, key),
+    }
+}
+
+// The keys, each by a reference.
+fn references<K: Key>(alloc: Global, keys: &[K]) -> Result<Vec<&K>, AllocError>
+    ensures { IfOk result (λ v. map (λ x. x.now) v.items ≡ keys.now) }
+{
+    keys.iter().collect(alloc)
+}
+
+// Puts references to keys into the keys' order.
+fn sort<K: Key>(keys: &mut [&K])
+    ensures permutation { IsPermutation keys.old keys.new }
+    ensures sorted { IsSortedBy K.below (map (λ x. x.now) keys.new) }
+{
+    keys.sort_unstable_by(|a, b| compare(*a, *b));
+}
+
+// How two keys stand in the order.
+fn compare<K: Key>(a: &K, b: &K) -> Ordering
+    ensures { is_lt result ≡ K.below a.now b.now }
+{
+    if a.below(b) {
+        Ordering::Less
+    } else if b.below(a) {
+        Ordering::Greater
+    } else {
+        Ordering::Equal
+    }
+}
+
+// The distinct keys of a sorted list, each copied once.
+fn distinct_of<K: Key>(alloc: Global, sorted: &[&K]) -> Result<Vec<K>, AllocError>
+    requires { IsSortedBy K.below (map (λ x. x.now) sorted.now) }
+    ensures values { IfOk result (λ v. AreDistinctValues K.below (map (λ x. x.now) sorted.now) v.items) }
+    ensures few { IfOk result (λ v. length v.items ≤ length sorted.now) }
+{
+    let mut distinct = Vec::new(alloc);
+    for key in sorted {
+        if is_past(&distinct, *key) {
+            distinct.push(key.copy(alloc)?)?;
+        }
+    }
+    Ok(distinct)
+}
+
+// Whether a key comes after the last of some keys, if there is one.
+fn is_past<K: Key>(keys: &[K], key: &K) -> bool
+    ensures { result ≡ is_past_last K.below keys.now key.now }
+{
+    match keys.last() {
+        None => true,
+        Some(last) => last.below(key),
     }
 }
