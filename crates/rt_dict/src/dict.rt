@@ -4,12 +4,11 @@ ghost use Rattle.std.specs.List.Sorted.{IsPartitionPoint, IsPermutation, IsSorte
 ghost use Rattle.rt_dict.specs.Values.{IsAscending, AreDistinctValues, is_past_last};
 ghost use Rattle.rt_dict.specs.Range.{starts_by, ends_after, IsWithin};
 
+use super::edge::Edge;
+use super::key::Key;
 use std::alloc::{AllocError, Global};
 use std::cmp::Ordering;
 use std::marker::Model;
-
-use super::edge::Edge;
-use super::key::Key;
 
 /// The distinct values of a column, ascending. The id of a value is its place.
 #[derive(Drop)]
@@ -73,16 +72,12 @@ impl<K: Key> Dict<K> {
     pub fn range_ids(&self, low: &Edge<K>, high: &Edge<K>) -> (u32, u32)
         ensures ordered { result.0 ≤ result.1 }
         ensures in_range { result.1 ≤ length self.now }
-        ensures exact {
-            (id : ℕ) (value : K) → slice_get self.now id ≡ Some value →
-            ((result.0 ≤ id) × (id < result.1)) ↔ IsWithin K.below low.now high.now value
-        }
+        ensures exact { (id : ℕ) (value : K) → slice_get self.now id ≡ Some value →
+            ((result.0 ≤ id) × (id < result.1)) ↔ IsWithin K.below low.now high.now value }
 
         // An empty range stands where the low edge does.
-        ensures start {
-            (id : ℕ) (value : K) → slice_get self.now id ≡ Some value →
-            (result.0 ≤ id) ↔ IsTrue (starts_by K.below low.now value)
-        }
+        ensures start { (id : ℕ) (value : K) → slice_get self.now id ≡ Some value →
+            (result.0 ≤ id) ↔ IsTrue (starts_by K.below low.now value) }
     {
         let start = count_before(&self.values, low);
         let end = count_until(&self.values, high);

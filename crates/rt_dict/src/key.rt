@@ -1,6 +1,14 @@
 ghost use Rattle.std.specs.Prelude.{◌≡◌, Bool, IfOk, int_lt};
-ghost use Rattle.rt_dict.specs.Order.{IsStrictOrder, bool_below, int_order, bool_order};
+ghost use Rattle.rt_dict.specs.Order.{
+  IsStrictOrder,
+  bool_below,
+  text_below,
+  int_order,
+  bool_order,
+  text_order,
+};
 
+use rt_lists::Text;
 use std::alloc::{AllocError, Global};
 
 /// A value that a dictionary can hold, with its order.
@@ -63,5 +71,20 @@ impl Key for bool {
 
     fn copy(&self, _alloc: Global) -> Result<Self, AllocError> {
         Ok(*self)
+    }
+}
+
+/// By the bytes of the texts.
+impl Key for Text {
+    ghost below = { text_below };
+
+    ghost order = { text_order };
+
+    fn below(&self, other: &Self) -> bool {
+        self.as_bytes() < other.as_bytes()
+    }
+
+    fn copy(&self, alloc: Global) -> Result<Self, AllocError> {
+        Text::copied_from(alloc, self.as_str())
     }
 }

@@ -12,3 +12,6 @@ mod key;
 pub use dict::Dict;
 pub use edge::Edge;
 pub use key::Key;
+
+#[cfg(test)]
+mod tests;

@@ -18,16 +18,16 @@ loop-key-preserved g c =
     let answer : (b : Bool) → b ≡ is_past_last below c.deref.result.now key → is_past_last below c.loop-key.distinct.items key ≡ b = λ b is. sym (ap (λ xs. is_past_last below xs key) c.deref.ensures.value) ∙ sym is in
     elim c.if-is_past.branch [
       | then-is_past+in_ok-copy+in_ok-push w ↦
-        let kept = past_more g.met.K.Key.order row c.requires i in_range key here c.loop-key.distinct.items c.loop-key.invariant.values (answer true w.if-is_past.ensures) in
-        let items : c.if-is_past.distinct.items ≡ c.loop-key.distinct.items ++ key ∷ [] = ap (λ v. v.items) w.distinct-is ∙ w.in_ok-push.ensures.items ∙ ap (λ k. c.loop-key.distinct.items ++ k ∷ []) w.in_ok-copy.ensures in
-        record {
-          few = omega (arith, ap length items, length-append c.loop-key.distinct.items (key ∷ []), c.loop-key.invariant.few);
-          values = subst (AreDistinctValues below (take (i + 1) row)) (sym items) kept;
-        }
+          let kept = past_more g.met.K.Key.order row c.requires i in_range key here c.loop-key.distinct.items c.loop-key.invariant.values (answer true w.if-is_past.ensures) in
+          let items : c.if-is_past.distinct.items ≡ c.loop-key.distinct.items ++ key ∷ [] = ap (λ v. v.items) w.distinct-is ∙ w.in_ok-push.ensures.items ∙ ap (λ k. c.loop-key.distinct.items ++ k ∷ []) w.in_ok-copy.ensures in
+          record {
+            few = omega (arith, ap length items, length-append c.loop-key.distinct.items (key ∷ []), c.loop-key.invariant.few);
+            values = subst (AreDistinctValues below (take (i + 1) row)) (sym items) kept;
+          }
       | else-is_past w ↦
-        let kept = same_more g.met.K.Key.order row c.requires i in_range key here c.loop-key.distinct.items c.loop-key.invariant.values (answer false w.if-is_past.ensures) in
-        record {
-          few = omega (arith, ap (λ v. length v.items) w.distinct-is, c.loop-key.invariant.few);
-          values = subst (λ v. AreDistinctValues below (take (i + 1) row) v.items) (sym w.distinct-is) kept;
-        }
+          let kept = same_more g.met.K.Key.order row c.requires i in_range key here c.loop-key.distinct.items c.loop-key.invariant.values (answer false w.if-is_past.ensures) in
+          record {
+            few = omega (arith, ap (λ v. length v.items) w.distinct-is, c.loop-key.invariant.few);
+            values = subst (λ v. AreDistinctValues below (take (i + 1) row) v.items) (sym w.distinct-is) kept;
+          }
     ]

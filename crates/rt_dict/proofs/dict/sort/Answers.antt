@@ -6,4 +6,4 @@ use Rattle.rt_dict.proofs.dict.sort.Goals as goal
 pub returns-clause-sorted : goal.returns-clause-sorted
 returns-clause-sorted g c =
     sorted-map_now g.met.K.Key.order _ (c.sort_unstable_by.ensures.sorted _ (weak_order-now g.met.K.Key.order)
-      (always_returns_same _ _ _ (λ a r f' k. search rules)))
+    (always_returns_same _ _ _ (λ a r f' k. search rules)))
