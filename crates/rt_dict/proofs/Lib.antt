@@ -1,2 +1,3 @@
 pub mod Ascending
 pub mod Distinct
+pub mod Same

@@ -1,5 +1,5 @@
 -- Ranges of keys between two edges.
-use Rattle.std.specs.Prelude.{◌≡◌, Bool, true, not, IsTrue}
+use Rattle.std.specs.Prelude.{Bool, true, not, IsTrue}
 use Rattle.rt_dict.specs.declared.edge.Edge.{Edge}
 use Rattle.rt_dict.specs.declared.edge.Edge.TheVariants.{Open, At, Past}
 

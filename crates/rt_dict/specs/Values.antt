@@ -1,5 +1,5 @@
 -- The values of a dictionary.
-use Rattle.std.specs.Prelude.{◌≡◌, ◌-◌, Bool, true, List, length, AllPairs, Contains, IsTrue, Option, Some, None, slice_get}
+use Rattle.std.specs.Prelude.{◌-◌, Bool, true, List, length, AllPairs, Contains, IsTrue, Option, Some, None, slice_get}
 
 -- Each value comes before each later one.
 abbrev pub IsAscending : {K : Type 0} → (K → K → Bool) → List K → Type 0

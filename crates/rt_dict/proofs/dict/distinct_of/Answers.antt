@@ -19,7 +19,9 @@ loop-key-preserved g c =
     elim c.if-is_past.branch [
       | then-is_past+in_ok-copy+in_ok-push w ↦
           let kept = past_more g.met.K.Key.order row c.requires i in_range key here c.loop-key.distinct.items c.loop-key.invariant.values (answer true w.if-is_past.ensures) in
-          let items : c.if-is_past.distinct.items ≡ c.loop-key.distinct.items ++ key ∷ [] = ap (λ v. v.items) w.distinct-is ∙ w.in_ok-push.ensures.items ∙ ap (λ k. c.loop-key.distinct.items ++ k ∷ []) w.in_ok-copy.ensures in
+          let pushed : w.push.new.self.items ≡ c.loop-key.distinct.items ++ w.in_ok-copy.field-0 ∷ [] = w.in_ok-push.ensures.items in
+          let copied : w.in_ok-copy.field-0 ≡ key = w.in_ok-copy.ensures in
+          let items : c.if-is_past.distinct.items ≡ c.loop-key.distinct.items ++ key ∷ [] = cc in
           record {
             few = omega (arith, ap length items, length-append c.loop-key.distinct.items (key ∷ []), c.loop-key.invariant.few);
             values = subst (AreDistinctValues below (take (i + 1) row)) (sym items) kept;

@@ -1,4 +1,4 @@
-use Rattle.std.proofs.Common.{rules, refl}
+use Rattle.std.proofs.Common.{rules}
 use Rattle.std.proofs.lemmas.Fn.{always_returns_same}
 use Rattle.rt_dict.proofs.Distinct.{weak_order-now, sorted-map_now}
 use Rattle.rt_dict.proofs.dict.sort.Goals as goal

@@ -1,4 +1,4 @@
-use Rattle.std.proofs.Common.{◌≡◌, true, false, length, slice_get, Some, subst, ap, sym, ◌∙◌, arith}
+use Rattle.std.proofs.Common.{◌≡◌, true, false, slice_get, Some, subst, ap, sym, arith}
 use Rattle.std.specs.List.Sorted.{IsPartitionPoint}
 use Rattle.std.proofs.lemmas.Option.{none-some, same_Some}
 use Rattle.rt_dict.proofs.Ascending.{id_at_split, absent_past, absent_below, present_at}

@@ -1,6 +1,6 @@
 use Rattle.std.proofs.Common.{◌≡◌, ℕ, List, Some, refl, ap, ◌∙◌}
 use Rattle.std.specs.Ordering.{is_lt, is_some_and, nat_cmp}
-use Rattle.std.specs.Cmp.Lexicographic.{slice_cmp, slice_partial_cmp, lists_agrees}
+use Rattle.std.specs.Cmp.Lexicographic.{slice_partial_cmp, lists_agrees}
 use Rattle.rt_dict.specs.Order.{text_below}
 use Rattle.rt_dict.proofs.key.TextKey.below.Goals as goal
 
