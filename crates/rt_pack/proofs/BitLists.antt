@@ -1,12 +1,11 @@
 -- Numbers and their bits.
-use Rattle.std.proofs.Common.{◌≡◌, ℕ, zero, suc, ◌+◌, ◌*◌, ◌-◌, ◌/◌, ◌%◌, ◌^◌, ◌<◌, ◌≤◌, List, [], ◌∷◌, ◌++◌, length, get_or, take, drop, arith, sym, ◌∙◌, refl, ap, subst, zero-add, append_assoc, ⊎_elim}
-use Rattle.std.proofs.lemmas.Nat.{mod-pow-add, pow-add, pow_pos, mul-le, shr-shr, div-add-mod', div-mul-add, mod-mul-add, shl-shr}
+use Rattle.std.proofs.Common.{◌≡◌, ℕ, zero, suc, ◌+◌, ◌*◌, ◌/◌, ◌%◌, ◌^◌, ◌<◌, ◌≤◌, List, [], ◌∷◌, ◌++◌, length, get_or, drop, arith, sym, ◌∙◌, refl, ap, subst, zero-add}
+use Rattle.std.proofs.lemmas.Nat.{mod-pow-add, pow-add, pow_pos, mul-le, shr-shr, div-add-mod', div-mul-add}
 use Rattle.std.proofs.lemmas.Nat.Bits.{bit_at_cat_low, bit_at-zero}
-use Rattle.std.proofs.lemmas.List.{drop-drop, drop_at, drop-append-le, length-append, length-drop, get_or-drop, get_or-take, get_or_past, same_lists, get_or_default, get_or_append_left, get_or-append_right, append-nil, append_cancel_left, take-append-drop}
-use Rattle.std.proofs.lemmas.Bool.{cases_lt}
+use Rattle.std.proofs.lemmas.List.{length-append, get_or-drop, same_lists, get_or_default}
 use Rattle.std.proofs.Math.Nat.{mod-lt, pow-suc, mod-eq_of_lt}
 use Rattle.std.specs.Prelude.{All}
-use Rattle.std.specs.Int.{bit_at, to_be_bytes, w32}
+use Rattle.std.specs.Int.{bit_at}
 use Rattle.rt_pack.specs.Bits.{bits_of, all_bits, number_of, numbers_of}
 
 -- each element is a bit

@@ -1,13 +1,10 @@
 -- Lists of numbers of one width, and their bits.
-use Rattle.std.proofs.Common.{◌≡◌, ℕ, zero-mul, zero, suc, ◌+◌, ◌*◌, ◌-◌, ◌/◌, ◌%◌, ◌^◌, ◌<◌, ◌≤◌, List, [], ◌∷◌, ◌++◌, length, get_or, take, drop, arith, sym, ◌∙◌, refl, ap, subst, zero-add, append_assoc, ⊎_elim, bit_or, bit_and}
-use Rattle.std.proofs.lemmas.Nat.{pow-add, pow_pos, or_shifted, and_mask, mod-mul-add, div-mul-add}
-use Rattle.std.proofs.lemmas.List.{drop-drop, drop_at, drop-append-le, length-append, length-drop, get_or-drop, get_or-take, get_or_past, get_or_append_left, get_or-append_right, append-nil, take-append-drop, take_more, drop_more, drop_all, get_or_default, same_lists, length-take}
+use Rattle.std.proofs.Common.{◌≡◌, ℕ, zero-mul, zero, suc, ◌+◌, ◌*◌, ◌-◌, ◌%◌, ◌^◌, ◌<◌, ◌≤◌, List, [], ◌∷◌, ◌++◌, length, get_or, take, drop, arith, sym, ◌∙◌, refl, ap, subst, zero-add, append_assoc, ⊎_elim}
+use Rattle.std.proofs.lemmas.List.{drop-drop, drop_at, get_or-drop, get_or_append_left, get_or-append_right, append-nil, drop_more, drop_all}
 use Rattle.std.proofs.lemmas.Bool.{cases_lt}
-use Rattle.std.proofs.Math.Nat.{mod-lt, mod-eq_of_lt}
-use Rattle.std.specs.Prelude.{All}
-use Rattle.std.specs.Int.{to_be_bytes, w32}
+use Rattle.std.proofs.Math.Nat.{mod-eq_of_lt}
 use Rattle.rt_pack.specs.Bits.{bits_of, all_bits, number_of, numbers_of}
-use Rattle.rt_pack.proofs.BitLists.{AreBits, AllFit, AllFit_head, AllFit_tail, length_bits_of, length_all_bits, length_numbers_of, number_of_bits, number_of_add, number_of_same, AreBits_all_bits, AreBits_drop, number_of_below, bits_of_split, bits_of_mod, bits_of_cat, get_or_bits_of, bits_of_number_of}
+use Rattle.rt_pack.proofs.BitLists.{AreBits, AllFit, AllFit_head, AllFit_tail, length_bits_of, length_numbers_of, number_of_bits, number_of_same, AreBits_drop, number_of_below, get_or_bits_of}
 
 pub all_bits_append : (width : ℕ) (xs ys : List ℕ) → all_bits width (xs ++ ys) ≡ all_bits width xs ++ all_bits width ys
 all_bits_append width [] ys = refl

@@ -1,11 +1,11 @@
 -- Laws of the packed form.
-use Rattle.std.proofs.Common.{◌≡◌, ℕ, zero, suc, ◌+◌, ◌*◌, ◌-◌, ◌/◌, ◌%◌, ◌^◌, ◌<◌, ◌≤◌, ◌↔◌, List, [], ◌∷◌, ◌++◌, length, get_or, take, drop, arith, sym, ◌∙◌, refl, ap, subst, ⊎_elim}
-use Rattle.std.proofs.lemmas.List.{get_or_past, get_or-drop, get_or-take, length-drop, length-take, get_or_default}
+use Rattle.std.proofs.Common.{◌≡◌, ℕ, ◌+◌, ◌*◌, ◌-◌, ◌<◌, List, length, get_or, arith, sym, ◌∙◌, ap, subst, ⊎_elim}
+use Rattle.std.proofs.lemmas.List.{get_or_past, get_or-drop, length-drop, get_or_default}
 use Rattle.std.proofs.lemmas.Bool.{cases_lt}
 use Rattle.std.specs.Prelude.{All, slice_index}
-use Rattle.rt_pack.specs.Bits.{bits_of, all_bits, number_of, numbers_of}
+use Rattle.rt_pack.specs.Bits.{all_bits, numbers_of}
 use Rattle.rt_pack.specs.Packed.{bytes_for, packed, unpacked, id_at, spare_bits}
-use Rattle.rt_pack.proofs.BitLists.{AreBits, AllFit, length_all_bits, length_numbers_of, AreBits_all_bits}
+use Rattle.rt_pack.proofs.BitLists.{AllFit, length_all_bits, length_numbers_of, AreBits_all_bits}
 use Rattle.rt_pack.proofs.Groups.{numbers_of_same, numbers_of_all, AllFit_numbers_of, get_or_all_bits, get_or_numbers_of}
 
 pub length_packed : (width : ℕ) (ids : List ℕ) → length (packed width ids) ≡ bytes_for width (length ids)

@@ -1,5 +1,5 @@
 -- The least width whose ids reach a count.
-use Rattle.std.proofs.Common.{◌≡◌, ℕ, zero, suc, ◌+◌, ◌*◌, ◌-◌, ◌^◌, ◌<◌, ◌≤◌, Bool, true, false, cond, arith, sym, ◌∙◌, refl, ap, subst, min, ⊎_elim}
+use Rattle.std.proofs.Common.{◌≡◌, ℕ, zero, suc, ◌+◌, ◌*◌, ◌-◌, ◌^◌, ◌<◌, ◌≤◌, arith, sym, ap, subst, ⊎_elim}
 use Rattle.std.proofs.lemmas.Bool.{cond_both, leb-true, leb-false, cases_eq, cases_lt}
 use Rattle.std.proofs.lemmas.Nat.{leading_length, pow_pos}
 use Rattle.std.proofs.Math.Nat.{pow-suc, pow-le-pow_right}

@@ -1,11 +1,11 @@
 -- What the shifts of a word do to its bits.
-use Rattle.std.proofs.Common.{◌≡◌, ℕ, zero-mul, zero, suc, ◌+◌, ◌*◌, ◌-◌, ◌/◌, ◌%◌, ◌^◌, ◌<◌, ◌≤◌, List, [], ◌∷◌, ◌++◌, length, get_or, take, drop, arith, sym, ◌∙◌, refl, ap, subst, zero-add, append_assoc, ⊎_elim, bit_or, bit_and, min}
-use Rattle.std.proofs.lemmas.Nat.{pow-add, pow_pos, or_shifted, and_mask, mod-mul-add, div-mul-add, shl_below, mod_below, one_shl, shr_below, mul-add-lt}
-use Rattle.std.proofs.lemmas.List.{drop_at, length-append, get_or_append_left, append-nil, take_more, length-take, length-take-le, length-drop, drop-drop, take-append-drop}
-use Rattle.std.proofs.Math.Nat.{mod-lt, mod-eq_of_lt, pow-le-pow_right}
+use Rattle.std.proofs.Common.{◌≡◌, ℕ, ◌+◌, ◌*◌, ◌-◌, ◌/◌, ◌%◌, ◌^◌, ◌<◌, ◌≤◌, List, [], ◌∷◌, ◌++◌, length, get_or, take, drop, arith, sym, ◌∙◌, ap, subst, append_assoc, bit_or, bit_and, min}
+use Rattle.std.proofs.lemmas.Nat.{pow-add, or_shifted, and_mask, shl_below, one_shl, shr_below, mul-add-lt}
+use Rattle.std.proofs.lemmas.List.{drop_at, length-append, get_or_append_left, append-nil, take_more, length-take-le, length-drop, drop-drop, take-append-drop}
+use Rattle.std.proofs.Math.Nat.{mod-eq_of_lt, pow-le-pow_right}
 use Rattle.std.specs.Int.{to_be_bytes, w32}
-use Rattle.rt_pack.specs.Bits.{bits_of, all_bits, number_of, numbers_of}
-use Rattle.rt_pack.proofs.BitLists.{AreBits, length_bits_of, length_all_bits, number_of_bits, number_of_add, number_of_same, AreBits_all_bits, number_of_below, bits_of_split, bits_of_mod, bits_of_cat, bits_of_number_of}
+use Rattle.rt_pack.specs.Bits.{bits_of, all_bits, number_of}
+use Rattle.rt_pack.proofs.BitLists.{length_bits_of, length_all_bits, number_of_bits, number_of_add, number_of_same, AreBits_all_bits, number_of_below, bits_of_split, bits_of_mod, bits_of_cat, bits_of_number_of}
 use Rattle.rt_pack.proofs.Groups.{all_bits_append}
 
 -- the number of bits before others, and of those others

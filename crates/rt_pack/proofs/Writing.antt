@@ -1,10 +1,10 @@
 -- What a writer's steps do to its bits.
-use Rattle.std.proofs.Common.{◌≡◌, ℕ, zero-mul, zero, suc, ◌+◌, ◌*◌, ◌-◌, ◌/◌, ◌%◌, ◌^◌, ◌<◌, ◌≤◌, List, [], ◌∷◌, ◌++◌, length, get_or, take, drop, arith, sym, ◌∙◌, refl, ap, subst, zero-add, append_assoc, ⊎_elim, bit_or, bit_and}
-use Rattle.std.proofs.lemmas.Nat.{pow-add, pow_pos, div-mul-add, mod-mul-add, shr_below, mod_below, shl_below, mul-le}
+use Rattle.std.proofs.Common.{◌≡◌, ℕ, zero, suc, ◌+◌, ◌*◌, ◌-◌, ◌/◌, ◌%◌, ◌^◌, ◌<◌, ◌≤◌, List, [], ◌∷◌, ◌++◌, length, get_or, take, drop, arith, sym, ◌∙◌, ap, subst, append_assoc, ⊎_elim, bit_or, bit_and}
+use Rattle.std.proofs.lemmas.Nat.{pow_pos, div-mul-add, mod-mul-add, shr_below, shl_below, mul-le}
 use Rattle.std.proofs.lemmas.List.{length-append, get_or_append_left, get_or-append_right, get_or_past, drop-drop, take-append-drop, length-take-le, length-drop, append-nil, take_more, take_all}
 use Rattle.std.proofs.lemmas.Bool.{cases_lt}
 use Rattle.std.proofs.lemmas.List.Elements.{All-append}
-use Rattle.std.proofs.Math.Nat.{mod-lt, mod-eq_of_lt, pow-le-pow_right}
+use Rattle.std.proofs.Math.Nat.{mod-lt, mod-eq_of_lt}
 use Rattle.std.specs.Int.{to_be_bytes, w32}
 use Rattle.rt_pack.specs.Bits.{bits_of, all_bits, number_of, numbers_of}
 use Rattle.rt_pack.specs.Packed.{bytes_for, packed}

@@ -1,5 +1,5 @@
 -- How many bits the ids below a count take.
-use Rattle.std.specs.Prelude.{ℕ, zero, suc, ◌^◌, ◌≤◌, nat_le, if◌then◌else◌}
+use Rattle.std.specs.Prelude.{ℕ, zero, suc, ◌^◌, nat_le, if◌then◌else◌}
 
 -- the least width from `width` on whose ids reach the count, or that after `more` others
 abbrev pub least_from : ℕ → ℕ → ℕ → ℕ

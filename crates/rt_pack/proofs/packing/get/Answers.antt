@@ -1,4 +1,4 @@
-use Rattle.std.proofs.Common.{◌≡◌, ◌≤◌, ◌+◌, ◌*◌, ◌-◌, ◌/◌, ◌%◌, ◌^◌, arith, sym, ◌∙◌, ap, bit_and, drop, length}
+use Rattle.std.proofs.Common.{◌≡◌, ◌≤◌, ◌+◌, ◌*◌, ◌-◌, ◌/◌, ◌%◌, ◌^◌, arith, ◌∙◌, ap, bit_and, drop, length}
 use Rattle.rt_pack.specs.Bits.{all_bits, number_of}
 use Rattle.rt_pack.proofs.Writing.{got}
 use Rattle.rt_pack.proofs.packing.get.Goals as goal

@@ -1,4 +1,4 @@
-use Rattle.std.proofs.Common.{◌≡◌, ℕ, List, Result, Ok, Err, refl, arith, sym, ◌∙◌, ap, subst, length, ◌<◌}
+use Rattle.std.proofs.Common.{◌≡◌, ℕ, List, refl, sym, subst, length, ◌<◌}
 use Rattle.std.specs.Prelude.{All, IfOk, slice_index}
 use Rattle.std.proofs.lemmas.Result.{IfOk-weaker}
 use Rattle.rt_pack.specs.Packed.{packed, unpacked, bytes_for, spare_bits, id_at}

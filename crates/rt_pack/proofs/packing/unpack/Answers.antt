@@ -1,8 +1,8 @@
-use Rattle.std.proofs.Common.{◌≡◌, ℕ, ◌*◌, ◌≤◌, ◌↔◌, ◌<◌, ◌^◌, List, arith, sym, ◌∙◌, ap, subst, length, drop, refl, zero-mul}
+use Rattle.std.proofs.Common.{◌≡◌, ℕ, ◌↔◌, ◌<◌, ◌^◌, List, arith, sym, ◌∙◌, ap, subst, length, drop, zero-mul}
 use Rattle.std.specs.Prelude.{All}
 use Rattle.std.proofs.lemmas.List.{get_or_default}
 use Rattle.rt_pack.specs.Bits.{all_bits, numbers_of, number_of}
-use Rattle.rt_pack.specs.Packed.{packed, unpacked, bytes_for, spare_bits}
+use Rattle.rt_pack.specs.Packed.{packed, unpacked, spare_bits}
 use Rattle.rt_pack.proofs.Writing.{unpack_more, left_more, left_enough}
 use Rattle.rt_pack.proofs.BitLists.{AllFit}
 use Rattle.rt_pack.proofs.Laws.{length_unpacked, AllFit_unpacked, packed_unpacked, spare_of_packed}

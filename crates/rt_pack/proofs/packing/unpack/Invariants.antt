@@ -1,4 +1,4 @@
-use Rattle.std.proofs.Common.{◌≡◌, ◌*◌, drop, ◌≤◌}
+use Rattle.std.proofs.Common.{◌≡◌, ◌*◌, drop}
 use Rattle.rt_pack.specs.Bits.{all_bits, numbers_of}
 use Rattle.rt_pack.proofs.packing.unpack.Given as goal
 

@@ -1,4 +1,4 @@
-use Rattle.std.proofs.Common.{arith, sym, subst, ap, ◌∙◌}
+use Rattle.std.proofs.Common.{arith, sym, subst}
 use Rattle.rt_pack.specs.declared.bit_reader.BitReader.TheInside.{Inside}
 use Rattle.rt_pack.proofs.Words.{IsReady, filled, taken, ready_number}
 use Rattle.rt_pack.proofs.bit_reader.BitReader.take.Goals as goal

@@ -1,4 +1,4 @@
-use Rattle.std.proofs.Common.{arith, sym, ◌∙◌, ap, ◌++◌, take}
+use Rattle.std.proofs.Common.{arith, ◌∙◌, ap, ◌++◌, take}
 use Rattle.rt_pack.proofs.Writing.{last_word_below, finished}
 use Rattle.rt_pack.proofs.bit_writer.BitWriter.finish.Goals as goal
 

@@ -1,4 +1,4 @@
-use Rattle.std.proofs.Common.{arith, sym, ◌∙◌, ap, ◌+◌, ◌*◌, ◌%◌, ◌^◌, ◌++◌, bit_or, ◌-◌, ◌/◌}
+use Rattle.std.proofs.Common.{arith, ◌∙◌, ap, ◌+◌, ◌*◌, ◌%◌, ◌^◌, ◌++◌, bit_or, ◌-◌, ◌/◌}
 use Rattle.rt_pack.proofs.Writing.{joined_below, joined_view, word_below, word_written, AllFit_written, masked_below}
 use Rattle.rt_pack.proofs.bit_writer.BitWriter.push.Goals as goal
 
