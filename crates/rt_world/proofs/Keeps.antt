@@ -1,7 +1,7 @@
 -- Each event keeps a world safe, and its answer is right.
-use Rattle.std.proofs.Common.{◌≡◌, ◌≢◌, ◌+◌, ◌-◌, ◌<◌, ◌≤◌, ◌==◌, ℕ, Bool, true, false, if◌then◌else◌, List, [], ◌∷◌, ◌++◌, length, take, drop, min, slice_set, get_or, pos, All, Ok, Err, refl, sym, ◌∙◌, ap, subst, arith}
+use Rattle.std.proofs.Common.{◌≡◌, ◌+◌, ◌-◌, ◌<◌, ◌≤◌, ◌==◌, ℕ, Bool, true, false, if◌then◌else◌, List, [], ◌∷◌, ◌++◌, length, take, drop, get_or, pos, Ok, refl, sym, ◌∙◌, ap, subst, arith}
 use Rattle.std.proofs.lemmas.Bool.{eqb-true, eqb-false}
-use Rattle.std.proofs.lemmas.List.{length-append, length-take, length-take-le, length-drop, length-set, take-append-le, drop-append-le, drop-drop, get_or-set_same, get_or-set_other, append_assoc}
+use Rattle.std.proofs.lemmas.List.{length-replicate, length-append, length-take-le, length-drop, length-set, take-append-le, drop-append-le, drop-drop, get_or-set_same, get_or-set_other}
 use Rattle.std.proofs.lemmas.List.{append-nil}
 use Rattle.std.proofs.lemmas.List.Elements.{All-nil, All-cons}
 use Rattle.std.proofs.Math.Seq.{take-add}
@@ -12,16 +12,17 @@ use Rattle.rt_base.specs.declared.range.Range.{Range}
 use Rattle.rt_model.specs.declared.answer.Answer.{Answer}
 use Rattle.rt_model.specs.declared.answer.Cell.TheVariants.{Whole}
 use Rattle.rt_model.specs.declared.setup.Setup.{Setup}
+use Rattle.rt_stream.specs.Log.{messages_of, with_message}
 use Rattle.rt_world.specs.declared.event.Event.{Event}
 use Rattle.rt_world.specs.declared.event.Event.TheVariants.{Produce, Consume, Query}
 use Rattle.rt_world.specs.declared.outcome.Outcome.{Outcome}
 use Rattle.rt_world.specs.declared.replica.Replica.{Replica}
 use Rattle.rt_world.specs.declared.state.State.{State}
-use Rattle.rt_world.specs.Due.{Due, due_of, produce_due, consume_due, events_limit}
-use Rattle.rt_world.specs.Held.{IsHeld, messages_of, messages_between, placed_from}
-use Rattle.rt_world.specs.RightAnswer.{IsRightCount, IsRightOutcome, IsNamed, AreApart, rows_of}
-use Rattle.rt_world.specs.Safe.{IsSafe}
-use Rattle.rt_world.specs.Step.{start, after, produced, consumed, took, batch, count_of, ranges_of}
+use Rattle.rt_world.specs.Due.{due_of, produce_due, consume_due}
+use Rattle.rt_world.specs.Held.{IsHeld, messages_between, placed_from}
+use Rattle.rt_world.specs.RightAnswer.{IsRightCount, IsRightOutcome, IsNamed}
+use Rattle.rt_world.specs.Safe.{IsSafe, IsSetup}
+use Rattle.rt_world.specs.Step.{start, after, produced, consumed, took, batch, count_of}
 use Rattle.rt_world.proofs.Places.{placed_append, length_placed_from, limited_took}
 use Rattle.rt_world.proofs.Tests.{produce_within, consume_within, room_true}
 
@@ -86,16 +87,13 @@ held_took limit max ms r k =
     }
 
 -- the messages of a partition after one came to some partition
-abbrev pub log_with : List (List (List ℕ)) → Partition → List ℕ → List (List (List ℕ))
-log_with log p m = slice_set log p.0 (messages_of log p ++ m ∷ [])
-
 pub held_produced_at :
     (log : List (List (List ℕ))) (p q : Partition) (m : List ℕ) (r : Replica) (b : Bool) →
-    p.0 < length log → (q.0 == p.0) ≡ b → IsHeld (messages_of log q) r → IsHeld (messages_of (log_with log p m) q) r
+    p.0 < length log → (q.0 == p.0) ≡ b → IsHeld (messages_of log q) r → IsHeld (messages_of (with_message log p m) q) r
 held_produced_at log p q m r true h e k =
     let same : q.0 ≡ p.0 = eqb-true q.0 p.0 e in
-    let here : messages_of (log_with log p m) q ≡ messages_of log q ++ m ∷ [] =
-    ap (λ n. get_or (log_with log p m) n []) same
+    let here : messages_of (with_message log p m) q ≡ messages_of log q ++ m ∷ [] =
+    ap (λ n. get_or (with_message log p m) n []) same
     ∙ get_or-set_same log p.0 (messages_of log p ++ m ∷ []) [] h
     ∙ ap (λ n. get_or log n [] ++ m ∷ []) (sym same) in
     subst (λ ms. IsHeld ms r) (sym here) (held_grows (messages_of log q) (m ∷ []) r k)
@@ -110,11 +108,13 @@ pub Safe_produced :
     IsSafe w → produce_due w p m ≡ Ok tt → IsSafe (produced w p m).0
 Safe_produced w p m s due =
     let within = produce_within w p m due in
+    let there : p.0 < length w.log = omega (arith, within.0, s.partitions) in
     record {
+      partitions = length-set w.log p.0 (messages_of w.log p ++ m ∷ []) ∙ s.partitions;
       logged = omega (arith, s.logged, length-set w.log p.0 (messages_of w.log p ++ m ∷ []));
-      held = held_produced_at w.log p w.replica.partition m w.replica (w.replica.partition.0 == p.0) within.0 refl s.held;
+      held = held_produced_at w.log p w.replica.partition m w.replica (w.replica.partition.0 == p.0) there refl s.held;
       limited = s.limited;
-      counted = within.1;
+      counted = within.2;
     }
 
 -- a batch more
@@ -128,6 +128,7 @@ Safe_consumed w i p q max s due =
     let held : IsHeld (messages_of w.log p) w.replica = subst (λ ms. IsHeld ms w.replica) same s.held in
     let limit = w.setup.table.rows in
     record {
+      partitions = s.partitions;
       logged = s.logged;
       held =
           subst (λ ms. IsHeld ms (took limit (batch limit max w.replica (messages_of w.log p)) w.replica (messages_of w.log p)))
@@ -141,7 +142,7 @@ pub Safe_after : (w : State) (event : Event) → IsSafe w → due_of w event ≡
 Safe_after w (Produce p m) s due = Safe_produced w p m s due
 Safe_after w (Consume i p q max) s due = Safe_consumed w i p q max s due
 Safe_after w Query s due =
-    record { logged = s.logged; held = s.held; limited = s.limited; counted = room_true 4 w due }
+    record { partitions = s.partitions; logged = s.logged; held = s.held; limited = s.limited; counted = room_true 4 w due }
 
 -- the count of a replica counts the rows of the range that it names
 abbrev pub counted_as : List (Partition × Range) → ℕ → Answer
@@ -195,11 +196,25 @@ right_after w (Consume i p q max) s = tt
 right_after w Query s = right_count w s
 
 -- the first world is safe
-pub Safe_start : (setup : Setup) → IsSafe (start setup)
-Safe_start setup =
+pub Safe_start : (setup : Setup) → IsSetup setup → IsSafe (start setup)
+Safe_start setup k =
+    let size = length-replicate {A = List (List ℕ)} setup.partitions [] in
     record {
-      logged = omega arith;
+      partitions = size;
+      logged = omega (arith, size, k.partitions);
       held = record { ordered = omega arith; within = omega arith; rows = refl };
       limited = omega arith;
       counted = omega arith;
     }
+
+-- what a call leaves is safe, where it is the world after an event that was due
+pub kept_after :
+    (old new : State) (event : Event) (outcome : Outcome) →
+    IsSafe old → due_of old event ≡ Ok tt → (new, outcome) ≡ after old event → IsSafe new
+kept_after old new event outcome s due e = subst IsSafe (sym (ap (λ x. x.0) e)) (Safe_after old event s due)
+
+pub right_outcome :
+    (old new : State) (event : Event) (outcome : Outcome) →
+    IsSafe old → (new, outcome) ≡ after old event → IsRightOutcome new outcome
+right_outcome old new event outcome s e =
+    subst (λ x. IsRightOutcome x.0 x.1) (sym e) (right_after old event s)

@@ -1,6 +1,7 @@
 -- Messages with their offsets.
-use Rattle.std.proofs.lemmas.List.{take_more, append_assoc, length-append, length-take, length-take-le}
-use Rattle.std.proofs.Common.{◌≡◌, ℕ, ◌+◌, ◌<◌, ◌≤◌, ◌-◌, take, drop, min, get_or, subst, List, [], ◌∷◌, ◌++◌, length, refl, ap, sym, ◌∙◌, add-zero, arith, suc}
+use Rattle.std.proofs.lemmas.Option.{get_or_from_slice_get, slice_get_within}
+use Rattle.std.proofs.lemmas.List.{get_or-drop, length-drop, take_more, append_assoc, length-append, length-take, length-take-le}
+use Rattle.std.proofs.Common.{Some, slice_get, ◌≡◌, ℕ, ◌+◌, ◌≤◌, ◌-◌, take, drop, get_or, List, [], ◌∷◌, ◌++◌, length, refl, ap, sym, ◌∙◌, add-zero, arith, suc}
 use Rattle.rt_world.specs.declared.replica.Placed.{Placed}
 use Rattle.rt_world.specs.declared.replica.Replica.{Replica}
 use Rattle.rt_world.specs.Held.{placed_from, messages_between}
@@ -33,19 +34,32 @@ pub length_placed_from : (offset : ℕ) (ms : List (List ℕ)) → length (place
 length_placed_from offset [] = refl
 length_placed_from offset (m ∷ ms) = ap suc (length_placed_from (offset + 1) ms)
 
--- the messages so far and the next one
+-- the messages of a range, and the next one
+pub between_next :
+    (ms : List (List ℕ)) (start at : ℕ) (m : List ℕ) →
+    start ≤ at → slice_get ms at ≡ Some m →
+    messages_between ms start (at + 1) ≡ messages_between ms start at ++ m ∷ []
+between_next ms start at m h e =
+    let within = slice_get_within ms at m e in
+    let place : start + (at - start) ≡ at = omega (arith, h) in
+    ap (λ n. take n (drop start ms)) (omega (arith, h))
+    ∙ take_more (drop start ms) (at - start) m (omega (arith, h, within, length-drop start ms))
+    ∙ ap (λ x. messages_between ms start at ++ x ∷ [])
+    (get_or-drop start ms (at - start) m ∙ ap (λ n. get_or ms n m) place ∙ get_or_from_slice_get ms at m m e)
+
 pub placed_next :
-    (held : List Placed) (offset i : ℕ) (ms : List (List ℕ)) (d : List ℕ) →
-    i < length ms →
-    held ++ placed_from offset (take (i + 1) ms)
-    ≡ (held ++ placed_from offset (take i ms)) ++ placed_at (offset + i) (get_or ms i d) ∷ []
-placed_next held offset i ms d h =
-    ap (λ taken. held ++ placed_from offset taken) (take_more ms i d h)
+    (held : List Placed) (ms : List (List ℕ)) (start at : ℕ) (m : List ℕ) →
+    start ≤ at → slice_get ms at ≡ Some m →
+    held ++ placed_from start (messages_between ms start (at + 1))
+    ≡ (held ++ placed_from start (messages_between ms start at)) ++ placed_at at m ∷ []
+placed_next held ms start at m h e =
+    let before = messages_between ms start at in
+    let within = slice_get_within ms at m e in
+    let size : start + length before ≡ at = omega (arith, h, within, length-drop start ms, length-take-le (at - start) (drop start ms) (omega (arith, h, within, length-drop start ms))) in
+    ap (λ ns. held ++ placed_from start ns) (between_next ms start at m h e)
     ∙ ap (λ placed. held ++ placed)
-    (placed_more offset (take i ms) (get_or ms i d)
-    ∙ ap (λ n. placed_from offset (take i ms) ++ placed_at (offset + n) (get_or ms i d) ∷ [])
-    (length-take-le i ms (omega (arith, h))))
-    ∙ sym (append_assoc held (placed_from offset (take i ms)) (placed_at (offset + i) (get_or ms i d) ∷ []))
+    (placed_more start before m ∙ ap (λ n. placed_from start before ++ placed_at n m ∷ []) size)
+    ∙ sym (append_assoc held (placed_from start before) (placed_at at m ∷ []))
 
 -- a batch ends at the row limit
 pub limited_took :

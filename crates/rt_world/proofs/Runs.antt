@@ -1,14 +1,13 @@
 -- Every world of a run is safe, and every answer in it is right.
-use Rattle.std.proofs.Common.{◌≡◌, List, [], ◌∷◌, Ok, Err, Result, refl}
+use Rattle.std.proofs.Common.{◌≡◌, List, [], ◌∷◌, Ok, Err, refl}
 use Rattle.rt_model.specs.declared.setup.Setup.{Setup}
 use Rattle.rt_world.specs.declared.event.Event.{Event}
-use Rattle.rt_world.specs.declared.outcome.Outcome.{Outcome}
 use Rattle.rt_world.specs.declared.state.State.{State}
 use Rattle.rt_world.specs.Due.{Due, due_of}
-use Rattle.rt_world.specs.RightAnswer.{IsRightAfter, IsRightOutcome}
+use Rattle.rt_world.specs.RightAnswer.{IsRightAfter}
 use Rattle.rt_world.specs.Run.{IsSafeRun, then_all}
-use Rattle.rt_world.specs.Safe.{IsSafe, IsSafeAfter}
-use Rattle.rt_world.specs.Step.{Given, step, given_by, after, start}
+use Rattle.rt_world.specs.Safe.{IsSafe, IsSetup}
+use Rattle.rt_world.specs.Step.{given_by, after, start}
 use Rattle.rt_world.proofs.Keeps.{Safe_after, Safe_start, right_after}
 
 pub right_given : (w : State) (event : Event) (due : Due) → IsSafe w → IsRightAfter (given_by due (after w event))
@@ -29,5 +28,5 @@ safe_runs (event ∷ events) w s = (
   all_given w event (due_of w event) (IsSafeRun events) s refl (safe_runs events),
 )
 
-pub safe_from_start : (setup : Setup) (events : List Event) → IsSafeRun events (start setup)
-safe_from_start setup events = safe_runs events (start setup) (Safe_start setup)
+pub safe_from_start : (setup : Setup) (events : List Event) → IsSetup setup → IsSafeRun events (start setup)
+safe_from_start setup events k = safe_runs events (start setup) (Safe_start setup k)

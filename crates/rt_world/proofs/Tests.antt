@@ -1,18 +1,16 @@
 -- What tests tell.
-use Rattle.std.proofs.Common.{◌≡◌, ◌+◌, ◌<◌, ◌≤◌, ℕ, Bool, true, false, ◌&&◌, if◌then◌else◌, List, [], length, get_or, Ok, Err, refl, sym, ◌∙◌, ap, subst, arith, rules}
+use Rattle.std.proofs.Common.{◌≡◌, ◌+◌, ◌<◌, ◌≤◌, ℕ, Bool, true, false, ◌&&◌, if◌then◌else◌, List, [], length, get_or, Ok, Err, refl, sym, ap, subst, arith, rules}
 use Rattle.std.proofs.lemmas.Bool.{ltb-true, leb-true, eqb-true}
 use Rattle.rt_base.specs.declared.numbers.Instance.{Instance}
 use Rattle.rt_base.specs.declared.numbers.Partition.{Partition}
 use Rattle.rt_base.specs.declared.numbers.Sequence.{Sequence}
 use Rattle.rt_world.specs.declared.event.Event.{Event}
 use Rattle.rt_world.specs.declared.event.Event.TheVariants.{Produce, Consume, Query}
-use Rattle.rt_world.specs.declared.outcome.Outcome.{Outcome}
 use Rattle.rt_world.specs.declared.refusal.Refusal.{Refusal}
 use Rattle.rt_world.specs.declared.refusal.Refusal.TheVariants.{NoSuchMessage, NoSuchNode, NodeDown, NothingToDo, Limit, Memory}
-use Rattle.rt_world.specs.declared.replica.Replica.{Replica}
 use Rattle.rt_world.specs.declared.state.State.{State}
-use Rattle.rt_world.specs.Due.{Due, room_for, produce_due, consume_due, due_of, events_limit, is_of}
-use Rattle.rt_world.specs.Held.{messages_of}
+use Rattle.rt_world.specs.Due.{Due, room_for, produce_due, consume_due, due_of, events_limit, message_limit}
+use Rattle.rt_stream.specs.Log.{messages_of}
 use Rattle.rt_world.specs.Kept.{Kept}
 use Rattle.rt_world.specs.Safe.{IsSafe}
 use Rattle.rt_world.specs.Step.{Steps, step, given_by, after}
@@ -30,16 +28,16 @@ room_true n w h = leb-true _ _ (if_due _ (Ok tt) _ h).0
 
 pub produce_within :
     (w : State) (p : Partition) (m : List ℕ) →
-    produce_due w p m ≡ Ok tt → (p.0 < length w.log) × (w.events + 1 ≤ events_limit)
+    produce_due w p m ≡ Ok tt → (p.0 < w.setup.partitions) × (length m ≤ message_limit) × (w.events + 1 ≤ events_limit)
 produce_within w p m h =
     let node = if_due _ _ _ h in
     let size = if_due _ _ _ node.1 in
-    (ltb-true _ _ node.0, room_true 1 w size.1)
+    (ltb-true _ _ node.0, leb-true _ _ size.0, room_true 1 w size.1)
 
 pub consume_within :
     (w : State) (i : Instance) (p : Partition) (q : Sequence) (max : ℕ) →
     consume_due w i p q max ≡ Ok tt →
-    (p.0 < length w.log) × (w.replica.partition.0 ≡ p.0) × (w.events + 1 ≤ events_limit)
+    (p.0 < w.setup.partitions) × (w.replica.partition.0 ≡ p.0) × (w.events + 1 ≤ events_limit)
 consume_within w i p q max h =
     let node = if_due _ _ _ h in
     let due = if_due _ _ _ node.1 in
@@ -81,6 +79,14 @@ steps_refused w event NodeDown s h = (s, refused_step w.state event NodeDown (sy
 steps_refused w event NothingToDo s h = (s, refused_step w.state event NothingToDo (sym h), refl)
 steps_refused w event (Limit which) s h = (s, refused_step w.state event (Limit which) (sym h), refl)
 
+-- what a message needs of a safe world
+pub produce_room :
+    (w : State) (p : Partition) (m : List ℕ) →
+    IsSafe w → produce_due w p m ≡ Ok tt → (p.0 < length w.log) × (length m ≤ message_limit) × (w.events ≤ events_limit)
+produce_room w p m s due =
+    let within = produce_within w p m due in
+    (omega (arith, within.0, s.partitions), within.1, s.counted)
+
 -- what a batch needs of a safe world
 pub consume_room :
     (w : State) (i : Instance) (p : Partition) (q : Sequence) (max : ℕ) →
@@ -89,7 +95,7 @@ pub consume_room :
     × (length w.replica.held ≤ w.setup.table.rows)
 consume_room w i p q max s due =
     let within = consume_within w i p q max due in (
-      within.0,
+      omega (arith, within.0, s.partitions),
       s.counted,
       subst (λ n. w.replica.cur.0 ≤ length (get_or w.log n [])) within.1 s.held.within,
       s.limited,

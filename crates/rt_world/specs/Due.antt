@@ -56,7 +56,7 @@ room_for count w = if nat_le (w.events + count) events_limit then Ok tt else Err
 
 abbrev pub produce_due : State → Partition → List ℕ → Due
 produce_due w partition message =
-    if nat_lt partition.0 (length w.log)
+    if nat_lt partition.0 w.setup.partitions
     then (if nat_le (length message) message_limit then room_for 1 w else Err (Limit Message))
     else Err NoSuchNode
 
@@ -78,7 +78,7 @@ is_of r instance partition sequence =
 
 abbrev pub consume_due : State → Instance → Partition → Sequence → ℕ → Due
 consume_due w instance partition sequence max =
-    if nat_lt instance.0 w.setup.servers && nat_lt partition.0 (length w.log)
+    if nat_lt instance.0 w.setup.servers && nat_lt partition.0 w.setup.partitions
     then
     (if is_of w.replica instance partition sequence && (is_consuming w.replica.state && nat_lt 0 max)
     then room_for 1 w

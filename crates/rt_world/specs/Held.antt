@@ -1,12 +1,7 @@
 -- What a replica holds: the stream's messages from its start, each with its offset.
-use Rattle.std.specs.Prelude.{◌≡◌, ◌+◌, ◌-◌, ◌≤◌, ℕ, List, [], ◌∷◌, length, take, drop, slice_index_or}
-use Rattle.rt_base.specs.declared.numbers.Partition.{Partition}
+use Rattle.std.specs.Prelude.{◌≡◌, ◌+◌, ◌-◌, ◌≤◌, ℕ, List, [], ◌∷◌, length, take, drop}
 use Rattle.rt_world.specs.declared.replica.Placed.{Placed}
 use Rattle.rt_world.specs.declared.replica.Replica.{Replica}
-
--- the messages of a partition
-abbrev pub messages_of : List (List (List ℕ)) → Partition → List (List ℕ)
-messages_of log partition = slice_index_or log partition.0 []
 
 -- the messages of a partition from one offset up to another
 abbrev pub messages_between : List (List ℕ) → ℕ → ℕ → List (List ℕ)

@@ -1,14 +1,14 @@
 -- When an answer is right: it counts each row of the ranges that it names once, and misses nothing that it could have.
-use Rattle.std.specs.Prelude.{◌≡◌, ◌+◌, ◌-◌, ◌<◌, ◌≤◌, ℕ, List, [], ◌∷◌, ◌++◌, length, pos, All, Ok, Err}
+use Rattle.std.specs.Prelude.{◌≡◌, ◌<◌, ◌≤◌, ℕ, List, [], ◌∷◌, ◌++◌, length, pos, All, Ok, Err}
 use Rattle.rt_base.specs.declared.numbers.Partition.{Partition}
 use Rattle.rt_base.specs.declared.range.Range.{Range}
 use Rattle.rt_model.specs.declared.answer.Answer.{Answer}
-use Rattle.rt_model.specs.declared.answer.Cell.{Cell}
 use Rattle.rt_model.specs.declared.answer.Cell.TheVariants.{Whole}
 use Rattle.rt_world.specs.declared.outcome.Outcome.{Outcome}
 use Rattle.rt_world.specs.declared.outcome.Outcome.TheVariants.{Produced, Consumed, Answered}
 use Rattle.rt_world.specs.declared.state.State.{State}
-use Rattle.rt_world.specs.Held.{messages_of, messages_between}
+use Rattle.rt_stream.specs.Log.{messages_of}
+use Rattle.rt_world.specs.Held.{messages_between}
 use Rattle.rt_world.specs.Step.{Given}
 
 -- a named range isn't empty and lies within its partition's log

@@ -1,9 +1,9 @@
 -- What is true of every world.
-use Rattle.std.specs.Prelude.{◌≡◌, ◌<◌, ◌≤◌, ℕ, Bool, true, false, List, length, Ok, Err}
+use Rattle.std.specs.Prelude.{◌≡◌, ◌<◌, ◌≤◌, false, length, Ok, Err}
 use Rattle.rt_model.specs.declared.setup.Setup.{Setup}
-use Rattle.rt_model.specs.declared.replica_state.ReplicaState.{ReplicaState}
 use Rattle.rt_world.specs.declared.state.State.{State}
-use Rattle.rt_world.specs.Held.{IsHeld, messages_of}
+use Rattle.rt_stream.specs.Log.{messages_of}
+use Rattle.rt_world.specs.Held.{IsHeld}
 use Rattle.rt_world.specs.Kept.{Kept}
 use Rattle.rt_world.specs.Due.{events_limit}
 use Rattle.rt_world.specs.Step.{Given}
@@ -17,7 +17,8 @@ pub record IsSetup (setup : Setup) : Type 0 where
   pub rows : 0 < setup.table.rows
 
 pub record IsSafe (w : State) : Type 0 where
-  -- the replica's partition is in the log
+  -- the log has the partitions of the setup, among them the replica's
+  pub partitions : length w.log ≡ w.setup.partitions
   pub logged : w.replica.partition.0 < length w.log
   -- what the replica holds is the stream's, from its start up to `cur`
   pub held : IsHeld (messages_of w.log w.replica.partition) w.replica

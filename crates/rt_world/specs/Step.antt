@@ -1,27 +1,5 @@
 -- What each event makes of a world, and what comes of it.
-use Rattle.std.specs.Prelude.{
-  ◌≡◌,
-  ◌+◌,
-  ◌-◌,
-  ℕ,
-  Bool,
-  true,
-  false,
-  if◌then◌else◌,
-  ◌==◌,
-  nat_le,
-  min,
-  List,
-  [],
-  ◌∷◌,
-  ◌++◌,
-  length,
-  slice_set,
-  Result,
-  Ok,
-  Err,
-  pos,
-}
+use Rattle.std.specs.Prelude.{◌≡◌, ◌+◌, ◌-◌, ℕ, true, false, if◌then◌else◌, ◌==◌, nat_le, min, List, [], ◌∷◌, ◌++◌, length, replicate, Result, Ok, Err, pos}
 use Rattle.rt_base.specs.declared.numbers.Partition.{Partition}
 use Rattle.rt_base.specs.declared.range.Range.{Range}
 use Rattle.rt_model.specs.declared.answer.Answer.{Answer}
@@ -38,7 +16,8 @@ use Rattle.rt_world.specs.declared.refusal.Refusal.TheVariants.{NoSuchMessage, N
 use Rattle.rt_world.specs.declared.replica.Replica.{Replica}
 use Rattle.rt_world.specs.declared.state.State.{State}
 use Rattle.rt_world.specs.Due.{Due, due_of}
-use Rattle.rt_world.specs.Held.{messages_of, messages_between, placed_from}
+use Rattle.rt_stream.specs.Log.{messages_of, with_message}
+use Rattle.rt_world.specs.Held.{messages_between, placed_from}
 use Rattle.rt_world.specs.Kept.{Kept}
 
 -- the first world of a setup
@@ -55,13 +34,13 @@ first_replica =
     }
 
 abbrev pub start : Setup → State
-start setup = record { setup = setup; log = [] ∷ []; replica = first_replica; events = 0 }
+start setup = record { setup = setup; log = replicate setup.partitions []; replica = first_replica; events = 0 }
 
 -- a message comes to the end of its partition
 abbrev pub produced : State → Partition → List ℕ → State × Outcome
 produced w partition message =
     let messages = messages_of w.log partition in (
-      record w { log = slice_set w.log partition.0 (messages ++ message ∷ []); events = w.events + 1 },
+      record w { log = with_message w.log partition message; events = w.events + 1 },
       Produced (record { 0 = length messages }),
     )
 

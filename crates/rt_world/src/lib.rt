@@ -10,6 +10,8 @@ mod outcome;
 mod refusal;
 mod replica;
 mod state;
+#[cfg(test)]
+mod tests;
 mod world;
 
 pub use event::Event;

@@ -1,11 +1,13 @@
 ghost use Rattle.std.specs.Prelude.{◌≡◌, ◌+◌, ◌^◌, ◌<◌, ◌++◌, ◌↔◌, ◌≤◌, IfOk, IsTrue, OnOk, length, true};
 ghost use Rattle.rt_world.specs.Due.{is_of, is_consuming};
-ghost use Rattle.rt_world.specs.Held.{placed_from};
+ghost use Rattle.rt_stream.specs.Log.{messages_of};
+ghost use Rattle.rt_world.specs.Held.{messages_between, placed_from};
 ghost use Rattle.rt_world.specs.Step.{batch, took, count_of, first_replica};
 
 use rt_base::{Instance, Offset, Partition, Range, Sequence};
 use rt_lists::{Bytes, Items};
 use rt_model::{Answer, Cell, ReplicaState, ResultRow};
+use rt_stream::StreamLog;
 use std::alloc::{AllocError, Global};
 
 /// A message with its offset.
@@ -60,26 +62,30 @@ impl Replica {
         matches!(self.state, ReplicaState::InitialConsuming)
     }
 
-    #[tactic(auto, using(crate::proofs::Places::limited_took))]
     /// Takes messages of its partition, from `cur` on: at most `max`, and no more rows than the limit.
+    #[tactic(auto, using(crate::proofs::Places::limited_took))]
     pub fn take(
         &mut self,
         alloc: Global,
         limit: u32,
         max: u32,
-        messages: &[Bytes],
+        log: &StreamLog,
+        partition: Partition,
     ) -> Result<(), AllocError>
-        requires within { self.old.cur.0 ≤ length messages.now }
+        requires partition { partition.0 < length log.now }
+        requires within { self.old.cur.0 ≤ length (messages_of log.now partition) }
         requires limited { length self.old.held ≤ limit }
-        ensures took { OnOk result (self.new ≡ took limit (batch limit max self.old messages.now) self.old messages.now) }
+        ensures took { let messages = messages_of log.now partition in
+            OnOk result (self.new ≡ took limit (batch limit max self.old messages) self.old messages) }
         ensures limited { OnOk result (length self.new.held ≤ limit) }
     {
-        let cur = self.cur.0 as usize;
-        let rows = self.held.len();
-        let count = (max as usize).min((messages.len() - cur).min(limit as usize - rows));
-        place(alloc, &mut self.held, self.cur, &messages[cur..cur + count])?;
-        self.cur = Offset(self.cur.0 + count as u64);
-        self.state = if limit as usize <= rows + count {
+        let rows = self.held.len() as u64;
+        let there = log.size(partition).0 - self.cur.0;
+        let count = u64::from(max).min(there.min(u64::from(limit) - rows));
+        let end = Offset(self.cur.0 + count);
+        place(alloc, &mut self.held, log, partition, self.cur, end)?;
+        self.cur = end;
+        self.state = if u64::from(limit) <= rows + count {
             ReplicaState::Holding
         } else {
             ReplicaState::InitialConsuming
@@ -113,23 +119,25 @@ impl Replica {
     }
 }
 
-/// Adds messages to those that are held, each with its offset, from a first one on.
+/// Adds the messages of a range of offsets to those that are held.
 #[tactic(auto, using(crate::proofs::Places::placed_next))]
 fn place(
     alloc: Global,
     held: &mut Items<Placed>,
-    first: Offset,
-    messages: &[Bytes],
+    log: &StreamLog,
+    partition: Partition,
+    start: Offset,
+    end: Offset,
 ) -> Result<(), AllocError>
-    requires { first.0 + length messages.now < 2 ^ 64 }
-    ensures { OnOk result (held.new ≡ held.old ++ placed_from first.0 messages.now) }
+    requires partition { partition.0 < length log.now }
+    requires ordered { start.0 ≤ end.0 }
+    requires within { end.0 ≤ length (messages_of log.now partition) }
+    ensures { OnOk result (held.new ≡ held.old ++ placed_from start.0 (messages_between (messages_of log.now partition) start.0 end.0)) }
 {
-    for (i, message) in messages.iter().enumerate() {
-        let offset = Offset(first.0 + i as u64);
-        held.push(Placed {
-            offset,
-            message: message.copy(alloc)?,
-        })?;
+    for offset in start.0..end.0 {
+        let offset = Offset(offset);
+        let message = Bytes::copied_from(alloc, log.message(partition, offset))?;
+        held.push(Placed { offset, message })?;
     }
     Ok(())
 }

@@ -1,20 +1,18 @@
 ghost use Rattle.std.specs.Prelude.{◌≡◌, ◌+◌, ◌≤◌, ◌<◌, IfOk, length};
 ghost use Rattle.rt_world.specs.Due.{due_of, produce_due, consume_due, room_for, events_limit};
-ghost use Rattle.rt_world.specs.Held.{messages_of};
+ghost use Rattle.rt_stream.specs.Log.{messages_of};
 ghost use Rattle.rt_world.specs.Safe.{IsSafe};
 ghost use Rattle.rt_world.specs.Step.{after, start, produced, consumed, counted};
 
 use crate::{Event, Outcome, Refusal, Replica};
 use rt_base::{Instance, Offset, Partition, Sequence, Which};
-use rt_lists::{Bytes, Items};
+use rt_lists::Bytes;
 use rt_model::Setup;
+use rt_stream::{MESSAGE_LIMIT, StreamLog};
 use std::alloc::{AllocError, Global};
 
 /// The most events of a run.
 const EVENTS_LIMIT: u64 = 4_000_000;
-
-/// The most bytes of a message.
-const MESSAGE_LIMIT: usize = 65_536;
 
 /// The events that a query stands for: it is asked, routed, read and answered.
 const QUERY_EVENTS: u64 = 4;
@@ -24,7 +22,7 @@ const QUERY_EVENTS: u64 = 4;
 pub struct State {
     pub setup: Setup,
     /// The stream: for each partition, its messages.
-    pub log: Items<Items<Bytes>>,
+    pub log: StreamLog,
     /// The one consumer.
     pub replica: Replica,
     /// The number of events so far.
@@ -36,8 +34,7 @@ impl State {
     pub fn start(alloc: Global, setup: Setup) -> Result<State, AllocError>
         ensures { IfOk result (λ w. w ≡ start setup) }
     {
-        let mut log = Items::new(alloc);
-        log.push(Items::new(alloc))?;
+        let log = StreamLog::make(alloc, setup.partitions)?;
         Ok(State {
             setup,
             log,
@@ -79,7 +76,7 @@ impl State {
         requires { self.now.events ≤ events_limit }
         ensures { result ≡ produce_due self.now partition message.now }
     {
-        if partition.0 as usize >= self.log.len() {
+        if partition.0 >= self.setup.partitions {
             return Err(Refusal::NoSuchNode);
         }
         if message.len() > MESSAGE_LIMIT {
@@ -98,7 +95,7 @@ impl State {
         requires { self.now.events ≤ events_limit }
         ensures { result ≡ consume_due self.now instance partition sequence max }
     {
-        if instance.0 >= self.setup.servers || partition.0 as usize >= self.log.len() {
+        if instance.0 >= self.setup.servers || partition.0 >= self.setup.partitions {
             return Err(Refusal::NoSuchNode);
         }
         let due = self.replica.is_of(instance, partition, sequence)
@@ -111,7 +108,7 @@ impl State {
     }
 
     /// Has an event happen that is due, and says what comes of it.
-    #[tactic(auto, using(crate::proofs::Tests::produce_within, crate::proofs::Tests::consume_room, crate::proofs::Tests::room_true))]
+    #[tactic(auto, using(crate::proofs::Tests::produce_room, crate::proofs::Tests::consume_room, crate::proofs::Tests::room_true))]
     pub fn happen(&mut self, alloc: Global, event: &Event) -> Result<Outcome, AllocError>
         requires safe { IsSafe self.old }
         requires due { due_of self.old event.now ≡ Ok tt }
@@ -137,15 +134,17 @@ impl State {
         message: &Bytes,
     ) -> Result<Outcome, AllocError>
         requires partition { partition.0 < length self.old.log }
+        requires short { length message.now ≤ MESSAGE_LIMIT }
         requires counted { self.old.events ≤ events_limit }
         ensures { IfOk result (λ outcome. (self.new, outcome) ≡ produced self.old partition message.now) }
     {
-        let copy = message.copy(alloc)?;
-        let messages = self.log.at_mut(partition.0 as usize);
-        let offset = messages.len() as u64;
-        messages.push(copy)?;
-        self.events += 1;
-        Ok(Outcome::Produced(Offset(offset)))
+        match self.log.append(alloc, partition, message.as_slice()) {
+            Ok(offset) => {
+                self.events += 1;
+                Ok(Outcome::Produced(offset))
+            }
+            Err(_) => Err(AllocError),
+        }
     }
 
     /// Has the replica take a batch of messages.
@@ -161,9 +160,8 @@ impl State {
         requires limited { length self.old.replica.held ≤ self.old.setup.table.rows }
         ensures { IfOk result (λ outcome. (self.new, outcome) ≡ consumed self.old partition max) }
     {
-        let messages = &self.log.as_slice()[partition.0 as usize];
         self.replica
-            .take(alloc, self.setup.table.rows, max, messages.as_slice())?;
+            .take(alloc, self.setup.table.rows, max, &self.log, partition)?;
         self.events += 1;
         Ok(Outcome::Consumed {
             cur: self.replica.cur,

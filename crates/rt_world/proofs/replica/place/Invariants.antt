@@ -1,6 +1,9 @@
-use Rattle.std.proofs.Common.{◌≡◌, ◌++◌, take}
-use Rattle.rt_world.specs.Held.{placed_from}
+use Rattle.std.proofs.Common.{◌≡◌, ◌++◌}
+use Rattle.rt_stream.specs.Log.{messages_of}
+use Rattle.rt_world.specs.Held.{messages_between, placed_from}
 use Rattle.rt_world.proofs.replica.place.Given as goal
 
-abbrev pub invariant-loop-i : goal.invariant-loop-i
-invariant-loop-i l = l.held ≡ l.initial.held ++ placed_from l.first.0 (take l.i l.messages)
+-- what was added so far
+abbrev pub invariant-loop-offset : goal.invariant-loop-offset
+invariant-loop-offset l =
+    l.held ≡ l.initial.held ++ placed_from l.fn.start.0 (messages_between (messages_of l.log l.partition) l.fn.start.0 l.offset)
