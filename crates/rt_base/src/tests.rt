@@ -72,13 +72,18 @@ fn pass_all(gate: &impl Gate) {
     gate.pass(NodeId::Producer, 4);
 }
 
+fn share(clock: &(impl Clock + Send + Sync), gate: &(impl Gate + Send + Sync)) -> Moment {
+    pass_all(gate);
+    clock.now()
+}
+
 #[test]
 fn a_clock_steps_and_a_gate_stands_open(rt: HostRuntime) {
     let clock = StepClock::make();
     for milliseconds in 0..3 {
         assert_eq!(rt; clock.now(), Moment(milliseconds));
     }
-    pass_all(&OpenGate);
+    assert_eq!(rt; share(&clock, &OpenGate), Moment(3));
 }
 
 #[test]
