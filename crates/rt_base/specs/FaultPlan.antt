@@ -1,7 +1,22 @@
-use Rattle.std.specs.Prelude.{ℕ, ◌+◌, Bool, true, false, List, Option, Some, None, nat_lt, ◌==◌, if◌then◌else◌, count_by}
+use Rattle.std.specs.Prelude.{
+  ℕ,
+  ◌+◌,
+  Bool,
+  true,
+  false,
+  List,
+  Option,
+  Some,
+  None,
+  nat_lt,
+  ◌==◌,
+  if◌then◌else◌,
+  count_by,
+}
 use Rattle.std.specs.List.{list_any}
 
--- which calls fail, by their numbers from 0, and the number of the next call: none once each number of 64 bits was used
+-- which calls fail, by their numbers from 0, and the number of the next call: none once each number
+-- of 64 bits was used
 pub record Plan : Type 0 where
   pub fails : List ℕ
   pub next : Option ℕ

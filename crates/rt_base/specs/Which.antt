@@ -1,6 +1,19 @@
 use Rattle.std.specs.Prelude.{ℕ, List, codes}
 use Rattle.rt_base.specs.declared.which.Which.{Which}
-use Rattle.rt_base.specs.declared.which.Which.TheVariants.{Input, Partitions, Servers, Controllers, Replication, Message, Events, Sent, Queries, Stored, Moment, Rows}
+use Rattle.rt_base.specs.declared.which.Which.TheVariants.{
+  Input,
+  Partitions,
+  Servers,
+  Controllers,
+  Replication,
+  Message,
+  Events,
+  Sent,
+  Queries,
+  Stored,
+  Moment,
+  Rows,
+}
 
 -- the name of a limit, as a refusal prints it
 abbrev pub name_of : Which → List ℕ

@@ -24,7 +24,8 @@ impl Model for MemorySink {
 
     ghost Value = { SinkTold };
 
-    ghost view = { λ s. record { taken = s.bytes.items; room = s.room; plan = s.plan; full = s.full } };
+    ghost view = { λ s.
+        record { taken = s.bytes.items; room = s.room; plan = s.plan; full = s.full } };
 
     ghost invariant = { λ s. (vec_len s.bytes ≤ s.room) × (s.room ≤ vec_capacity s.bytes) };
 }
@@ -32,7 +33,8 @@ impl Model for MemorySink {
 impl MemorySink {
     /// A sink of this many bytes that fails the calls whose numbers, from 0, stand in `fails`.
     pub fn make(alloc: Global, room: u64, fails: Vec<u64>) -> Result<MemorySink, AllocError>
-        ensures { IfOk result (λ sink. sink ≡ record { taken = []; room = room; plan = planned fails.items; full = 0 }) }
+        ensures { IfOk result (λ sink.
+            sink ≡ record { taken = []; room = room; plan = planned fails.items; full = 0 }) }
     {
         let room = room as usize;
         let bytes = Vec::with_capacity(alloc, room)?;
@@ -51,6 +53,7 @@ impl MemorySink {
         self.bytes.as_slice()
     }
 
+    /// Takes what still fits, where the call is none that fails.
     fn take_in(&mut self, piece: &[u8]) -> Result<usize, Failed>
         ensures answer { result ≡ write_answer self.old (length piece.now) }
         ensures after { self.new ≡ after_write self.old piece.now }

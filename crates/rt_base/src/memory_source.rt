@@ -38,6 +38,7 @@ impl MemorySource {
         }
     }
 
+    /// Gives what fits the piece, where the call is none that fails.
     fn give(&mut self, into: &mut [u8]) -> Result<usize, Failed>
         ensures answer { result ≡ read_answer self.old (length into.old) }
         ensures after { self.new ≡ after_read self.old (length into.old) }

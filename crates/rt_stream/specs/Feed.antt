@@ -13,7 +13,8 @@ pub record FeedMeaning : Type 0 where
 -- a log has the messages of an earlier one, and maybe more behind them in each partition
 pub record Grows (old new : Log) : Type 0 where
   pub partitions : length new ≡ length old
-  pub messages : (partition : Partition) → (more : List (List ℕ)) × (messages_of new partition ≡ messages_of old partition ++ more)
+  pub messages : (partition : Partition) →
+      (more : List (List ℕ)) × (messages_of new partition ≡ messages_of old partition ++ more)
 
 -- the log that a call answers by, which its caller has then seen: the whole log, where that is told
 abbrev pub Sees : Option Log → FeedMeaning → Type 0
@@ -28,13 +29,15 @@ answered (Err (PastEnd from length)) wanted = wanted ≡ Err (PastEnd from lengt
 answered (Ok x) wanted = wanted ≡ Ok x
 
 -- a fetch answers by the log as it stands after the call
-pub record Fetches (old new : FeedMeaning) (partition : Partition) (from : Offset) (max : ℕ) (result : Result (List (List ℕ)) FeedRefused) : Type 0 where
+pub record Fetches (old new : FeedMeaning) (partition : Partition) (from : Offset) (max : ℕ)
+    (result : Result (List (List ℕ)) FeedRefused) : Type 0 where
   pub sees : Sees old.told new
   pub grows : Grows old.seen new.seen
   pub answer : answered result (fetched new.seen partition from max)
 
 -- and so does a look at the length, which takes no memory
-pub record Measures (old new : FeedMeaning) (partition : Partition) (result : Result Offset FeedRefused) : Type 0 where
+pub record Measures (old new : FeedMeaning) (partition : Partition)
+    (result : Result Offset FeedRefused) : Type 0 where
   pub sees : Sees old.told new
   pub grows : Grows old.seen new.seen
   pub answer : result ≡ measured new.seen partition

@@ -29,7 +29,8 @@ impl Model for PartitionLog {
 
     ghost view = { λ p. flat_map (λ page. page) p.full.items ++ p.last };
 
-    ghost invariant = { λ p. AreFull p.full.items × (length p.last ≤ 256) × (vec_len p.full ≤ 18014398509481984) };
+    ghost invariant = { λ p.
+        AreFull p.full.items × (length p.last ≤ 256) × (vec_len p.full ≤ 18014398509481984) };
 }
 
 impl PartitionLog {

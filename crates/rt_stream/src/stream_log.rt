@@ -71,12 +71,11 @@ impl StreamLog {
     {
         self.partitions[partition.0 as usize].get(offset.0)
     }
-}
 
-impl StreamLog {
     /// The messages of a partition, where there is one of this number.
     fn log_of(&self, partition: Partition) -> Option<&PartitionLog>
-        ensures some { IfSome result (λ log. (partition.0 < length self.now) × (log.now ≡ messages_of self.now partition)) }
+        ensures some { IfSome result (λ log.
+            (partition.0 < length self.now) × (log.now ≡ messages_of self.now partition)) }
         ensures none { IfNone result (length self.now ≤ partition.0) }
     {
         self.partitions.get(partition.0 as usize)

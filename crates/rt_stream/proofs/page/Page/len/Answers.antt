@@ -4,4 +4,5 @@ use Rattle.rt_stream.proofs.page.Page.len.Goals as goal
 
 pub returns : goal.returns
 returns c =
-    c.len.ensures ∙ c.self.inside.ends.ok.0 ∙ sym (length_cut 0 c.self.inside.ends.items c.self.inside.bytes.items) ∙ ap length c.self.view_is
+    c.len.ensures ∙ c.self.inside.ends.ok.0 ∙ sym
+    (length_cut 0 c.self.inside.ends.items c.self.inside.bytes.items) ∙ ap length c.self.view_is
