@@ -1,0 +1,6 @@
+pub mod Field
+pub mod Json
+pub mod Row
+pub mod Schema
+pub mod SchemaText
+pub mod Value

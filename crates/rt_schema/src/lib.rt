@@ -2,13 +2,22 @@
 #![tactic(auto)]
 
 mod column;
+mod field;
+mod field_reader;
+mod json;
 mod row;
+mod row_reader;
 mod schema;
+mod schema_reader;
+mod schema_refused;
 mod table;
 mod value;
 
 pub use column::{Column, Kind, Role};
 pub use row::Row;
+pub use row_reader::read_row;
 pub use schema::Schema;
+pub use schema_reader::read_schema;
+pub use schema_refused::SchemaRefused;
 pub use table::Table;
 pub use value::Value;

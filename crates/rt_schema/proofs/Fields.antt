@@ -1,0 +1,23 @@
+-- The fields in an array.
+use Rattle.std.proofs.Common.{◌≡◌, List, [], ◌∷◌, ◌++◌, Option, Some, option_map, option_and_then, Vec, Global, refl, sym, ap, ◌∙◌}
+use Rattle.serde_json.specs.Data.{Data}
+use Rattle.serde_json.specs.View.{view, items_view}
+use Rattle.serde_json.specs.declared.value.Value.{Value, Array}
+use Rattle.serde_json.proofs.Views.{view-Array}
+use Rattle.rt_schema.specs.Json.{map_all, items_of}
+use Rattle.rt_schema.specs.Field.{field_of, fields_after}
+use Rattle.rt_schema.specs.declared.column.Role.{Role}
+use Rattle.rt_schema.specs.declared.field.Field.{Field}
+
+-- the items of a viewed list, under a function
+pub map_all_items : {B : Type 0} (f : Data → Option B) (vs : List Value) → map_all (λ v. f (view v)) vs ≡ map_all f (items_of (items_view vs))
+map_all_items f [] = refl
+map_all_items f (v ∷ vs) = ap (λ rest. option_and_then (λ y. option_map (λ ys. y ∷ ys) rest) (f (view v))) (map_all_items f vs)
+
+-- the fields of an array that was found
+pub fields_after_array : (role : Role) (found : Option Data) (value : Value) (v : Vec Value Global) (items : List Value) (before : List Field)
+    → Some (view value) ≡ found → value ≡ Array v → items ≡ v.items → option_map (λ later. before ++ later) (map_all (λ item. field_of role (view item)) items) ≡ fields_after role found before
+fields_after_array role found value v items before is array same =
+    ap (λ xs. option_map (λ later. before ++ later) (map_all (λ item. field_of role (view item)) xs)) same
+    ∙ ap (option_map (λ later. before ++ later)) (map_all_items (field_of role) v.items)
+    ∙ ap (λ d. fields_after role d before) (sym (ap Some (view-Array v)) ∙ sym (ap (λ x. Some (view x)) array) ∙ is)

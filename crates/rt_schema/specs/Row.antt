@@ -1,0 +1,28 @@
+-- The row of a message, and the rows of a range of a log.
+use Rattle.std.specs.Prelude.{ℕ, List, Option, None, option_map, option_and_then, if◌then◌else◌}
+use Rattle.std.specs.Str.{is_utf8}
+use Rattle.serde_json.specs.Data.{Data, null, boolean, number, string, array, object, Members}
+use Rattle.serde_json.specs.Find.{get_member}
+use Rattle.serde_json.specs.Read.{read}
+use Rattle.rt_schema.specs.Json.{map_all}
+use Rattle.rt_schema.specs.Value.{cell_of}
+use Rattle.rt_schema.specs.declared.column.Column.{Column}
+use Rattle.rt_schema.specs.declared.schema.Schema.{Schema}
+use Rattle.rt_schema.specs.declared.row.Row.{Row}
+use Rattle.rt_schema.specs.declared.value.Value.{Value}
+
+-- the values of the columns in an object, where each column has one
+abbrev pub cells_of : List Column → Members → Option (List Value)
+cells_of columns ms = map_all (λ column. cell_of column (get_member column.name ms)) columns
+
+abbrev pub row_in : List Column → Data → Option Row
+row_in columns (object ms) = option_map (λ vs. record { values = vs }) (cells_of columns ms)
+row_in columns null = None
+row_in columns (boolean b) = None
+row_in columns (number n) = None
+row_in columns (string s) = None
+row_in columns (array ds) = None
+
+-- the row of a message; none where it isn't decodable
+abbrev pub row_of : Schema → List ℕ → Option Row
+row_of schema message = if is_utf8 message then option_and_then (row_in schema.columns) (read message) else None

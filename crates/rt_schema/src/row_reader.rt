@@ -1,0 +1,109 @@
+ghost use Rattle.std.specs.Prelude.{◌≡◌, true, IfOk, option_map};
+ghost use Rattle.serde_json.specs.Data.{object};
+ghost use Rattle.rt_schema.specs.Schema.{names_of, are_distinct, IsSchema};
+ghost use Rattle.serde_json.specs.Find.{as_str};
+ghost use Rattle.serde_json.specs.View.{view, members_view};
+ghost use Rattle.rt_schema.specs.Value.{missing_of, in_32_bits, value_of, cell_of};
+ghost use Rattle.rt_schema.specs.Row.{row_in, row_of};
+
+use crate::{Column, Kind, Role, Row, Schema, Value};
+use rt_lists::{Items, Text};
+use serde_json::{Map, Value as Json};
+use std::alloc::{AllocError, Global};
+
+/// The row of a message. None where the message isn't decodable: it isn't UTF-8, isn't JSON or isn't an
+/// object, or a column's key has a value that is neither null nor of the column's kind. A key that is
+/// absent or null gives the missing value of its kind and role, and other keys are passed over.
+pub fn read_row(alloc: Global, schema: &Schema, message: &[u8]) -> Result<Option<Row>, AllocError>
+    requires { IsSchema schema.now }
+    ensures { IfOk result (λ row. row ≡ row_of schema.now message.now) }
+{
+    match Json::from_slice(alloc, message) {
+        Ok(json) => row_in(alloc, schema.columns.as_slice(), json),
+        Err(error) => if error.is_memory() {
+            Err(AllocError)
+        } else {
+            Ok(None)
+        },
+    }
+}
+
+fn row_in(alloc: Global, columns: &[Column], json: Json) -> Result<Option<Row>, AllocError>
+    requires { are_distinct (names_of columns.now) ≡ true }
+    ensures { IfOk result (λ row. row ≡ row_in columns.now (view json)) }
+{
+    match json {
+        Json::Object(members) => cells(alloc, columns, members),
+        _other => Ok(None),
+    }
+}
+
+// The value of each column, taken out of an object.
+fn cells(
+    alloc: Global,
+    columns: &[Column],
+    mut members: Map<String, Json>,
+) -> Result<Option<Row>, AllocError>
+    requires { are_distinct (names_of columns.now) ≡ true }
+    ensures { IfOk result (λ row. row ≡ row_in columns.now (object (members_view members.entries))) }
+{
+    let mut values = Items::new(alloc);
+    for column in columns {
+        match cell(alloc, column, members.remove(column.name.as_str()))? {
+            Some(value) => values.push(value)?,
+            None => return Ok(None),
+        }
+    }
+    Ok(Some(Row { values }))
+}
+
+fn cell(alloc: Global, column: &Column, found: Option<Json>) -> Result<Option<Value>, AllocError>
+    ensures { IfOk result (λ value. value ≡ cell_of column.now (option_map view found)) }
+{
+    match found {
+        None | Some(Json::Null) => Ok(Some(missing(alloc, column.kind, column.role)?)),
+        Some(json) => Ok(value(column.kind, json)),
+    }
+}
+
+fn missing(alloc: Global, kind: Kind, role: Role) -> Result<Value, AllocError>
+    ensures { IfOk result (λ value. value ≡ missing_of kind role) }
+{
+    match (kind, role) {
+        (Kind::Int, Role::Metric) => Ok(Value::Int(0)),
+        (Kind::Int, _) => Ok(Value::Int(i32::MIN)),
+        (Kind::Long, Role::Metric) => Ok(Value::Long(0)),
+        (Kind::Long, _) => Ok(Value::Long(i64::MIN)),
+        (Kind::Text, _) => Ok(Value::Text(Text::copied_from(alloc, "null")?)),
+        (Kind::Bool, _) => Ok(Value::Bool(false)),
+        (Kind::Time, _) => Ok(Value::Time(0)),
+    }
+}
+
+fn value(kind: Kind, json: Json) -> Option<Value>
+    ensures { result ≡ value_of kind (view json) }
+{
+    match kind {
+        Kind::Int => json.as_i64().and_then(in_32_bits).map(Value::Int),
+        Kind::Long => json.as_i64().map(Value::Long),
+        Kind::Text => text(json).map(Value::Text),
+        Kind::Bool => json.as_bool().map(Value::Bool),
+        Kind::Time => json.as_i64().map(Value::Time),
+    }
+}
+
+// The text is moved out, not copied.
+fn text(json: Json) -> Option<Text>
+    ensures { result ≡ as_str (view json) }
+{
+    match json {
+        Json::String(text) => Some(Text::of(text)),
+        _other => None,
+    }
+}
+
+fn in_32_bits(number: i64) -> Option<i32>
+    ensures { result ≡ in_32_bits number }
+{
+    i32::try_from(number).ok()
+}
