@@ -3,4 +3,6 @@ pub mod Json
 pub mod Row
 pub mod Schema
 pub mod SchemaText
+pub mod Setting
+pub mod TableText
 pub mod Value

@@ -4,13 +4,16 @@
 mod column;
 mod field;
 mod field_reader;
+mod index_config;
 mod json;
 mod row;
 mod row_reader;
 mod schema;
 mod schema_reader;
 mod schema_refused;
+mod setting;
 mod table;
+mod table_reader;
 mod value;
 
 pub use column::{Column, Kind, Role};
@@ -20,4 +23,5 @@ pub use schema::Schema;
 pub use schema_reader::read_schema;
 pub use schema_refused::SchemaRefused;
 pub use table::Table;
+pub use table_reader::read_table;
 pub use value::Value;
