@@ -4,4 +4,7 @@ pub mod Fields
 pub mod Lists
 pub mod Members
 pub mod Names
+pub mod Rows
+pub mod Schemas
 pub mod TableNames
+pub mod Tables

@@ -1,5 +1,5 @@
 -- The table settings that a text has, or the first refusal that applies.
-use Rattle.std.specs.Prelude.{ℕ, ◌-◌, ◌==◌, ◌&&◌, ◌||◌, min, List, [], ◌∷◌, length, filter, take, Bool, true, false, nat_lt, nat_le, nat_eq, codes, Option, Some, None, option_map, option_and_then, Result, Ok, Err, if◌then◌else◌}
+use Rattle.std.specs.Prelude.{◌≡◌, ◌≤◌, ℕ, ◌-◌, ◌==◌, ◌&&◌, ◌||◌, min, List, [], ◌∷◌, length, filter, take, Bool, true, false, nat_lt, nat_le, nat_eq, codes, Option, Some, None, option_map, option_and_then, Result, Ok, Err, if◌then◌else◌}
 use Rattle.std.specs.List.{ends_with}
 use Rattle.std.specs.Str.{bytes_eq}
 use Rattle.serde_json.specs.Data.{Data, null, boolean, number, string, array, object}
@@ -114,3 +114,9 @@ table_in names d =
 -- the table settings of a text
 abbrev pub table_of : Schema → List ℕ → Result Table SchemaRefused
 table_of schema text = where_given NotJson (option_and_then if_object (read text)) (table_in (names_of schema.columns))
+
+-- table settings as `read_table` gives them
+pub record IsTable (table : Table) : Type 0 where
+  pub named : is_table_name table.name ≡ true
+  pub replicated : (1 ≤ table.replication) × (table.replication ≤ 4294967295)
+  pub rows : (1 ≤ table.rows) × (table.rows ≤ 1000000)

@@ -1,10 +1,10 @@
-ghost use Rattle.std.specs.Prelude.{◌≡◌, true, IfOk, option_map};
+ghost use Rattle.std.specs.Prelude.{◌≡◌, true, IfOk, IfSome, option_map};
 ghost use Rattle.serde_json.specs.Data.{object};
 ghost use Rattle.rt_schema.specs.Schema.{names_of, are_distinct, IsSchema};
 ghost use Rattle.serde_json.specs.Find.{as_str};
 ghost use Rattle.serde_json.specs.View.{view, members_view};
 ghost use Rattle.rt_schema.specs.Value.{missing_of, in_32_bits, value_of, cell_of};
-ghost use Rattle.rt_schema.specs.Row.{row_in, row_of};
+ghost use Rattle.rt_schema.specs.Row.{row_in, row_of, IsRowOf};
 
 use crate::{Column, Kind, Role, Row, Schema, Value};
 use rt_lists::{Items, Text};
@@ -16,7 +16,8 @@ use std::alloc::{AllocError, Global};
 /// absent or null gives the missing value of its kind and role, and other keys are passed over.
 pub fn read_row(alloc: Global, schema: &Schema, message: &[u8]) -> Result<Option<Row>, AllocError>
     requires { IsSchema schema.now }
-    ensures { IfOk result (λ row. row ≡ row_of schema.now message.now) }
+    ensures row { IfOk result (λ row. row ≡ row_of schema.now message.now) }
+    ensures kinds { IfOk result (λ row. IfSome row (IsRowOf schema.now)) }
 {
     match Json::from_slice(alloc, message) {
         Ok(json) => row_in(alloc, schema.columns.as_slice(), json),

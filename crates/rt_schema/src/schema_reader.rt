@@ -12,8 +12,18 @@ use rt_lists::{Items, Text};
 use std::alloc::{AllocError, Global};
 use std::collections::BTreeSet;
 
-/// The schema of a JSON text.
+/// The schema of a JSON text: an object with `schemaName` and the fields of `dimensionFieldSpecs`,
+/// `metricFieldSpecs` and `dateTimeFieldSpecs`, in this order. Of the refusals the first that applies is
+/// answered, by their order and not by their places in the text.
+#[tactic(auto, using(crate::proofs::Schemas::answered_is_schema))]
 pub fn read_schema(alloc: Global, text: &str) -> Result<Schema, SchemaRefused>
+    ensures schema { Answers (schema_of text.now) result }
+    ensures taken { IfOk result IsSchema }
+{
+    read_text(alloc, text)
+}
+
+fn read_text(alloc: Global, text: &str) -> Result<Schema, SchemaRefused>
     ensures { Answers (schema_of text.now) result }
 {
     let Some(json) = read_object(alloc, text)? else {

@@ -4,7 +4,7 @@ ghost use Rattle.serde_json.specs.View.{view, items_view};
 ghost use Rattle.rt_schema.specs.Json.{map_all};
 ghost use Rattle.rt_schema.specs.Schema.{names_of, is_among};
 ghost use Rattle.rt_schema.specs.SchemaText.{Answers};
-ghost use Rattle.rt_schema.specs.TableText.{is_section, inside, first_number, replication_of, row_limit, rows_of, millis_of, stream_of, texts_at, all_among, chosen_of, indexed_of, index_of, base_name, are_name_bytes, is_table_name, table_with, table_in, table_of};
+ghost use Rattle.rt_schema.specs.TableText.{is_section, inside, first_number, replication_of, row_limit, rows_of, millis_of, stream_of, texts_at, all_among, chosen_of, indexed_of, index_of, base_name, are_name_bytes, is_table_name, table_with, table_in, table_of, IsTable};
 
 use crate::index_config::{IndexConfig, StreamConfig};
 use crate::json::{is_given, read_object, text_at};
