@@ -14,6 +14,8 @@ mod schema_refused;
 mod setting;
 mod table;
 mod table_reader;
+#[cfg(test)]
+mod tests;
 mod value;
 
 pub use column::{Column, Kind, Role};

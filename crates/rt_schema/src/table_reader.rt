@@ -14,8 +14,16 @@ use rt_lists::{Items, Text};
 use serde_json::Value as Json;
 use std::alloc::{AllocError, Global};
 
-/// The settings of a table in a JSON text, for the columns of a schema.
+/// The settings of a table in a JSON text, for the columns of a schema. Of the refusals the first that
+/// applies is answered, by their order and not by their places in the text.
 pub fn read_table(alloc: Global, text: &str, schema: &Schema) -> Result<Table, SchemaRefused>
+    ensures table { Answers (table_of schema.now text.now) result }
+    ensures limits { IfOk result IsTable }
+{
+    read_text(alloc, text, schema)
+}
+
+fn read_text(alloc: Global, text: &str, schema: &Schema) -> Result<Table, SchemaRefused>
     ensures { Answers (table_of schema.now text.now) result }
 {
     match read_object(alloc, text)? {
