@@ -49,3 +49,10 @@ leading_is count small =
 -- the same, where the number that the zeros are counted of has a name
 pub width_is_least : (count under : ℕ) → count < 2 ^ 32 → under ≡ count - 1 → IsLeast count (32 - leading_zeros w32 under)
 width_is_least count under small same = subst (λ n. IsLeast count (32 - leading_zeros w32 n)) (sym same) (leading_is count small)
+
+-- the width of a count is the least whose ids reach it
+pub width_of_is : (count : ℕ) → count < 2 ^ 32 → IsLeast count (width_of count)
+width_of_is count small = subst (IsLeast count) (width_is count (32 - leading_zeros w32 (count - 1)) (leading_is count small) small) (leading_is count small)
+
+pub width_of_narrow : (count : ℕ) → count < 2 ^ 32 → width_of count ≤ 32
+width_of_narrow count small = (width_of_is count small).least 32 (omega arith)
