@@ -1,0 +1,4 @@
+pub mod InPlace
+pub mod Sorting
+pub mod Marks
+pub mod Scans

@@ -1,0 +1,4 @@
+pub mod Postings
+pub mod DocSet
+pub mod Runs
+pub mod Words
