@@ -3,10 +3,11 @@ use Rattle.std.proofs.Common.{◌≡◌, ℕ, zero, suc, ◌+◌, ◌-◌, ◌<�
 use Rattle.jiff_core.specs.declared.civil.date.Date.{Date}
 use Rattle.jiff_core.specs.Calendar.{days_in_year, days_in_month, days_of_months, day_of_year, day_count, days_from_civil}
 use Rattle.jiff_core.specs.Date.{epoch_day}
-use Rattle.jiff_core.specs.Calendar.{IsCivilDate as CalendarHas}
+use Rattle.jiff_core.specs.Calendar.{IsCivilDate as CalendarHas, IsDate}
+use Rattle.std.specs.Prelude.{◌↔◌}
 use Rattle.std.proofs.lemmas.Bool.{cases_lt}
 use Rattle.jiff_core.proofs.SignedLemmas.{signed_arith}
-use Rattle.jiff_core.proofs.CalendarLemmas.{day_count-epoch, day_count-next_year, day_count-day_of_year, day_count-lt_year, days_from_civil-day_count}
+use Rattle.jiff_core.proofs.CalendarLemmas.{day_count-epoch, day_count-next_year, day_count-day_of_year, day_count-lt_year, day_count_bounds, days_from_civil-day_count}
 use Rattle.rt_names.specs.Calendar.{month_lengths, year_length, days_of_years, CivilDate, IsCivilDate, day_number}
 
 -- a year's first day
@@ -93,3 +94,28 @@ date_of_day_is (pos y) month day n has is = elim (cases_lt y 1970) [
     day_is = omega (arith, signed_arith, is, days_from_civil-day_count (pos y) month day, day_count_is y month day from has.1.0 has.1.1 has.2.0);
   }
 ]
+
+-- what the calendar of the dates has, from 1970 to 9999, is what ours has
+pub same_calendar : (y m d : ℕ) → 1970 ≤ y → y ≤ 9999 → m ≤ 12 → IsDate (pos y) (pos m) (pos d) ↔ IsCivilDate (record { year = y; month = m; day = d })
+same_calendar y m d from to last = (
+  λ is. record {
+    first_year = from;
+    last_year = to;
+    first_month = omega (arith, signed_arith, is.1.0);
+    last_month = last;
+    first_day = omega (arith, signed_arith, is.2.0);
+    last_day = omega (arith, signed_arith, is.2.1, is.1.0, month_length_same y m (omega (arith, signed_arith, is.1.0)) last);
+  },
+  λ has. (
+    (omega (arith, signed_arith), omega (arith, signed_arith)),
+    (omega (arith, signed_arith, has.first_month), omega (arith, signed_arith)),
+    (omega (arith, signed_arith, has.first_day), omega (arith, signed_arith, has.last_day, month_length_same y m has.first_month last)),
+  ),
+)
+
+-- a date of the calendar is one of the days that the last moment allows
+pub day_number_last : (date : CivilDate) → IsCivilDate date → day_number date ≤ 2_932_896
+day_number_last date has =
+    let there : CalendarHas (pos date.year) date.month date.day =
+    ((omega (arith, signed_arith), omega (arith, signed_arith, has.last_year)), (has.first_month, has.last_month), (has.first_day, subst (λ l. date.day ≤ l) (sym (month_length_same date.year date.month has.first_month has.last_month)) has.last_day)) in
+    omega (arith, day_count_bounds (pos date.year) date.month date.day there, day_count_is date.year date.month date.day has.first_year has.first_month has.last_month has.first_day)

@@ -1,5 +1,5 @@
 -- The civil calendar from 1970 to 9999.
-use Rattle.std.specs.Prelude.{ℕ, zero, suc, ◌+◌, ◌-◌, ◌%◌, ◌≤◌, Bool, not, ◌&&◌, ◌||◌, ◌==◌, if◌then◌else◌, List, [], ◌∷◌, sum, take, slice_index}
+use Rattle.std.specs.Prelude.{ℕ, zero, suc, ◌+◌, ◌-◌, ◌%◌, ◌≤◌, Bool, not, ◌&&◌, ◌||◌, ◌==◌, if◌then◌else◌, List, [], ◌∷◌, sum, take, slice_index, nat_lt}
 
 -- Every fourth year, but of the centuries only every fourth.
 abbrev pub is_leap_year : ℕ → Bool
@@ -36,3 +36,19 @@ pub record IsCivilDate (date : CivilDate) : Type 0 where
 -- How many days lie between 1 January 1970 and the date.
 unfoldable pub day_number : CivilDate → ℕ
 day_number date = days_of_years (date.year - 1970) + sum (take (date.month - 1) (month_lengths date.year)) + (date.day - 1)
+
+-- The date so many days after the first of a month, where these are the lengths of that month and of those after it: months are counted off.
+unfoldable pub date_in_months : ℕ → ℕ → List ℕ → ℕ → CivilDate
+date_in_months year month [] days = record { year = year; month = month; day = days + 1 }
+date_in_months year month (length ∷ lengths) days =
+    if nat_lt days length then record { year = year; month = month; day = days + 1 } else date_in_months year (month + 1) lengths (days - length)
+
+-- The date so many days after the first of a year: at most n years are counted off, and then months.
+unfoldable pub date_in_years : ℕ → ℕ → ℕ → CivilDate
+date_in_years zero year days = date_in_months year 1 (month_lengths year) days
+date_in_years (suc n) year days =
+    if nat_lt days (year_length year) then date_in_months year 1 (month_lengths year) days else date_in_years n (year + 1) (days - year_length year)
+
+-- The date so many days after 1 January 1970.
+unfoldable pub date_of_day : ℕ → CivilDate
+date_of_day days = date_in_years days 1970 days

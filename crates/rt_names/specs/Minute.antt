@@ -1,6 +1,6 @@
 -- Minutes of the calendar as texts.
 use Rattle.std.specs.Prelude.{◌≡◌, ℕ, ◌+◌, ◌/◌, ◌%◌, ◌≤◌, List, [], ◌∷◌}
-use Rattle.rt_names.specs.Calendar.{CivilDate, IsCivilDate, day_number}
+use Rattle.rt_names.specs.Calendar.{CivilDate, IsCivilDate, day_number, date_of_day}
 
 -- The last digit of a number.
 abbrev pub digit : ℕ → ℕ
@@ -23,3 +23,13 @@ pub record IsMinuteOf (millis : ℕ) (text : List ℕ) : Type 0 where
   pub exists : IsCivilDate date
   pub day : day_number date ≡ millis / 86_400_000
   pub form : text ≡ minute_form date (millis / 3_600_000 % 24) (millis / 60_000 % 60)
+
+-- The minute in UTC of a moment in milliseconds since 1970.
+unfoldable pub minute_text : ℕ → List ℕ
+minute_text millis = minute_form (date_of_day (millis / 86_400_000)) (millis / 3_600_000 % 24) (millis / 60_000 % 60)
+
+-- Some moment has this minute.
+pub record IsMinute (text : List ℕ) : Type 0 where
+  pub millis : ℕ
+  pub in_range : millis ≤ 253_402_300_799_999
+  pub of_moment : IsMinuteOf millis text

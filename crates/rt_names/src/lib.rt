@@ -6,5 +6,14 @@
 #![tactic(auto)]
 
 mod minute;
+mod name;
+mod numeral;
+mod parts;
+mod pieces;
+mod table;
 
 pub use minute::minute_of;
+pub use name::{NameRefused, SegmentName};
+
+#[cfg(test)]
+mod tests;

@@ -1,12 +1,10 @@
-ghost use Rattle.std.specs.Prelude.{◌≡◌, ℕ, ◌+◌, ◌-◌, ◌/◌, ◌%◌, ◌<◌, ◌≤◌, pos};
+ghost use Rattle.std.specs.Prelude.{◌≡◌, ℕ, ◌+◌, ◌-◌, ◌*◌, ◌/◌, ◌%◌, ◌<◌, ◌≤◌, ◌↔◌, List, length, slice_index, Some, IsTrue, pos};
 ghost use Rattle.jiff.specs.Words.{epoch_day};
-ghost use Rattle.rt_names.specs.Minute.{digit, minute_form, IsMinuteOf};
+ghost use Rattle.rt_names.specs.Calendar.{IsCivilDate};
+ghost use Rattle.rt_names.specs.Minute.{digit, minute_form, minute_text, IsMinute, IsMinuteOf};
 
-use jiff::civil::{Date, date};
 use jiff::ToSpan;
-
-/// The last moment that has a minute: the end of the year 9999, in milliseconds since 1970.
-pub const LAST_MILLIS: u64 = 253_402_300_799_999;
+use jiff::civil::{Date, date};
 
 const MILLIS_PER_DAY: u64 = 86_400_000;
 
@@ -18,7 +16,9 @@ const MILLIS_PER_MINUTE: u64 = 60_000;
 /// beginning of 1970 and no later than the end of the year 9999.
 pub fn minute_of(millis: u64) -> [u8; 14]
     requires { millis ≤ 253_402_300_799_999 }
-    ensures { IsMinuteOf millis result }
+    ensures calendar { IsMinuteOf millis result }
+    ensures text { result ≡ minute_text millis }
+    ensures exists { IsMinute result }
 {
     let date = date_of_day((millis / MILLIS_PER_DAY) as u32);
     let year = date.year() as u32;
@@ -64,4 +64,48 @@ fn digit(number: u32) -> u8
     ensures { result ≡ digit number }
 {
     b'0' + (number % 10) as u8
+}
+
+/// The minute that a text is, if it is one that `minute_of` gives.
+pub(crate) fn minute_in(text: &str) -> Option<[u8; 14]>
+    ensures { (minute : List ℕ) → (result ≡ Some minute) ↔ (IsMinute minute × (text.now ≡ minute)) }
+{
+    let bytes = text.as_bytes();
+    if bytes.len() != 14 {
+        return None;
+    }
+    let year = two_digits(bytes, 0) * 100 + two_digits(bytes, 2);
+    let month = two_digits(bytes, 4);
+    let day = two_digits(bytes, 6);
+    let hour = two_digits(bytes, 9);
+    let minute = two_digits(bytes, 11);
+    if !is_date(year, month, day) || hour > 23 || minute > 59 {
+        return None;
+    }
+    let written = form(year, month, day, hour, minute);
+    if bytes == written.as_slice() {
+        Some(written)
+    } else {
+        None
+    }
+}
+
+// The number that two bytes at a place write, where they are digits.
+fn two_digits(bytes: &[u8], at: usize) -> u32
+    requires { at + 1 < length bytes.now }
+    ensures { result ≡ (slice_index bytes.now at - 48) * 10 + (slice_index bytes.now (at + 1) - 48) }
+{
+    let tens = bytes[at].saturating_sub(b'0') as u32;
+    let ones = bytes[at + 1].saturating_sub(b'0') as u32;
+    tens * 10 + ones
+}
+
+// Whether the calendar has a date from 1970 to 9999.
+fn is_date(year: u32, month: u32, day: u32) -> bool
+    ensures { IsTrue result ↔ IsCivilDate (record { year = year; month = month; day = day }) }
+{
+    if year < 1970 || year > 9999 || month > 12 || day > 31 {
+        return false;
+    }
+    Date::new(year as i16, month as i8, day as i8).is_ok()
 }
