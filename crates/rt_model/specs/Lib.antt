@@ -1,0 +1,12 @@
+pub mod Chain
+pub mod Completion
+pub mod Entries
+pub mod Finished
+pub mod History
+pub mod Ideal
+pub mod Lawful
+pub mod Laws
+pub mod Metadata
+pub mod Starting
+pub mod Tests
+pub mod Tiled

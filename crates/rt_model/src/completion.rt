@@ -12,6 +12,23 @@ pub enum Ask {
     Extend { millis: u64 },
 }
 
+impl Ask {
+    ghost use Rattle.std.specs.Prelude.{◌≡◌};
+    ghost use Rattle.rt_model.specs.Completion.{asked_offset};
+
+    /// The offset that the ask speaks of; `Stopped` and `Extend` have none.
+    pub fn offset(&self) -> Option<Offset>
+        ensures { result ≡ asked_offset self.now }
+    {
+        match self {
+            Ask::Consumed { offset, .. }
+            | Ask::CommitStart { offset }
+            | Ask::CommitEnd { offset } => Some(*offset),
+            Ask::Stopped | Ask::Extend { .. } => None,
+        }
+    }
+}
+
 /// What a completion machine answers by itself.
 #[derive(Clone, Copy, Debug, PartialEq, Eq)]
 pub enum Said {

@@ -4,14 +4,19 @@
 mod answer;
 mod commit;
 mod completion;
+mod copied;
 mod ideal_state;
+mod laws;
 mod machine_state;
 mod node;
 mod piece;
 mod query_parts;
+mod reading;
 mod replica_state;
 mod reply;
+mod reporter;
 mod request;
+mod rules;
 mod seg_meta;
 mod setup;
 mod status;
@@ -20,13 +25,29 @@ pub use answer::{Answer, Cell, ResultRow};
 pub use commit::Commit;
 pub use completion::{Ask, Reaction, Said};
 pub use ideal_state::{IdealEntry, IdealState, Mode};
+pub use laws::{
+    a_lawful_write_keeps_a_history_lawful, an_ended_node_changes_by_its_deletion_alone,
+    deletions_go_upwards, done_ranges_tile_the_offsets, entries_cover_an_unbroken_run,
+    entries_have_passed_deleted_segments, every_entry_has_its_node, every_front_is_lawful,
+    every_node_has_one_life, every_partition_has_its_chain, marks_never_fall,
+    runs_of_entries_only_rise, the_starting_contents_are_lawful, there_is_always_an_ideal_state,
+    versions_count_writes,
+};
 pub use machine_state::MachineState;
 pub use node::{Key, Listed, Node, Seen};
 pub use piece::Piece;
 pub use query_parts::{Aggregate, ColumnAt, Comparison, Item, Literal, OrderKey};
+pub use reading::{
+    became_done, became_final, has, is_created, is_deleted, is_done, is_final, is_gone, is_open, value, writes,
+};
 pub use replica_state::ReplicaState;
 pub use reply::{FailCause, Reply, ReplyStatus};
+pub use reporter::Reporter;
 pub use request::{Reason, Request, RequestKind, RequestNumber};
+pub use rules::{
+    ends, follows, has_left, has_none, ideal_has_left, is_absent, may_commit, may_create, may_create_after,
+    may_delete, may_end, may_remove, stands,
+};
 pub use seg_meta::{SeenMeta, SegMeta};
 pub use setup::Setup;
 pub use status::Status;

@@ -1,0 +1,12 @@
+pub mod Chains
+pub mod Entries
+pub mod Histories
+pub mod Kept
+pub mod Lawful
+pub mod Lives
+pub mod Partitions
+pub mod Readings
+pub mod Leaving
+pub mod Starts
+pub mod Steps
+pub mod Tilings
