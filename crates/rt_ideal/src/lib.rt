@@ -1,0 +1,20 @@
+//! The steps of the ideal state: which instance is asked to consume, to serve or to leave a segment, and how a
+//! commit, a stop, a repair and a retirement change that.
+//!
+//! No step changes the state that it is given: each makes the next one, which a node then offers to the store.
+#![tactic(auto)]
+
+mod laws;
+mod lookup;
+mod places;
+mod steps;
+mod written;
+
+pub use laws::steps_keep_the_order;
+pub use lookup::mode;
+pub use places::add_segment;
+pub use steps::{add_consuming, commit_step, remove_segment, set_offline};
+pub use written::text;
+
+#[cfg(test)]
+mod tests;
