@@ -1,0 +1,7 @@
+use Rattle.std.proofs.Common.{◌≡◌, ◌++◌, ◌∷◌, [], take, map, string_bytes}
+use Rattle.std.specs.List.{join_with_byte}
+use Rattle.rt_lines.specs.Answer.{missing_text}
+use Rattle.rt_lines.proofs.answer.write_segments.Given as goal
+
+abbrev pub invariant-loop-place : goal.invariant-loop-place
+invariant-loop-place l = string_bytes l.out ≡ string_bytes l.initial.out ++ join_with_byte 44 (map missing_text (take l.place l.missing))
