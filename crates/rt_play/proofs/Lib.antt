@@ -1,0 +1,6 @@
+pub mod Completes
+pub mod Digits
+pub mod Headers
+pub mod Limits
+pub mod Tellings
+pub mod Writes

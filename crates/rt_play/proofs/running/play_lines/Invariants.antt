@@ -1,0 +1,19 @@
+use Rattle.std.proofs.Common.{◌≡◌, ℕ, ◌+◌, ◌^◌, ◌<◌, false, List, length}
+use Rattle.std.specs.List.{concat}
+use Rattle.rt_play.specs.Plays.{Puts}
+use Rattle.rt_play.specs.Report.{report_from}
+use Rattle.rt_play.proofs.Tellings.{told_all}
+use Rattle.rt_play.proofs.running.play_lines.Given as goal
+
+abbrev pub invariant-loop-number : goal.invariant-loop-number
+invariant-loop-number g l = record {
+  unspent : l.world.spent ≡ false;
+  written : List (List ℕ);
+  puts : Puts (g.K.Sink.meaning l.initial.sink) (g.K.Sink.meaning l.sink) (concat written);
+  same : report_from l.initial.lines.lines l.initial.world.state ≡ told_all written (report_from l.lines.lines l.world.state);
+  count : l.count ≡ length written;
+  few : l.count + length l.lines.lines < 2 ^ 64;
+}
+
+abbrev pub decreases-loop-number : goal.decreases-loop-number
+decreases-loop-number g l = length l.lines.lines

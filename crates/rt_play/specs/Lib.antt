@@ -1,0 +1,5 @@
+pub mod Line
+pub mod Outcome
+pub mod Plays
+pub mod Report
+pub mod Script

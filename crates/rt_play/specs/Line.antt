@@ -1,0 +1,109 @@
+-- What a line of a script says, behind the header: the event that it reads as, where it reads as one.
+use Rattle.std.specs.Prelude.{ℕ, ◌+◌, Bool, true, false, List, [], ◌∷◌, length, take, drop, Option, None, Some, codes, bytes_eq, nat_eq, ◌==◌, nat_le, ◌&&◌, if◌then◌else◌, nat_lt}
+use Rattle.std.specs.Char.{is_ascii_digit, is_ascii_lowercase}
+use Rattle.std.specs.List.{list_all, starts_with}
+use Rattle.std.specs.Str.Parse.{digits_value}
+use Rattle.rt_world.specs.declared.event.Event.{Event}
+use Rattle.rt_world.specs.declared.event.Event.TheVariants.{Produce, Consume, Query}
+
+abbrev pub then_some : {A B : Type 0} → Option A → (A → Option B) → Option B
+then_some None f = None
+then_some (Some x) f = f x
+
+abbrev pub is_then : {A : Type 0} → Option A → (A → Bool) → Bool
+is_then None f = false
+is_then (Some x) f = f x
+
+-- a text without the prefix that it begins with
+abbrev pub after_prefix : List ℕ → List ℕ → Option (List ℕ)
+after_prefix prefix text = if starts_with nat_eq text prefix then Some (drop (length prefix) text) else None
+
+-- how many bytes stand before the first one of this value
+abbrev pub place_in : ℕ → List ℕ → ℕ
+place_in byte [] = 0
+place_in byte (b ∷ bs) = if b == byte then 0 else place_in byte bs + 1
+
+-- what stands before the first of these bytes, and what behind it
+abbrev pub parted_at : ℕ → List ℕ → Option (List ℕ × List ℕ)
+parted_at byte text =
+  if nat_lt (place_in byte text) (length text) then Some (take (place_in byte text) text, drop (place_in byte text + 1) text) else None
+
+-- decimal digits without leading zeros
+abbrev pub is_numeral : List ℕ → Bool
+is_numeral [] = false
+is_numeral (b ∷ []) = is_ascii_digit b
+is_numeral (b ∷ c ∷ bs) = if b == 48 then false else list_all is_ascii_digit (b ∷ c ∷ bs)
+
+-- the number that a word writes, at most this one
+abbrev pub number_up_to : ℕ → List ℕ → Option ℕ
+number_up_to most word = if is_numeral word && nat_le (digits_value 10 word) most then Some (digits_value 10 word) else None
+
+-- a number of a script fits 64 bits
+abbrev pub number_of : List ℕ → Option ℕ
+number_of word = number_up_to 18446744073709551615 word
+
+-- that of a partition, a sequence or a server leaves out the last one of 32 bits
+abbrev pub index_of : List ℕ → Option ℕ
+index_of word = number_up_to 4294967294 word
+
+-- a number of 1 to 18 digits, and the brace behind it
+abbrev pub ends_message : List ℕ → Bool
+ends_message text = is_then (parted_at 125 text) (λ parts. (is_numeral parts.0 && nat_le (length parts.0) 18) && (length parts.1 == 0))
+
+-- a letter, and what follows it
+abbrev pub has_letter : List ℕ → Bool
+has_letter [] = false
+has_letter (letter ∷ text) = is_ascii_lowercase letter && is_then (after_prefix (codes "\",\"v\":") text) ends_message
+
+-- the messages that are taken so far: `{"k":"X","v":N}` with one letter X and a number N
+abbrev pub is_message : List ℕ → Bool
+is_message text = is_then (after_prefix (codes "{\"k\":\"") text) has_letter
+
+-- `P TEXT`
+abbrev pub produce_of : List ℕ → Option Event
+produce_of text =
+  then_some (parted_at 32 text) (λ parts.
+  then_some (index_of parts.0) (λ partition.
+  if is_message parts.1 then Some (Produce (record { 0 = partition }) parts.1) else None))
+
+-- `sK`
+abbrev pub server_of : List ℕ → Option ℕ
+server_of [] = None
+server_of (b ∷ word) = if b == 115 then index_of word else None
+
+-- `P/Q`
+abbrev pub segment_of : List ℕ → Option (ℕ × ℕ)
+segment_of word =
+  then_some (parted_at 47 word) (λ parts.
+  then_some (index_of parts.0) (λ partition.
+  then_some (index_of parts.1) (λ sequence.
+  Some (partition, sequence))))
+
+-- a batch of a number that no batch has is one of no message, at which there is nothing to do
+abbrev pub batch_of : ℕ → ℕ
+batch_of count = if nat_le count 4294967295 then count else 0
+
+-- `sK P/Q N`
+abbrev pub consume_of : List ℕ → Option Event
+consume_of text =
+  then_some (parted_at 32 text) (λ first.
+  then_some (server_of first.0) (λ server.
+  then_some (parted_at 32 first.1) (λ second.
+  then_some (segment_of second.0) (λ segment.
+  then_some (number_of second.1) (λ count.
+  Some (Consume (record { 0 = server }) (record { 0 = segment.0 }) (record { 0 = segment.1 }) (batch_of count)))))))
+
+-- the one query that is taken so far
+abbrev pub query_of : List ℕ → Option Event
+query_of text = if bytes_eq text (codes "SELECT COUNT(*) FROM t") then Some Query else None
+
+-- a line's first word, and what follows the space behind it
+abbrev pub event_by : List ℕ → List ℕ → Option Event
+event_by word text =
+  if bytes_eq word (codes "produce") then produce_of text else
+  (if bytes_eq word (codes "consume") then consume_of text else
+  (if bytes_eq word (codes "query") then query_of text else None))
+
+-- the event of a line, or none where the line is outside the grammar
+abbrev pub event_of : List ℕ → Option Event
+event_of line = then_some (parted_at 32 line) (λ parts. event_by parts.0 parts.1)

@@ -1,0 +1,45 @@
+ghost use Rattle.std.specs.Prelude.{◌≡◌};
+ghost use Rattle.rt_play.specs.Plays.{ReadsAll};
+
+use rt_base::Source;
+use rt_lists::Bytes;
+use std::alloc::Global;
+
+/// The most bytes of a script.
+const INPUT_LIMIT: usize = 67_108_864;
+
+/// How many bytes are read at once.
+const PIECE: usize = 8_192;
+
+/// Why an input was not read to its end.
+#[derive(Clone, Copy)]
+pub(crate) enum ReadStop {
+    Failed,
+    TooLong,
+    Memory,
+}
+
+/// The whole input of a source. At most one byte beyond the limit is read.
+pub(crate) fn read_all<S: Source>(alloc: Global, source: &mut S) -> Result<Bytes, ReadStop>
+    ensures { ReadsAll (S.meaning source.old) (S.meaning source.new) result }
+{
+    let mut input = Bytes::new(alloc);
+    let mut piece = [0; PIECE];
+    'pieces: loop {
+        if input.len() > INPUT_LIMIT {
+            return Err(ReadStop::TooLong);
+        }
+        let room = PIECE.min(INPUT_LIMIT + 1 - input.len());
+        let count = match source.read(&mut piece[..room]) {
+            Ok(count) => count,
+            Err(_) => return Err(ReadStop::Failed),
+        };
+        if count == 0 {
+            return Ok(input);
+        }
+        match input.extend(&piece[..count]) {
+            Ok(()) => {}
+            Err(_) => return Err(ReadStop::Memory),
+        }
+    }
+}
