@@ -11,13 +11,12 @@ A program that calls the readers is made in a temporary folder, beside copies of
 """
 import json
 import os
-import shutil
 import subprocess
 import sys
 import tempfile
 
-ROOT = os.path.dirname(os.path.dirname(os.path.abspath(__file__)))
-CRATES = ["rt_lists", "rt_schema"]
+import throwaway
+
 PROGRAM = r'''// Answers each line of standard input: the kind of reader first, then the schema, then the inputs.
 #![tactic(auto)]
 
@@ -137,26 +136,10 @@ fn nibble(digit: u8) -> u8 {
 '''
 
 
-def build(folder):
-    """A repository with the program `vectors` and the crates below it."""
-    os.makedirs(os.path.join(folder, "crates", "vectors", "src"))
-    for name in CRATES:
-        shutil.copytree(os.path.join(ROOT, "crates", name), os.path.join(folder, "crates", name),
-                        ignore=shutil.ignore_patterns("out"))
-    with open(os.path.join(ROOT, "crates.txt")) as listed:
-        lines = [line for line in listed if line.split(":")[0].strip() in CRATES]
-    with open(os.path.join(folder, "crates.txt"), "w") as out:
-        out.writelines(lines + ["vectors: rt_schema rt_lists\n"])
-    with open(os.path.join(folder, "crates", "vectors", "src", "main.rt"), "w") as out:
-        out.write(PROGRAM)
-    subprocess.run(["git", "init", "-q"], cwd=folder, check=True)
-
-
-def answers(folder, kind, schema, inputs):
+def answers(home, kind, schema, inputs):
     """What the program answers to each input."""
     text = "\n".join([kind, schema] + inputs) + "\n"
-    run = subprocess.run(["rt", "try"], cwd=os.path.join(folder, "crates", "vectors"),
-                         input=text, capture_output=True, text=True)
+    run = subprocess.run(["rt", "try"], cwd=home, input=text, capture_output=True, text=True)
     found = run.stdout.split("\n")[:len(inputs)]
     if len(found) < len(inputs):
         sys.exit("the program stopped:\n" + run.stdout[-2000:] + run.stderr[-4000:])
@@ -179,14 +162,14 @@ def as_printed(kind, answer):
     return " ".join(words)
 
 
-def compare(folder, kind, path):
+def compare(home, kind, path):
     with open(path) as lines:
         lines = [line for line in lines.read().split("\n") if line]
     schema = '{"schemaName":"t","metricFieldSpecs":[{"name":"v","dataType":"LONG"}]}'
     if kind != "schema":
         schema, lines = lines[0], lines[1:]
     pairs = [line.split("\t") for line in lines]
-    found = answers(folder, kind, schema, [given for given, _ in pairs])
+    found = answers(home, kind, schema, [given for given, _ in pairs])
     wrong = [(given, as_printed(kind, wanted), got) for (given, wanted), got in zip(pairs, found)
              if as_printed(kind, wanted).strip() != got.strip()]
     for given, wanted, got in wrong:
@@ -200,11 +183,11 @@ def main():
         sys.exit(__doc__)
     good = True
     with tempfile.TemporaryDirectory() as folder:
-        build(folder)
+        home = throwaway.make(folder, PROGRAM, ["rt_lists", "rt_schema"])
         for kind in ["schema", "table", "row"]:
             path = os.path.join(sys.argv[1], kind + ".txt")
             if os.path.exists(path):
-                good = compare(folder, kind, path) and good
+                good = compare(home, kind, path) and good
     sys.exit(0 if good else 1)
 
 

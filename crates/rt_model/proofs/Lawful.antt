@@ -191,3 +191,9 @@ has_rising_runs s h l w p is =
 
 pub has_passed_deletions : (s : Starting) (h : List Seen) → IsLawfulHistory s h → HasPassedDeletions h
 has_passed_deletions s h l p q r d has = ((lawful_kept s h l).passed p q d).all r has
+
+-- ---- nodes in order
+
+pub nodes_are_in_order :
+    (s : Starting) (h : List Seen) → IsLawfulHistory s h → (p : Partition) → p.0 < s.partitions → InOrder h p
+nodes_are_in_order s h l p lt = (lawful_kept s h l).order p lt

@@ -1,6 +1,6 @@
 -- The lives of a partition's nodes, as a function of the sequence: how they are linked, and what one write
 -- more keeps of it.
-use Rattle.std.proofs.Common.{◌≡◌, ℕ, ◌+◌, ◌<◌, ◌≤◌, ◌⊎◌, inl, inr, List, [], ◌∷◌, ◌++◌, length, Some, None, refl, sym, ◌∙◌, ap, subst, arith}
+use Rattle.std.proofs.Common.{◌≡◌, ℕ, ◌+◌, ◌<◌, ◌⊎◌, inl, inr, List, [], ◌∷◌, ◌++◌, length, Some, None, refl, sym, ◌∙◌, ap, subst, arith}
 use Rattle.std.proofs.lemmas.Bool.{cases_eq}
 use Rattle.std.proofs.lemmas.Option.{same_Some, none-some}
 use Rattle.rt_base.specs.declared.numbers.Offset.{Offset}
@@ -11,6 +11,7 @@ use Rattle.rt_model.specs.declared.status.Status.{Status}
 use Rattle.rt_model.specs.declared.status.Status.TheVariants.{InProgress, Done, Abandoned}
 use Rattle.rt_model.specs.History.{last_of, value_by, value_in}
 use Rattle.rt_model.specs.Metadata.{IsInProgress, IsOpen, IsFinalStatus, IsFinal, IsEndFrom, Ends, StartsAfter, Follows}
+pub use Rattle.rt_model.specs.Chain.{IsLinked, IsOrdered}
 use Rattle.rt_model.specs.Chain.{IsLife, start_in}
 
 -- ---- nodes
@@ -113,24 +114,6 @@ life_absent (c ∷ d ∷ g ∷ []) l e = inr refl
 life_absent (c ∷ d ∷ g ∷ v ∷ ws) l e = absurd l
 
 -- ---- all lives of a partition
-
--- a life is not begun before the one below it has ended, and follows its end
-abbrev pub IsLinked : List Seen → List Seen → Type 0
-IsLinked ws [] = Unit {0}
-IsLinked [] (d ∷ ds) = ⊥
-IsLinked (c ∷ []) (d ∷ ds) = ⊥
-IsLinked (c ∷ e ∷ ws) (d ∷ ds) = Follows e.node d.node
-
--- the lives below `count` have begun, and those below `lowest` are over
-pub record IsOrdered (life : ℕ → List Seen) (lowest count : ℕ) : Type 0 where
-  pub lives : (s : ℕ) → IsLife (life s)
-  pub linked : (s : ℕ) → IsLinked (life s) (life (s + 1))
-  pub begun : (s : ℕ) → s < count → 0 < length (life s)
-  pub ahead : (s : ℕ) → count ≤ s → life s ≡ []
-  pub over : (s : ℕ) → s < lowest → length (life s) ≡ 3
-  pub present : (s : ℕ) → lowest ≤ s → length (life s) < 3
-  pub some : lowest < count
-  pub zero_start : start_in (life 0) ≡ 0
 
 -- one write more, at a sequence
 pub record Adds (old new : ℕ → List Seen) (s : ℕ) (w : Seen) : Type 0 where

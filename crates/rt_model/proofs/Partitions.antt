@@ -11,14 +11,11 @@ use Rattle.rt_model.specs.declared.node.Node.TheVariants as node
 use Rattle.rt_model.specs.declared.node.Seen.{Seen}
 use Rattle.rt_model.specs.History.{Has, writes_of, last_of, last_write, IsVersioned, value_of, Stands}
 use Rattle.rt_model.specs.Metadata.{node_key, life_of, past_key, sequences_of, IsOpen, IsFinal, Ends, Follows, IsDeleted, IsCreated, HasNode}
+pub use Rattle.rt_model.specs.Chain.{InOrder}
 use Rattle.rt_model.specs.Chain.{IsLife, is_gone, is_node_of, deletions_of}
 use Rattle.rt_model.specs.Lawful.{Write, create, set, delete, create_after, bump, IsLawful, IsLawfulCreate, IsAfter, Sets, Retires, TakesEffect, written_by, write_of}
 use Rattle.rt_model.proofs.Histories.{Has-append_left, Has-writes_of, writes_of-more, writes_of-other, Stands-last, same_partition}
 use Rattle.rt_model.proofs.Lives.{IsOrdered, Adds, IsOrdered-creates, IsOrdered-ends, IsOrdered-deletes, Ends-from_open, Ends-final, Follows-final, Follows-open, gone_not_open, gone_not_final, life_open, life_final, life_absent, length_same}
-
--- the nodes of a partition after a history
-abbrev pub InOrder : List Seen → Partition → Type 0
-InOrder h p = IsOrdered (life_of h p) (deletions_of h p) (sequences_of h p)
 
 pub IsOrdered-same :
     (old new : ℕ → List Seen) (m n m' n' : ℕ)

@@ -1,5 +1,5 @@
 -- Steps of the loops that read a history.
-use Rattle.std.proofs.Common.{◌≡◌, ℕ, suc, ◌+◌, ◌-◌, ◌<◌, ◌≤◌, Bool, true, false, ◌&&◌, ◌||◌, ◌⊎◌, inl, inr, List, [], ◌∷◌, ◌++◌, length, get_or, take, drop, Option, Some, None, refl, sym, ◌∙◌, ap, subst, arith, rules}
+use Rattle.std.proofs.Common.{◌≡◌, ℕ, suc, ◌+◌, ◌-◌, ◌<◌, ◌≤◌, Bool, true, false, ◌&&◌, ◌⊎◌, inl, inr, List, [], ◌∷◌, ◌++◌, length, get_or, take, drop, Some, None, refl, sym, ◌∙◌, ap, subst, arith}
 use Rattle.std.proofs.Math.Seq.{drop-cons}
 use Rattle.std.proofs.lemmas.List.{take_more}
 use Rattle.std.proofs.lemmas.Bool.{both_ways, or_cases, or_left, or_right, and_parts, and_from}
@@ -40,8 +40,8 @@ pub last_found :
     → same_key w.key k ≡ true → last_write (take e h) k ≡ Some w
 last_found h k e w some within is same =
     let front : take e h ≡ take (e - 1) h ++ w ∷ [] =
-        ap (λ n. take n h) (omega arith) ∙ take_more h (e - 1) w (omega arith)
-        ∙ ap (λ (x : Seen). take (e - 1) h ++ x ∷ []) (sym is) in
+    ap (λ n. take n h) (omega arith) ∙ take_more h (e - 1) w (omega arith)
+    ∙ ap (λ (x : Seen). take (e - 1) h ++ x ∷ []) (sym is) in
     ap (λ (x : List Seen). last_write x k) front
     ∙ last_write-more (take (e - 1) h) w k (same_key-true w.key k same)
 
@@ -139,8 +139,8 @@ node_found test P iff (v ∷ h) p s w (inl e) of x =
     let Q : Seen → Type 0 = λ y. P y.node in
     or_left (same_key v.key (node_key p s) && test v.node) (some_node test h (node_key p s))
     (and_from (same_key v.key (node_key p s)) (test v.node)
-        ((same_key_iff v.key (node_key p s)).1 (ap (λ (y : Seen). y.key) e ∙ of))
-        ((iff v.node).1 (subst Q (sym e) x)))
+    ((same_key_iff v.key (node_key p s)).1 (ap (λ (y : Seen). y.key) e ∙ of))
+    ((iff v.node).1 (subst Q (sym e) x)))
 node_found test P iff (v ∷ h) p s w (inr has) of x =
     or_right (same_key v.key (node_key p s) && test v.node) (some_node test h (node_key p s))
     (node_found test P iff h p s w has of x)

@@ -1,5 +1,5 @@
 -- What is true of the metadata nodes of a partition.
-use Rattle.std.specs.Prelude.{◌≡◌, ℕ, ◌+◌, ◌<◌, ◌≤◌, Bool, true, false, ◌==◌, ◌&&◌, ◌↔◌, List, [], ◌∷◌, IsSome}
+use Rattle.std.specs.Prelude.{◌≡◌, ℕ, length, ◌+◌, ◌<◌, ◌≤◌, Bool, true, false, ◌==◌, ◌&&◌, ◌↔◌, List, [], ◌∷◌, IsSome}
 use Rattle.std.specs.List.{count_by}
 use Rattle.rt_base.specs.declared.numbers.Partition.{Partition}
 use Rattle.rt_model.specs.declared.node.Key.{Key}
@@ -8,7 +8,7 @@ use Rattle.rt_model.specs.declared.node.Node.{Node}
 use Rattle.rt_model.specs.declared.node.Node.TheVariants as node
 use Rattle.rt_model.specs.declared.node.Seen.{Seen}
 use Rattle.rt_model.specs.History.{Has, value_of}
-use Rattle.rt_model.specs.Metadata.{node_key, IsOpen, IsDone, Ends, Follows, IsEndFrom}
+use Rattle.rt_model.specs.Metadata.{node_key, life_of, sequences_of, IsOpen, IsDone, Ends, Follows, IsEndFrom}
 
 -- the life of a node, from all its writes: it is created in progress, it ends once, with its name and its
 -- start, and then it is deleted; no other write comes
@@ -29,6 +29,24 @@ start_by node.Gone = 0
 abbrev pub start_in : List Seen → ℕ
 start_in [] = 0
 start_in (c ∷ ws) = start_by c.node
+
+-- a life is not begun before the one below it has ended, and follows its end
+abbrev pub IsLinked : List Seen → List Seen → Type 0
+IsLinked ws [] = Unit {0}
+IsLinked [] (d ∷ ds) = ⊥
+IsLinked (c ∷ []) (d ∷ ds) = ⊥
+IsLinked (c ∷ e ∷ ws) (d ∷ ds) = Follows e.node d.node
+
+-- the lives below `count` have begun, and those below `lowest` are over
+pub record IsOrdered (life : ℕ → List Seen) (lowest count : ℕ) : Type 0 where
+  pub lives : (s : ℕ) → IsLife (life s)
+  pub linked : (s : ℕ) → IsLinked (life s) (life (s + 1))
+  pub begun : (s : ℕ) → s < count → 0 < length (life s)
+  pub ahead : (s : ℕ) → count ≤ s → life s ≡ []
+  pub over : (s : ℕ) → s < lowest → length (life s) ≡ 3
+  pub present : (s : ℕ) → lowest ≤ s → length (life s) < 3
+  pub some : lowest < count
+  pub zero_start : start_in (life 0) ≡ 0
 
 abbrev pub IsPresent : List Seen → Partition → ℕ → Type 0
 IsPresent h p s = IsSome (value_of h (node_key p s))
@@ -78,3 +96,8 @@ is_node_of p (key.Boot i) = false
 -- the number of the partition's nodes that were deleted
 abbrev pub deletions_of : List Seen → Partition → ℕ
 deletions_of h p = count_by (λ w. is_node_of p w.key && is_gone w.node) h
+
+-- the nodes of a partition are in order: as many as were deleted are over, and as many as there are sequences
+-- have begun
+abbrev pub InOrder : List Seen → Partition → Type 0
+InOrder h p = IsOrdered (life_of h p) (deletions_of h p) (sequences_of h p)

@@ -1,6 +1,7 @@
 -- Definitions on nodes and writes, as tests.
-use Rattle.std.specs.Prelude.{ℕ, ◌<◌, Bool, true, false, ◌&&◌, ◌||◌, ◌==◌, nat_lt, List, [], ◌∷◌}
+use Rattle.std.specs.Prelude.{◌≡◌, ℕ, Option, Some, None, if◌then◌else◌, ◌+◌, ◌<◌, ◌≤◌, length, Bool, true, false, ◌&&◌, ◌||◌, ◌==◌, nat_lt, List, [], ◌∷◌}
 use Rattle.rt_base.specs.declared.numbers.Partition.{Partition}
+use Rattle.rt_base.specs.declared.range.Range.{Range}
 use Rattle.rt_model.specs.declared.ideal_state.IdealEntry.{IdealEntry}
 use Rattle.rt_model.specs.declared.node.Key.{Key}
 use Rattle.rt_model.specs.declared.node.Key.TheVariants as key
@@ -12,6 +13,7 @@ use Rattle.rt_model.specs.declared.status.Status.TheVariants as status
 use Rattle.rt_model.specs.declared.reading.Wanted.{Wanted}
 use Rattle.rt_model.specs.declared.reading.Wanted.TheVariants.{Open, Done, Final, Gone}
 use Rattle.rt_model.specs.History.{same_key}
+use Rattle.rt_model.specs.Metadata.{life_of, Ends, Follows}
 use Rattle.rt_model.specs.Lawful.{HasLeft}
 
 abbrev pub open_status : Status → Bool
@@ -79,3 +81,48 @@ abbrev pub HasNext : Key → Type 0
 HasNext (key.Meta p s) = s.0 < 4294967295
 HasNext key.Ideal = Unit {0}
 HasNext (key.Boot i) = Unit {0}
+
+-- what may come after a segment's end: nothing, or its deletion alone
+abbrev pub OverAfter : List Seen → Type 0
+OverAfter [] = Unit {0}
+OverAfter (g ∷ ws) = (gone_node g.node ≡ true) × (ws ≡ [])
+
+-- what may come after a segment's creation: nothing, or its end
+abbrev pub EndsAfter : Node → List Seen → Type 0
+EndsAfter n [] = Unit {0}
+EndsAfter n (e ∷ ws) = Ends n e.node × OverAfter ws
+
+-- what may come of a segment: nothing, or its creation
+abbrev pub LivesFrom : List Seen → Type 0
+LivesFrom [] = Unit {0}
+LivesFrom (c ∷ ws) = (open_node c.node ≡ true) × EndsAfter c.node ws
+
+-- the next life follows the end of this one
+abbrev pub FollowsEnd : List Seen → Node → Type 0
+FollowsEnd [] n = ⊥
+FollowsEnd (e ∷ ws) n = Follows e.node n
+
+abbrev pub FollowsLife : List Seen → Node → Type 0
+FollowsLife [] n = ⊥
+FollowsLife (c ∷ ws) n = FollowsEnd ws n
+
+abbrev pub LinksTo : List Seen → List Seen → Type 0
+LinksTo ws [] = Unit {0}
+LinksTo ws (d ∷ ds) = FollowsLife ws d.node
+
+-- the number of a segment's writes: three where it is below the lowest present one, else one or two
+pub record HasCount (lowest s count : ℕ) : Type 0 where
+  pub over : s < lowest → count ≡ 3
+  pub present : lowest ≤ s → (0 < count) × (count < 3)
+
+-- a segment lives, is linked to the next one and has its number of writes
+abbrev pub IsInPlace : List Seen → Partition → ℕ → ℕ → Type 0
+IsInPlace h p lowest s =
+    LivesFrom (life_of h p s)
+    × LinksTo (life_of h p s) (life_of h p (s + 1))
+    × HasCount lowest s (length (life_of h p s))
+
+-- the end up to which ranges tile the offsets from one on, or none where they do not
+abbrev pub tiles_to : ℕ → List Range → Option ℕ
+tiles_to from [] = Some from
+tiles_to from (r ∷ rs) = if (r.start.0 == from) && nat_lt from r.end.0 then tiles_to r.end.0 rs else None

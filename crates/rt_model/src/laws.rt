@@ -2,9 +2,15 @@
 //! every starting contents and every list of writes. A history is lawful where it has the starting
 //! contents and then writes of which each was lawful over some front of the writes before it, which its
 //! writer had seen, and took effect by the rules of the store on all of them.
-ghost use Rattle.std.specs.Prelude.{List, ◌++◌, ◌∷◌, []};
+ghost use Rattle.std.specs.Prelude.{◌≡◌, ◌↔◌, ◌<◌, ℕ, List, ◌++◌, ◌∷◌, [], Some};
+ghost use Rattle.rt_base.specs.declared.numbers.Partition.{Partition};
+ghost use Rattle.rt_base.specs.declared.range.Range.{Range};
 ghost use Rattle.rt_model.specs.declared.node.Seen.{Seen};
 ghost use Rattle.rt_model.specs.History.{IsVersioned};
+ghost use Rattle.rt_model.specs.Metadata.{sequences_of};
+ghost use Rattle.rt_model.specs.Chain.{InOrder, IsChainOf, deletions_of};
+ghost use Rattle.rt_model.specs.Tiled.{IsTiled, Tiles};
+ghost use Rattle.rt_model.specs.Tests.{tiles_to};
 ghost use Rattle.rt_model.specs.Starting.{Starting, starting_contents};
 ghost use Rattle.rt_model.specs.Lawful.{IsLawfulStep, IsLawfulHistory};
 ghost use Rattle.rt_model.specs.Laws.{
@@ -48,6 +54,29 @@ pub fn versions_count_writes()
 /// Every partition has its chain.
 pub fn every_partition_has_its_chain()
     ensures { (s : Starting) (h : List Seen) → IsLawfulHistory s h → HasChains s h }
+{}
+
+/// The nodes of every partition are in order, as the plain call `is_in_order` tells.
+pub fn lawful_nodes_are_in_order()
+    ensures { (s : Starting) (h : List Seen) → IsLawfulHistory s h → (p : Partition) → p.0 < s.partitions
+        → InOrder h p }
+{}
+
+/// Nodes in order form a chain.
+pub fn nodes_in_order_form_a_chain()
+    ensures { (h : List Seen) (p : Partition) → InOrder h p
+        → IsChainOf h p (deletions_of h p) (sequences_of h p) }
+{}
+
+/// The ranges of nodes in order tile the offsets.
+pub fn nodes_in_order_tile_the_offsets()
+    ensures { (h : List Seen) (p : Partition) → InOrder h p → IsTiled h p }
+{}
+
+/// The end that the plain call `tiled_to` computes is that up to which the ranges tile.
+pub fn a_tiled_end_is_that_of_tiles()
+    ensures { (from to : ℕ) (ranges : List Range)
+        → (tiles_to from ranges ≡ Some to) ↔ Tiles from ranges to }
 {}
 
 /// Each segment's node is created once, ends at most once, and is deleted at most once after that.

@@ -3,11 +3,11 @@ ghost use Rattle.rt_model.specs.History.{Has, same_key, writes_of, value_of, Sta
 ghost use Rattle.rt_model.specs.Tests.{open_node, done_node, final_node, gone_node, some_node, wanted_node};
 ghost use Rattle.rt_model.specs.Metadata.{IsOpen, IsCreated, BecameDone, BecameFinal, IsDeleted};
 
-use crate::{IdealState, Key, Node, SegMeta, Seen, Status};
+use crate::{IdealState, Key, Node, Seen, SegMeta, Status};
 use rt_base::{Partition, Sequence};
 
 /// Whether two keys are one.
-fn is_same_key(a: &Key, b: &Key) -> bool
+pub(crate) fn is_same_key(a: &Key, b: &Key) -> bool
     ensures { result ≡ same_key a.now b.now }
 {
     match (a, b) {
@@ -171,7 +171,11 @@ pub fn value<'a>(history: &'a [Seen], key: &Key) -> Option<&'a Seen>
         end -= 1;
         let write = &history[end];
         if is_same_key(&write.key, key) {
-            return if is_gone(&write.node) { None } else { Some(write) };
+            return if is_gone(&write.node) {
+                None
+            } else {
+                Some(write)
+            };
         }
     }
     None

@@ -14,7 +14,9 @@ ghost use Rattle.rt_model.specs.Lawful.{
   IsLawfulDelete,
 };
 
-use crate::reading::{became_done, became_final, has, is_created, is_deleted, is_final, is_open, value, writes};
+use crate::reading::{
+    became_done, became_final, has, is_created, is_deleted, is_final, is_open, value, writes,
+};
 use crate::{IdealEntry, Key, Node, Seen, Status};
 use rt_base::{Offset, Partition, Sequence};
 
@@ -53,7 +55,10 @@ pub fn ends(old: &Node, new: &Node) -> bool
 {
     match (old, new) {
         (Node::Meta(a), Node::Meta(b)) => {
-            is_in_progress(&a.status) && b.name == a.name && b.start == a.start && is_end(b.start, &b.status)
+            is_in_progress(&a.status)
+                && b.name == a.name
+                && b.start == a.start
+                && is_end(b.start, &b.status)
         }
         _ => false,
     }
@@ -64,7 +69,8 @@ pub fn follows(old: &Node, new: &Node) -> bool
     ensures { IsTrue result ↔ Follows old.now new.now }
 {
     match (old, new) {
-        (Node::Meta(a), Node::Meta(b)) => is_in_progress(&b.status) && starts_after(&a.status, a.start, b.start),
+        (Node::Meta(a), Node::Meta(b)) => is_in_progress(&b.status)
+            && starts_after(&a.status, a.start, b.start),
         _ => false,
     }
 }
@@ -92,7 +98,9 @@ pub fn may_create(seen: &[Seen], key: &Key, node: &Node) -> bool
     ensures { IsTrue result ↔ IsLawfulCreate seen.now key.now node.now }
 {
     match key {
-        Key::Meta(_, sequence) => sequence.0 == 0 && is_open_from_zero(node) && writes(seen, key) == 0,
+        Key::Meta(_, sequence) => sequence.0 == 0
+            && is_open_from_zero(node)
+            && writes(seen, key) == 0,
         Key::Boot(_) => is_boot(node),
         Key::Ideal => false,
     }
@@ -208,23 +216,24 @@ pub fn may_delete(seen: &[Seen], from: &Seen) -> bool
 /// Whether the ideal state may take the commit of a segment, over what was seen.
 pub fn may_commit(seen: &[Seen], partition: Partition, sequence: Sequence) -> bool
     requires { sequence.0 < 4294967295 }
-    ensures {
-      IsTrue result
-      ↔ (BecameDone seen.now partition sequence.0 × IsCreated seen.now partition (sequence.0 + 1))
-    }
+    ensures { IsTrue result
+        ↔ (BecameDone seen.now partition sequence.0 × IsCreated seen.now partition (sequence.0 + 1)) }
 {
     became_done(seen, partition, sequence) && is_created(seen, partition, Sequence(sequence.0 + 1))
 }
 
 /// Whether a segment's entries may be removed from the ideal state, over what was seen.
-pub fn may_remove(seen: &[Seen], entries: &[IdealEntry], partition: Partition, sequence: Sequence) -> bool
+pub fn may_remove(
+    seen: &[Seen],
+    entries: &[IdealEntry],
+    partition: Partition,
+    sequence: Sequence,
+) -> bool
     requires { sequence.0 < 4294967295 }
-    ensures {
-      IsTrue result
-      ↔ (BecameFinal seen.now partition sequence.0
-      × AreDeletedBelow seen.now partition sequence.0
-      × IsTrue (has_entry entries.now partition (record { 0 = sequence.0 + 1 })))
-    }
+    ensures { IsTrue result
+        ↔ (BecameFinal seen.now partition sequence.0
+        × AreDeletedBelow seen.now partition sequence.0
+        × IsTrue (has_entry entries.now partition (record { 0 = sequence.0 + 1 }))) }
 {
     became_final(seen, partition, sequence)
         && are_deleted_below(seen, partition, sequence)

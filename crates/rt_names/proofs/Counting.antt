@@ -1,5 +1,5 @@
 -- Counting off years and months gives back each date from its day number.
-use Rattle.std.proofs.Common.{◌≡◌, ℕ, zero, suc, ◌+◌, ◌-◌, ◌<◌, ◌≤◌, Bool, true, false, List, [], ◌∷◌, length, get_or, take, sum, nat_lt, refl, sym, ap, subst, ◌∙◌, arith}
+use Rattle.std.proofs.Common.{◌≡◌, ℕ, zero, suc, ◌+◌, ◌-◌, ◌<◌, ◌≤◌, Bool, true, false, List, [], ◌∷◌, get_or, take, sum, nat_lt, refl, sym, ap, subst, ◌∙◌, arith}
 use Rattle.std.specs.Prelude.{if◌then◌else◌}
 use Rattle.std.proofs.lemmas.Bool.{lt-ltb, le-ltb}
 use Rattle.std.proofs.lemmas.List.Sums.{sum_by-cons}
@@ -13,7 +13,7 @@ chosen b x y is = ap (λ t. if t then x else y) is
 passed : {X : Type 0} (b : Bool) (x y : X) → b ≡ false → (if b then x else y) ≡ y
 passed b x y is = ap (λ t. if t then x else y) is
 
-sum-cons : (x : ℕ) (xs : List ℕ) → sum (x ∷ xs) ≡ x + sum xs
+pub sum-cons : (x : ℕ) (xs : List ℕ) → sum (x ∷ xs) ≡ x + sum xs
 sum-cons = sum_by-cons (λ x. x)
 
 months_counted : (year month : ℕ) (lengths : List ℕ) (k d : ℕ) → d < get_or lengths k 0 → date_in_months year month lengths (sum (take k lengths) + d) ≡ date_at year (month + k) (d + 1)
@@ -67,7 +67,7 @@ place_within [] k d within = absurd (omega arith)
 place_within (l ∷ ls) zero d within = omega (arith, sum-cons l ls)
 place_within (l ∷ ls) (suc k) d within = omega (arith, sum-cons l ls, sum-cons l (take k ls), place_within ls k d within)
 
-year_length_is : (year : ℕ) → sum (month_lengths year) ≡ year_length year
+pub year_length_is : (year : ℕ) → sum (month_lengths year) ≡ year_length year
 year_length_is year = grind arith
 
 years_grow : (k : ℕ) → k ≤ days_of_years k

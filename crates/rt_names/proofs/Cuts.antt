@@ -1,9 +1,8 @@
 -- Where the last `__` of a text is.
-use Rattle.std.proofs.Common.{◌≡◌, ◌≢◌, ℕ, zero, suc, ◌+◌, ◌-◌, ◌<◌, ◌≤◌, List, [], ◌∷◌, ◌++◌, length, take, drop, Option, Some, None, MatchOption, Bor, codes, append_assoc, length-append, refl, sym, ap, subst, inl, inr, ◌∙◌, arith}
+use Rattle.std.proofs.Common.{◌≡◌, ℕ, zero, suc, ◌+◌, ◌-◌, ◌<◌, List, [], ◌∷◌, ◌++◌, length, take, drop, Option, Some, None, MatchOption, Bor, length-append, sym, ap, inl, inr, ◌∙◌, arith}
 use Rattle.std.specs.Option.{IsSomeAnd}
-use Rattle.std.specs.Str.Pattern.{RFindsText, SplitsAroundMatch, HasTextAt, LacksTextAt}
+use Rattle.std.specs.Str.Pattern.{RFindsText, SplitsAroundMatch}
 use Rattle.std.proofs.Math.Seq.{drop-append_seam, drop-append-add, take-append_seam}
-use Rattle.std.proofs.lemmas.List.{take-append-drop}
 use Rattle.std.proofs.lemmas.Bool.{cases_order}
 use Rattle.rt_names.specs.Parts.{NoUnderscore}
 

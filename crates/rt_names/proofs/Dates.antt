@@ -1,13 +1,13 @@
 -- The calendar that dates are computed by is the one of the contracts.
-use Rattle.std.proofs.Common.{◌≡◌, ℕ, zero, suc, ◌+◌, ◌-◌, ◌<◌, ◌≤◌, List, [], ◌∷◌, get_or, take, sum, add_assoc, refl, sym, ap, subst, inl, inr, ◌∙◌, arith, ℤ, pos, negsuc, neg_ℤ, ◌+ℤ◌, ◌≤ℤ◌}
+use Rattle.std.proofs.Common.{◌≡◌, ℕ, zero, suc, ◌+◌, ◌-◌, ◌<◌, ◌≤◌, get_or, take, sum, add_assoc, refl, sym, ap, subst, inl, inr, ◌∙◌, arith, ℤ, pos, negsuc}
 use Rattle.jiff_core.specs.declared.civil.date.Date.{Date}
-use Rattle.jiff_core.specs.Calendar.{days_in_year, days_in_month, days_of_months, day_of_year, day_count, days_from_civil}
+use Rattle.jiff_core.specs.Calendar.{days_in_month, days_of_months, day_count, days_from_civil}
 use Rattle.jiff_core.specs.Date.{epoch_day}
 use Rattle.jiff_core.specs.Calendar.{IsCivilDate as CalendarHas, IsDate}
 use Rattle.std.specs.Prelude.{◌↔◌}
 use Rattle.std.proofs.lemmas.Bool.{cases_lt}
 use Rattle.jiff_core.proofs.SignedLemmas.{signed_arith}
-use Rattle.jiff_core.proofs.CalendarLemmas.{day_count-epoch, day_count-next_year, day_count-day_of_year, day_count-lt_year, day_count_bounds, days_from_civil-day_count}
+use Rattle.jiff_core.proofs.CalendarLemmas.{day_count-epoch, day_count-next_year, day_count-day_of_year, day_count-lt_year, day_count_bounds, day_count-end, days_from_civil-day_count}
 use Rattle.rt_names.specs.Calendar.{month_lengths, year_length, days_of_years, CivilDate, IsCivilDate, day_number}
 
 -- a year's first day
@@ -119,3 +119,7 @@ day_number_last date has =
     let there : CalendarHas (pos date.year) date.month date.day =
     ((omega (arith, signed_arith), omega (arith, signed_arith, has.last_year)), (has.first_month, has.last_month), (has.first_day, subst (λ l. date.day ≤ l) (sym (month_length_same date.year date.month has.first_month has.last_month)) has.last_day)) in
     omega (arith, day_count_bounds (pos date.year) date.month date.day there, day_count_is date.year date.month date.day has.first_year has.first_month has.last_month has.first_day)
+
+-- the days from 1970 to the end of 9999
+pub days_to_the_end : days_of_years 8030 ≡ 2_932_897
+days_to_the_end = omega (arith, year_start 8030, day_count-end)

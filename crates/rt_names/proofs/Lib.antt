@@ -6,3 +6,4 @@ pub mod Bytes
 pub mod Cuts
 pub mod Numerals
 pub mod Reading
+pub mod Days

@@ -1,5 +1,5 @@
 -- Minutes of dates.
-use Rattle.std.proofs.Common.{◌≡◌, ℕ, ◌+◌, ◌*◌, ◌/◌, ◌%◌, ◌<◌, ◌≤◌, List, refl, sym, ap, subst, ◌∙◌, arith, ℤ, pos}
+use Rattle.std.proofs.Common.{◌≡◌, ℕ, ◌/◌, ◌%◌, List, sym, ap, subst, ◌∙◌, arith, ℤ, pos}
 use Rattle.jiff_core.proofs.SignedLemmas.{signed_arith}
 use Rattle.rt_names.specs.Calendar.{CivilDate, IsCivilDate, day_number}
 use Rattle.rt_names.specs.Minute.{minute_form, IsMinuteOf}

@@ -1,7 +1,7 @@
 -- What the digits of a minute are read as.
-use Rattle.std.proofs.Common.{◌≡◌, ℕ, zero, suc, ◌+◌, ◌-◌, ◌*◌, ◌/◌, ◌%◌, ◌<◌, ◌≤◌, List, [], ◌∷◌, length, slice_index, refl, sym, ap, subst, ◌∙◌, arith}
+use Rattle.std.proofs.Common.{◌≡◌, ℕ, zero, suc, ◌+◌, ◌-◌, ◌*◌, ◌/◌, ◌%◌, ◌<◌, ◌≤◌, List, slice_index, sym, ap, subst, ◌∙◌, arith}
 use Rattle.rt_names.specs.Calendar.{month_lengths, CivilDate, IsCivilDate, day_number}
-use Rattle.rt_names.specs.Minute.{digit, minute_form, IsMinute, IsMinuteOf}
+use Rattle.rt_names.specs.Minute.{digit, minute_form, IsMinute}
 use Rattle.rt_names.proofs.Minutes.{date_at}
 use Rattle.rt_names.proofs.Dates.{day_number_last}
 

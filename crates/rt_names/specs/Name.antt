@@ -1,6 +1,5 @@
 -- Names of segments and their texts.
-use Rattle.std.specs.Prelude.{◌≡◌, ◌≢◌, ℕ, ◌+◌, ◌^◌, ◌<◌, ◌≤◌, Bool, ◌||◌, ◌==◌, List, ◌++◌, length, codes, All, IsTrue, Result, Ok, Err}
-use Rattle.std.specs.Char.{is_ascii_alphanumeric}
+use Rattle.std.specs.Prelude.{◌≡◌, ◌≢◌, ℕ, ◌^◌, ◌<◌, List, ◌++◌, codes, Result, Ok, Err}
 use Rattle.std.specs.Fmt.{decimal}
 use Rattle.rt_names.specs.declared.name.SegmentName.{SegmentName}
 use Rattle.rt_names.specs.declared.name.NameRefused.{NameRefused}

@@ -1,5 +1,5 @@
 -- The parts of a name's text.
-use Rattle.std.specs.Prelude.{◌≡◌, ◌≢◌, ℕ, Bool, ◌&&◌, ◌||◌, ◌==◌, nat_lt, List, ◌++◌, length, slice_index, codes}
+use Rattle.std.specs.Prelude.{◌≢◌, ℕ, Bool, ◌&&◌, ◌||◌, ◌==◌, nat_lt, List, ◌++◌, length, slice_index, codes}
 use Rattle.std.specs.List.{AllByRecursion}
 
 -- No byte is `_`.

@@ -60,9 +60,9 @@ pub made_tells : (world : Kept) (setup : Setup) (lines : List (ℕ × List ℕ))
   Tells (report_from lines world.state) old new result → Tells (report_from lines (start setup)) old new result
 made_tells world setup lines old new result made tells = subst (λ (w : Kept). Tells (report_from lines w.state) old new result) made tells
 
-safe_behind : (header : Result (Setup × List (ℕ × List ℕ)) PlayFault) → IsSafeBehind header
-safe_behind (Ok x) = safe_from_start x.0 (events_of x.1)
-safe_behind (Err fault) = tt
+safe_behind : (script : ScriptLines) (header : Result Passed PlayFault) → header_of script ≡ header → IsSafeBehind header
+safe_behind script (Ok x) e = safe_from_start x.0 (events_of x.1) (setup_fits script x.0 x.1 e)
+safe_behind script (Err fault) e = tt
 
 pub safe_script : (input : List ℕ) → IsSafeScript input
-safe_script input = safe_behind (header_of (script_lines input))
+safe_script input = safe_behind (script_lines input) (header_of (script_lines input)) refl

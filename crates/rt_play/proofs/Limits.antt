@@ -46,10 +46,10 @@ room_never count w = due_by (nat_le (w.events + count) events_limit) (Ok tt) (Er
 
 due_never : (w : State) (event : Event) → IsInputDue (due_of w event) → ⊥
 due_never w (Produce partition message) =
-  due_by (nat_lt partition.0 (length w.log)) (if nat_le (length message) message_limit then room_for 1 w else Err (Limit Message)) (Err NoSuchNode)
+  due_by (nat_lt partition.0 w.setup.partitions) (if nat_le (length message) message_limit then room_for 1 w else Err (Limit Message)) (Err NoSuchNode)
     (due_by (nat_le (length message) message_limit) (room_for 1 w) (Err (Limit Message)) (room_never 1 w) message_never) node_never
 due_never w (Consume instance partition sequence max) =
-  due_by (nat_lt instance.0 w.setup.servers && nat_lt partition.0 (length w.log))
+  due_by (nat_lt instance.0 w.setup.servers && nat_lt partition.0 w.setup.partitions)
     (if is_of w.replica instance partition sequence && (is_consuming w.replica.state && nat_lt 0 max) then room_for 1 w else Err NothingToDo) (Err NoSuchNode)
     (due_by (is_of w.replica instance partition sequence && (is_consuming w.replica.state && nat_lt 0 max)) (room_for 1 w) (Err NothingToDo) (room_never 1 w) nothing_never) node_never
 due_never w Query = room_never 4 w

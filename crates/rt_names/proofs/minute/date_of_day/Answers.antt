@@ -1,8 +1,8 @@
-use Rattle.std.proofs.Common.{◌≡◌, ◌+ℤ◌, ◌∙◌, ap, subst, sym, arith, w64, pos, to_z, IfOk, Ok}
+use Rattle.std.proofs.Common.{◌≡◌, ◌∙◌, subst, arith, w64, pos, to_z, IfOk}
 use Rattle.std.specs.Result.{IfOk}
 use Rattle.std.proofs.lemmas.Int.{ints}
 use Rattle.jiff.proofs.SpanFacts.{signed_arith, date_add-days, can_add-days}
-use Rattle.jiff.specs.Words.{epoch_day, date_add, IsEpochDay}
+use Rattle.jiff.specs.Words.{epoch_day, date_add}
 use Rattle.jiff_core.specs.declared.unit.Unit.TheVariants.{Day}
 use Rattle.jiff_core.specs.Span.{IsOnly}
 use Rattle.rt_names.proofs.Dates.{first_day}

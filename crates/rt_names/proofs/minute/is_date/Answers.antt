@@ -2,7 +2,7 @@ use Rattle.std.proofs.Common.{◌≡◌, ◌∙◌, sym, pos, to_z, w16, w8, ari
 use Rattle.std.specs.Prelude.{◌↔◌}
 use Rattle.std.proofs.lemmas.Int.{ints}
 use Rattle.jiff_core.specs.Calendar.{IsDate}
-use Rattle.rt_names.specs.Calendar.{CivilDate, IsCivilDate}
+use Rattle.rt_names.specs.Calendar.{IsCivilDate}
 use Rattle.rt_names.proofs.Minutes.{date_at}
 use Rattle.rt_names.proofs.Dates.{same_calendar}
 use Rattle.rt_names.proofs.minute.is_date.Goals as goal

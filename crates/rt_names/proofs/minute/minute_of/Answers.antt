@@ -1,7 +1,7 @@
-use Rattle.std.proofs.Common.{◌≡◌, ◌/◌, ◌%◌, arith}
+use Rattle.std.proofs.Common.{arith}
 use Rattle.std.proofs.lemmas.Int.{ints}
 use Rattle.jiff_core.proofs.DateLemmas.{civil}
-use Rattle.rt_names.proofs.Dates.{IsDateOfDay, date_of_day_is}
+use Rattle.rt_names.proofs.Dates.{date_of_day_is}
 use Rattle.rt_names.specs.Minute.{IsMinuteOf}
 use Rattle.rt_names.proofs.Minutes.{minute_is}
 use Rattle.rt_names.proofs.Text.{minute_text_is}

@@ -1,11 +1,11 @@
-use Rattle.std.proofs.Common.{◌≡◌, ◌<◌, ◌^◌, ◌++◌, ◌∷◌, [], ℕ, List, Some, refl, sym, ap, subst, ◌∙◌}
+use Rattle.std.proofs.Common.{◌≡◌, ℕ, List, refl, sym, ap, subst, ◌∙◌}
 use Rattle.std.specs.Fmt.{decimal}
 use Rattle.std.proofs.lemmas.Bool.{true≢false}
 use Rattle.std.proofs.lemmas.Option.{none-some, same_Some}
 use Rattle.rt_names.specs.declared.name.SegmentName.{SegmentName}
 use Rattle.rt_names.specs.Table.{IsTableName}
 use Rattle.rt_names.specs.Parts.{joined}
-use Rattle.rt_names.specs.Name.{name_text, name_of, IsSegmentName}
+use Rattle.rt_names.specs.Name.{name_text, name_of}
 use Rattle.rt_names.proofs.Bytes.{minute_without}
 use Rattle.rt_names.proofs.Numerals.{decimal_without}
 use Rattle.rt_names.proofs.parts.Parts.of.Goals as goal

@@ -1,0 +1,153 @@
+-- What each call promises, by what a store means before it and after it.
+use Rattle.std.specs.Prelude.{◌≡◌, ℕ, ◌+◌, ◌<◌, ◌≤◌, List, [], ◌∷◌, drop, Bool, true, false, Option, Some, None, Result, Ok, Err, ⊤}
+use Rattle.rt_base.specs.declared.numbers.Partition.{Partition}
+use Rattle.rt_base.specs.declared.numbers.Instance.{Instance}
+use Rattle.rt_model.specs.declared.node.Key.{Key}
+use Rattle.rt_model.specs.declared.node.Node.{Node}
+use Rattle.rt_model.specs.declared.node.Seen.{Seen}
+use Rattle.rt_model.specs.declared.node.Listed.{Listed}
+use Rattle.rt_model.specs.Starting.{Starting}
+use Rattle.rt_model.specs.Lawful.{Write, create, set, delete, create_after, bump, IsLawful, IsLawfulHistory}
+use Rattle.rt_store.specs.declared.refused.StoreRefused.{StoreRefused}
+use Rattle.rt_store.specs.declared.refused.StoreRefused.TheVariants.{NoNode, Exists, VersionChanged, Failed, Memory}
+use Rattle.rt_store.specs.Meaning.{Told, Meaning}
+use Rattle.rt_store.specs.Seen.{Grows}
+use Rattle.rt_store.specs.Answers.{reading, listing, answer_of, after_call}
+
+-- the fault that a call meets: none, one by which the call is lost, or one by which it is carried out and only
+-- its answer is lost
+pub data Fault : Type 0 where
+  Nothing : Fault
+  Lost : Fault
+  Kept : Fault
+
+abbrev pub fault_by : Option Bool → Fault
+fault_by None = Nothing
+fault_by (Some true) = Kept
+fault_by (Some false) = Lost
+
+-- the first planned fault, if there is one
+abbrev pub planned : List Bool → Option Bool
+planned [] = None
+planned (kept ∷ plan) = Some kept
+
+-- the fault that the next call meets
+abbrev pub fault_of : List Bool → Fault
+fault_of plan = fault_by (planned plan)
+
+-- what is told once the next call has met its fault
+abbrev pub met_by : Option Bool → Told → Told
+met_by None t = t
+met_by (Some kept) t = record t { plan = drop 1 t.plan; met = t.met + 1 }
+
+abbrev pub told_met : Told → Told
+told_met t = met_by (planned t.plan) t
+
+-- what is told after a call that left these writes
+abbrev pub told_after : Told → List Seen → Told
+told_after t writes = record (told_met t) { writes = writes }
+
+-- the call met this fault and left these writes, as far as that is told
+abbrev pub Meets : Option Told → Option Told → Fault → List Seen → Type 0
+Meets None new fault writes = new ≡ None
+Meets (Some t) new fault writes = (fault ≡ fault_of t.plan) × (new ≡ Some (told_after t writes))
+
+-- a fault raises the count, which never falls
+abbrev pub Counts : ℕ → ℕ → Fault → Type 0
+Counts before now Nothing = before ≤ now
+Counts before now Lost = before < now
+Counts before now Kept = before < now
+
+abbrev pub answer_under : {X : Type 0} → Fault → Result X StoreRefused → Result X StoreRefused
+answer_under Nothing answer = answer
+answer_under Lost answer = Err Failed
+answer_under Kept answer = Err Failed
+
+-- the writes after a call that stands on `base`, and that would leave `after`
+abbrev pub writes_under : Fault → List Seen → List Seen → List Seen
+writes_under Nothing base after = after
+writes_under Lost base after = base
+writes_under Kept base after = after
+
+-- all writes, where they are told
+abbrev pub AreAll : Option Told → List Seen → Type 0
+AreAll None base = ⊤
+AreAll (Some t) base = base ≡ t.writes
+
+-- the writes on which a call stands: they begin with what its caller has seen, they are all where these are
+-- told, and they are a lawful history where what its caller has seen is one
+pub record Sees (old : Meaning) (base : List Seen) : Type 0 where
+  pub grows : Grows old.seen base
+  pub all : AreAll old.told base
+  pub lawful : (s : Starting) → IsLawfulHistory s old.seen → IsLawfulHistory s base
+
+-- a call that met a fault, or none, and that would give this answer and leave these writes without it
+pub record Goes {X : Type 0} (old new : Meaning) (fault : Fault) (base after : List Seen) (answer result : Result X StoreRefused) : Type 0 where
+  pub meets : Meets old.told new.told fault new.seen
+  pub counts : Counts old.faults new.faults fault
+  pub answered : result ≡ answer_under fault answer
+  pub seen : new.seen ≡ writes_under fault base after
+
+-- a call that ran out of memory: nothing is written, and no fault is met
+pub record Stays (old new : Meaning) (base : List Seen) : Type 0 where
+  pub told : new.told ≡ old.told
+  pub faults : new.faults ≡ old.faults
+  pub seen : new.seen ≡ base
+
+abbrev pub GoesBy : {X : Type 0} → Meaning → Meaning → Fault → List Seen → List Seen → Result X StoreRefused → Result X StoreRefused → Type 0
+GoesBy old new fault base after answer (Err Memory) = Stays old new base
+GoesBy old new fault base after answer (Err NoNode) = Goes old new fault base after answer (Err NoNode)
+GoesBy old new fault base after answer (Err (Exists found)) = Goes old new fault base after answer (Err (Exists found))
+GoesBy old new fault base after answer (Err (VersionChanged expected found)) = Goes old new fault base after answer (Err (VersionChanged expected found))
+GoesBy old new fault base after answer (Err Failed) = Goes old new fault base after answer (Err Failed)
+GoesBy old new fault base after answer (Ok x) = Goes old new fault base after answer (Ok x)
+
+-- a call: over the writes on which it stands it gives this answer and leaves these writes, but for a fault and
+-- for want of memory
+pub record Calls {X : Type 0} (old new : Meaning) (answer : List Seen → Result X StoreRefused) (after : List Seen → List Seen) (result : Result X StoreRefused) : Type 0 where
+  pub fault : Fault
+  pub base : List Seen
+  pub sees : Sees old base
+  pub goes : GoesBy old new fault base (after base) (answer base) result
+
+abbrev pub Reads : Meaning → Meaning → Key → Result Seen StoreRefused → Type 0
+Reads old new k result = Calls old new (reading k) (λ base. base) result
+
+abbrev pub Lists : Meaning → Meaning → Partition → Result (List Listed) StoreRefused → Type 0
+Lists old new p result = Calls old new (listing p) (λ base. base) result
+
+-- a write call that answers nothing but that it was carried out
+abbrev pub Writes : Meaning → Meaning → Write → Result (Unit {0}) StoreRefused → Type 0
+Writes old new call result = Calls old new (answer_of (λ w. tt) call) (after_call call) result
+
+-- a write call that answers the version of what it wrote
+abbrev pub WritesVersion : Meaning → Meaning → Write → Result ℕ StoreRefused → Type 0
+WritesVersion old new call result = Calls old new (answer_of (λ w. w.version) call) (after_call call) result
+
+abbrev pub Creates : Meaning → Meaning → Key → Node → Result (Unit {0}) StoreRefused → Type 0
+Creates old new k n result = Writes old new (create k n) result
+
+abbrev pub SetsFrom : Meaning → Meaning → Seen → Node → Result ℕ StoreRefused → Type 0
+SetsFrom old new from n result = WritesVersion old new (set from n) result
+
+abbrev pub Deletes : Meaning → Meaning → Seen → Result (Unit {0}) StoreRefused → Type 0
+Deletes old new from result = Writes old new (delete from) result
+
+abbrev pub CreatesAfter : Meaning → Meaning → Key → Node → Seen → Result (Unit {0}) StoreRefused → Type 0
+CreatesAfter old new k n prior result = Writes old new (create_after k n prior) result
+
+abbrev pub Bumps : Meaning → Meaning → Instance → Result ℕ StoreRefused → Type 0
+Bumps old new i result = WritesVersion old new (bump i) result
+
+-- the call is lawful over what its caller has seen
+abbrev pub MayCreate : Meaning → Key → Node → Type 0
+MayCreate m k n = IsLawful m.seen (create k n)
+
+abbrev pub MaySet : Meaning → Seen → Node → Type 0
+MaySet m from n = IsLawful m.seen (set from n)
+
+abbrev pub MayDelete : Meaning → Seen → Type 0
+MayDelete m from = IsLawful m.seen (delete from)
+
+abbrev pub MayCreateAfter : Meaning → Key → Node → Seen → Type 0
+MayCreateAfter m k n prior = IsLawful m.seen (create_after k n prior)

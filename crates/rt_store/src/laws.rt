@@ -1,0 +1,52 @@
+ghost use Rattle.std.specs.Prelude.{◌≡◌, ◌↔◌, ℕ, List, None, Result, Ok};
+ghost use Rattle.rt_base.specs.declared.numbers.Partition.{Partition};
+ghost use Rattle.rt_model.specs.declared.node.Key.{Key};
+ghost use Rattle.rt_model.specs.declared.node.Seen.{Seen};
+ghost use Rattle.rt_model.specs.declared.node.Listed.{Listed};
+ghost use Rattle.rt_model.specs.History.{Has};
+ghost use Rattle.rt_model.specs.Starting.{Starting};
+ghost use Rattle.rt_model.specs.Lawful.{Write, IsLawful, IsLawfulHistory, TakesEffect};
+ghost use Rattle.rt_store.specs.declared.refused.StoreRefused.{StoreRefused};
+ghost use Rattle.rt_store.specs.Meaning.{Meaning};
+ghost use Rattle.rt_store.specs.Answers.{refusal_of};
+ghost use Rattle.rt_store.specs.Calls.{Reads, Lists, Writes, WritesVersion};
+ghost use Rattle.rt_store.specs.Seen.{Grows, listed_write};
+
+/// A write call is refused by what stands exactly where it would not take effect.
+pub fn refusals_are_of_no_effect()
+    ensures { (h : List Seen) (call : Write) → (refusal_of h call ≡ None) ↔ TakesEffect h call }
+{}
+
+/// What a caller has seen stays seen, whichever call it makes and whatever that answers.
+pub fn what_was_seen_stays_seen()
+    ensures reads { (old new : Meaning) (k : Key) (result : Result Seen StoreRefused)
+        → Reads old new k result → Grows old.seen new.seen }
+    ensures lists { (old new : Meaning) (p : Partition) (result : Result (List Listed) StoreRefused)
+        → Lists old new p result → Grows old.seen new.seen }
+    ensures writes { (old new : Meaning) (call : Write) (result : Result (Unit {0}) StoreRefused)
+        → Writes old new call result → Grows old.seen new.seen }
+    ensures writes_version { (old new : Meaning) (call : Write) (result : Result ℕ StoreRefused)
+        → WritesVersion old new call result → Grows old.seen new.seen }
+{}
+
+/// What a read or a list answers has been seen, as a write of its key.
+pub fn answers_were_seen()
+    ensures reads { (old new : Meaning) (k : Key) (w : Seen)
+        → Reads old new k (Ok w) → Has new.seen w × (w.key ≡ k) }
+    ensures lists { (old new : Meaning) (p : Partition) (ls : List Listed) (l : Listed)
+        → Lists old new p (Ok ls) → Has ls l → Has new.seen (listed_write p l) }
+{}
+
+/// Where a caller has seen a lawful history, each call keeps it so: reads and lists, and writes that are lawful over
+/// what the caller has seen.
+pub fn lawful_calls_keep_the_history_lawful()
+    ensures reads { (s : Starting) (old new : Meaning) (k : Key) (result : Result Seen StoreRefused)
+        → IsLawfulHistory s old.seen → Reads old new k result → IsLawfulHistory s new.seen }
+    ensures lists { (s : Starting) (old new : Meaning) (p : Partition) (result : Result (List Listed) StoreRefused)
+        → IsLawfulHistory s old.seen → Lists old new p result → IsLawfulHistory s new.seen }
+    ensures writes { (s : Starting) (old new : Meaning) (call : Write) (result : Result (Unit {0}) StoreRefused)
+        → IsLawfulHistory s old.seen → IsLawful old.seen call → Writes old new call result → IsLawfulHistory s new.seen }
+    ensures writes_version { (s : Starting) (old new : Meaning) (call : Write) (result : Result ℕ StoreRefused)
+        → IsLawfulHistory s old.seen → IsLawful old.seen call → WritesVersion old new call result
+        → IsLawfulHistory s new.seen }
+{}
