@@ -14,13 +14,13 @@ joined_more (x ∷ []) piece = refl
 joined_more (x ∷ y ∷ more) piece = rw (joined_more (y ∷ more) piece, comma_after (length more), comma_after (suc (length more))) (sym (append_assoc x (44 ∷ join_with_byte 44 (y ∷ more)) _))
 
 pub written_more : {X : Type 0} (f : X → List ℕ) (xs : List X) (i : ℕ) (d x : X) (start now mid after : List ℕ) → i < length xs → x ≡ get_or xs i d →
-  now ≡ start ++ join_with_byte 44 (map f (take i xs)) → mid ≡ now ++ comma_before i → after ≡ mid ++ f x → after ≡ start ++ join_with_byte 44 (map f (take (i + 1) xs))
+    now ≡ start ++ join_with_byte 44 (map f (take i xs)) → mid ≡ now ++ comma_before i → after ≡ mid ++ f x → after ≡ start ++ join_with_byte 44 (map f (take (i + 1) xs))
 written_more f xs i d x start now mid after h is so comma item =
-  let count : length (map f (take i xs)) ≡ i = length-map (take i xs) f ∙ length-take-le i xs (omega arith) in
-  let more : map f (take (i + 1) xs) ≡ map f (take i xs) ++ f x ∷ [] = map_more f xs i d h ∙ ap (λ y. map f (take i xs) ++ f y ∷ []) (sym is) in
-  let joined : join_with_byte 44 (map f (take i xs) ++ f x ∷ []) ≡ join_with_byte 44 (map f (take i xs)) ++ (comma_before i ++ f x) =
+    let count : length (map f (take i xs)) ≡ i = length-map (take i xs) f ∙ length-take-le i xs (omega arith) in
+    let more : map f (take (i + 1) xs) ≡ map f (take i xs) ++ f x ∷ [] = map_more f xs i d h ∙ ap (λ y. map f (take i xs) ++ f y ∷ []) (sym is) in
+    let joined : join_with_byte 44 (map f (take i xs) ++ f x ∷ []) ≡ join_with_byte 44 (map f (take i xs)) ++ (comma_before i ++ f x) =
     joined_more (map f (take i xs)) (f x) ∙ ap (λ n. join_with_byte 44 (map f (take i xs)) ++ (comma_before n ++ f x)) count in
-  rw (item, comma, so, more, joined) (simp append_assoc)
+    rw (item, comma, so, more, joined) (simp append_assoc)
 
 -- three fields and what follows them
 pub three_fields : (s s1 s2 s3 s4 a b c d : List ℕ) → s1 ≡ s ++ a → s2 ≡ s1 ++ b → s3 ≡ s2 ++ c → s4 ≡ s3 ++ d → s4 ≡ s ++ (a ++ (b ++ (c ++ d)))

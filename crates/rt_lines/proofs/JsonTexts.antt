@@ -29,7 +29,7 @@ high : (b : ℕ) → 128 ≤ b → IsPlain b
 high b h = record { quote = λ e. omega arith; backslash = λ e. omega arith; low = omega arith }
 
 plain_encoded : (one two three : Bool) (c : ℕ) → IsPlain c →
-  AllPlain (cond one (c ∷ []) (cond two ((192 + c / 64) ∷ next c ∷ []) (cond three ((224 + c / 4096) ∷ next (c / 64) ∷ next c ∷ []) ((240 + c / 262144) ∷ next (c / 4096) ∷ next (c / 64) ∷ next c ∷ []))))
+    AllPlain (cond one (c ∷ []) (cond two ((192 + c / 64) ∷ next c ∷ []) (cond three ((224 + c / 4096) ∷ next (c / 64) ∷ next c ∷ []) ((240 + c / 262144) ∷ next (c / 4096) ∷ next (c / 64) ∷ next c ∷ []))))
 plain_encoded true two three c plain = (plain, tt)
 plain_encoded false true three c plain = (high _ (omega arith), (high _ (omega arith), tt))
 plain_encoded false false true c plain = (high _ (omega arith), (high _ (omega arith), (high _ (omega arith), tt)))
@@ -41,5 +41,5 @@ plain_character c quote backslash low = plain_bytes _ (plain_encoded (ltb c 128)
 
 -- one character more of a JSON text
 pub one_more : (start now : List ℕ) (cs : List ℕ) (c : ℕ) → now ≡ start ++ flat_map escaped (encode_utf8_all cs) →
-  now ++ flat_map escaped (encode c) ≡ start ++ flat_map escaped (encode_utf8_all (cs ++ c ∷ []))
+    now ++ flat_map escaped (encode c) ≡ start ++ flat_map escaped (encode_utf8_all (cs ++ c ∷ []))
 one_more start now cs c h = grind (arith, common_steps, encodes-append cs (c ∷ []), flat_map-append escaped (encode_utf8_all cs) (encode c), h)

@@ -26,15 +26,15 @@ control_text code = codes "\\u00" ++ (digit_glyph false (code / 16) ∷ digit_gl
 -- a byte of a JSON text: the quote, the backslash and the control characters are escaped
 abbrev pub escaped : ℕ → List ℕ
 escaped b =
-  if b == 34 then codes "\\\"" else
-  (if b == 92 then codes "\\\\" else
-  (if b == 8 then codes "\\b" else
-  (if b == 9 then codes "\\t" else
-  (if b == 10 then codes "\\n" else
-  (if b == 12 then codes "\\f" else
-  (if b == 13 then codes "\\r" else
-  (if nat_lt b 32 then control_text b else
-  b ∷ [])))))))
+    if b == 34 then codes "\\\"" else
+    (if b == 92 then codes "\\\\" else
+    (if b == 8 then codes "\\b" else
+    (if b == 9 then codes "\\t" else
+    (if b == 10 then codes "\\n" else
+    (if b == 12 then codes "\\f" else
+    (if b == 13 then codes "\\r" else
+    (if nat_lt b 32 then control_text b else
+    b ∷ [])))))))
 
 -- a JSON text
 abbrev pub json_text : List ℕ → List ℕ

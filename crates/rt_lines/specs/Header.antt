@@ -59,8 +59,8 @@ then_past (Err fault) past = Err fault
 -- the lines behind the header
 abbrev pub past_header : ScriptLines → LinesOrFault
 past_header script =
-  then_past (past_line schema_line script.after script.lines) (λ lines.
-  then_past (past_line table_line script.after lines) (past_line cluster_line script.after))
+    then_past (past_line schema_line script.after script.lines) (λ lines.
+    then_past (past_line table_line script.after lines) (past_line cluster_line script.after))
 
 abbrev pub with_setup : LinesOrFault → Result (Setup × List (ℕ × List ℕ)) PlayFault
 with_setup (Ok lines) = Ok (header_setup, lines)

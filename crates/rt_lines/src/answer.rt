@@ -33,7 +33,10 @@ fn write_ranges(out: &mut String, ranges: &[(Partition, Range)]) -> Result<(), A
     write_array(out, ranges)
 }
 
-fn write_missing(out: &mut String, missing: &[(Partition, Option<Sequence>)]) -> Result<(), AllocError>
+fn write_missing(
+    out: &mut String,
+    missing: &[(Partition, Option<Sequence>)],
+) -> Result<(), AllocError>
     ensures { OnOk result (string_bytes out.new ≡ string_bytes out.old ++ missing_field missing.now) }
 {
     out.push_str(",\"missing\":")?;
@@ -42,7 +45,10 @@ fn write_missing(out: &mut String, missing: &[(Partition, Option<Sequence>)]) ->
 }
 
 // The array of what is missing.
-fn write_segments(out: &mut String, missing: &[(Partition, Option<Sequence>)]) -> Result<(), AllocError>
+fn write_segments(
+    out: &mut String,
+    missing: &[(Partition, Option<Sequence>)],
+) -> Result<(), AllocError>
     ensures { OnOk result (string_bytes out.new ≡ string_bytes out.old ++ array_of (map missing_text missing.now)) }
 {
     out.push('[')?;

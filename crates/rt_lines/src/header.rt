@@ -14,11 +14,14 @@ use rt_model::Setup;
 use rt_schema::{Column, Kind, Role, Schema, Table};
 use std::alloc::{AllocError, Global};
 
-const SCHEMA_LINE: &str = "schema {\"schemaName\":\"t\",\"dimensionFieldSpecs\":[{\"name\":\"k\",\"dataType\":\"STRING\"}],\"metricFieldSpecs\":[{\"name\":\"v\",\"dataType\":\"LONG\"}]}";
+const SCHEMA_LINE: &str =
+    "schema {\"schemaName\":\"t\",\"dimensionFieldSpecs\":[{\"name\":\"k\",\"dataType\":\"STRING\"}],\"metricFieldSpecs\":[{\"name\":\"v\",\"dataType\":\"LONG\"}]}";
 
-const TABLE_LINE: &str = "table {\"tableName\":\"t\",\"tableType\":\"REALTIME\",\"segmentsConfig\":{\"replication\":\"1\"},\"tableIndexConfig\":{\"invertedIndexColumns\":[\"k\"],\"streamConfigs\":{\"realtime.segment.flush.threshold.rows\":\"100\",\"realtime.segment.flush.threshold.time\":\"1h\"}}}";
+const TABLE_LINE: &str =
+    "table {\"tableName\":\"t\",\"tableType\":\"REALTIME\",\"segmentsConfig\":{\"replication\":\"1\"},\"tableIndexConfig\":{\"invertedIndexColumns\":[\"k\"],\"streamConfigs\":{\"realtime.segment.flush.threshold.rows\":\"100\",\"realtime.segment.flush.threshold.time\":\"1h\"}}}";
 
-const CLUSTER_LINE: &str = "cluster servers=1 controllers=1 partitions=1 start=1700000000000 grace=0";
+const CLUSTER_LINE: &str =
+    "cluster servers=1 controllers=1 partitions=1 start=1700000000000 grace=0";
 
 /// Reads the three header lines: the schema, the table and the cluster. One header is taken so far.
 /// Any other line in their places is refused, and a missing one by the number after the last line.

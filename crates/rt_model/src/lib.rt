@@ -58,3 +58,6 @@ pub use rules::{
 pub use seg_meta::{SeenMeta, SegMeta};
 pub use setup::Setup;
 pub use status::Status;
+
+#[cfg(test)]
+mod tests;

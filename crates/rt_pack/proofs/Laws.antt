@@ -90,24 +90,24 @@ number_clear : (width : ℕ) (bits : List ℕ) → AreBits bits → length bits 
 number_clear zero bits h e none k d l = absurd (omega arith)
 number_clear (suc width) [] h e none k d l = absurd (omega (arith, l))
 number_clear (suc width) (bit ∷ bits) h e none zero d l =
-  ⊎_elim
-  (λ clear. clear)
-  (λ set. absurd (omega (arith, pow_pos width, mul-le 1 (2 ^ width) bit (2 ^ width) (omega arith) (omega arith))))
-  (cases_zero bit)
+    ⊎_elim
+    (λ clear. clear)
+    (λ set. absurd (omega (arith, pow_pos width, mul-le 1 (2 ^ width) bit (2 ^ width) (omega arith) (omega arith))))
+    (cases_zero bit)
 number_clear (suc width) (bit ∷ bits) h e none (suc k) d l = number_clear width bits (λ i. h (suc i)) (omega (arith, e)) (omega arith) k d (omega (arith, l))
 
 clear_number : (width : ℕ) (bits : List ℕ) → length bits ≡ width → All (λ bit. bit ≡ 0) bits → number_of width bits ≡ 0
 clear_number zero bits e h = refl
 clear_number (suc width) [] e h = refl
 clear_number (suc width) (bit ∷ bits) e h =
-  omega (arith, ap (λ b. b * 2 ^ width) (h 0 0 (omega arith)), clear_number width bits (omega (arith, e)) (λ k d l. h (suc k) d (omega (arith, l))))
+    omega (arith, ap (λ b. b * 2 ^ width) (h 0 0 (omega arith)), clear_number width bits (omega (arith, e)) (λ k d l. h (suc k) d (omega (arith, l))))
 
 -- the spare bits are the low bits of the last byte
 pub spare_number : (width rows : ℕ) (bytes : List ℕ) → length bytes ≡ bytes_for width rows →
-  number_of (8 * length bytes - rows * width) (spare_bits width rows bytes) ≡ get_or bytes (length bytes - 1) 0 % 2 ^ (8 * length bytes - rows * width)
+    number_of (8 * length bytes - rows * width) (spare_bits width rows bytes) ≡ get_or bytes (length bytes - 1) 0 % 2 ^ (8 * length bytes - rows * width)
 spare_number width rows bytes len = ⊎_elim
-  (λ whole. ap (λ n. number_of n (spare_bits width rows bytes)) whole ∙ omega (arith, ap (λ n. get_or bytes (length bytes - 1) 0 % 2 ^ n) whole))
-  (λ some.
+    (λ whole. ap (λ n. number_of n (spare_bits width rows bytes)) whole ∙ omega (arith, ap (λ n. get_or bytes (length bytes - 1) 0 % 2 ^ n) whole))
+    (λ some.
     let spare = 8 * length bytes - rows * width in
     let last = length bytes - 1 in
     let bits = drop (last * 8) (all_bits 8 bytes) in
@@ -116,19 +116,20 @@ spare_number width rows bytes len = ⊎_elim
     let place : last * 8 + (8 - spare) ≡ rows * width = omega arith in
     let rest : drop (8 - spare) bits ≡ spare_bits width rows bytes = drop-drop (8 - spare) (last * 8) (all_bits 8 bytes) ∙ ap (λ n. drop n (all_bits 8 bytes)) place in
     let small : number_of spare (drop (8 - spare) bits) < 2 ^ spare =
-      number_of_below spare (drop (8 - spare) bits) (AreBits_drop (8 - spare) bits (AreBits_drop (last * 8) (all_bits 8 bytes) (AreBits_all_bits 8 bytes))) in
+    number_of_below spare (drop (8 - spare) bits) (AreBits_drop (8 - spare) bits (AreBits_drop (last * 8) (all_bits 8 bytes) (AreBits_all_bits 8 bytes))) in
     let byte : number_of 8 bits ≡ get_or bytes last 0 % 2 ^ 8 = number_of_row 8 last bytes there in
     let parts : number_of 8 bits ≡ number_of (8 - spare) bits * 2 ^ spare + number_of spare (drop (8 - spare) bits) = ap (λ n. number_of n bits) (sym used) ∙ number_of_add (8 - spare) spare bits in
     let low : number_of 8 bits % 2 ^ spare ≡ number_of spare (drop (8 - spare) bits) = ap (λ n. n % 2 ^ spare) parts ∙ mod-mul-add (number_of (8 - spare) bits) (2 ^ spare) (number_of spare (drop (8 - spare) bits)) small in
     ap (λ bs. number_of spare bs) (sym rest) ∙ sym low ∙ ap (λ n. n % 2 ^ spare) byte
     ∙ ap (λ n. get_or bytes last 0 % 2 ^ n % 2 ^ spare) (sym used) ∙ mod-mod-pow (get_or bytes last 0) (8 - spare) spare)
-  (cases_zero (8 * length bytes - rows * width))
+    (cases_zero (8 * length bytes - rows * width))
 
 -- the spare bits are 0 exactly where the low bits of the last byte are
 pub spare_is_clear : (width rows : ℕ) (bytes : List ℕ) → length bytes ≡ bytes_for width rows →
-  All (λ bit. bit ≡ 0) (spare_bits width rows bytes) ↔ (get_or bytes (length bytes - 1) 0 % 2 ^ (8 * length bytes - rows * width) ≡ 0)
+    All (λ bit. bit ≡ 0) (spare_bits width rows bytes) ↔ (get_or bytes (length bytes - 1) 0 % 2 ^ (8 * length bytes - rows * width) ≡ 0)
 spare_is_clear width rows bytes len =
-  let spare = 8 * length bytes - rows * width in
-  let size : length (spare_bits width rows bytes) ≡ spare = omega (arith, length-drop (rows * width) (all_bits 8 bytes), length_all_bits 8 bytes) in
-  ( (λ h. sym (spare_number width rows bytes len) ∙ clear_number spare (spare_bits width rows bytes) size h)
-  , (λ h. number_clear spare (spare_bits width rows bytes) (AreBits_drop (rows * width) (all_bits 8 bytes) (AreBits_all_bits 8 bytes)) size (spare_number width rows bytes len ∙ h)) )
+    let spare = 8 * length bytes - rows * width in
+    let size : length (spare_bits width rows bytes) ≡ spare = omega (arith, length-drop (rows * width) (all_bits 8 bytes), length_all_bits 8 bytes) in (
+      (λ h. sym (spare_number width rows bytes len) ∙ clear_number spare (spare_bits width rows bytes) size h),
+      (λ h. number_clear spare (spare_bits width rows bytes) (AreBits_drop (rows * width) (all_bits 8 bytes) (AreBits_all_bits 8 bytes)) size (spare_number width rows bytes len ∙ h)),
+    )

@@ -39,7 +39,7 @@ stop_answer fault input told same within stop = subst (λ bytes. Err fault ≡ a
 
 end_answer : (end : PlayEnd) (input told : List ℕ) → input ≡ told → length input ≤ input_limit → (report_of input).stop ≡ None → end.lines ≡ length (report_of input).texts → Ok end ≡ answer_of told
 end_answer end input told same within stop count =
-  subst (λ bytes. Ok end ≡ answer_of bytes) same (ap ended_with count ∙ sym (short_answer input within ∙ ap (answer_by (report_of input)) stop))
+    subst (λ bytes. Ok end ≡ answer_of bytes) same (ap ended_with count ∙ sym (short_answer input within ∙ ap (answer_by (report_of input)) stop))
   where
     ended_with : ℕ → Result PlayEnd PlayFault
     ended_with n = Ok (record { lines = n })
@@ -49,7 +49,7 @@ told_input : (from to : SourceMeaning) (input told : List ℕ) → from.left ≡
 told_input from to input told is reads = all_read to.left input told (sym is ∙ reads.taken.left) reads.ended
 
 pub completes : (result : Result PlayEnd PlayFault) (from to : SourceMeaning) (old new : SinkMeaning) (told : List ℕ) → PlaysInput from to old new result → from.left ≡ Some told →
-  (Rises from.faults to.faults → ⊥) → (Rises old.faults new.faults → ⊥) → Meets (answer_of told) result
+    (Rises from.faults to.faults → ⊥) → (Rises old.faults new.faults → ⊥) → Meets (answer_of told) result
 completes (Ok end) from to old new told plays is read wrote = end_answer end plays.input told (told_input from to plays.input told is plays.reads) plays.reads.within plays.tells.0.stop plays.tells.1
 completes (Err Usage) from to old new told plays is read wrote = absurd plays
 completes (Err ReadFault) from to old new told plays is read wrote = absurd (read plays.counts)
@@ -57,7 +57,7 @@ completes (Err WriteFault) from to old new told plays is read wrote = absurd (wr
 completes (Err Memory) from to old new told plays is read wrote = tt
 completes (Err (Refused line reason)) from to old new told plays is read wrote = stop_answer _ plays.input told (told_input from to plays.input told is plays.reads) plays.reads.within plays.tells.stop
 completes (Err (Limit Input)) from to old new told plays is read wrote =
-  sym (if_true input_limit (length told) _ _ (omega (arith, plays.long, read_front to.left plays.input told (sym is ∙ plays.taken.left))))
+    sym (if_true input_limit (length told) _ _ (omega (arith, plays.long, read_front to.left plays.input told (sym is ∙ plays.taken.left))))
 completes (Err (Limit Partitions)) from to old new told plays is read wrote = stop_answer _ plays.input told (told_input from to plays.input told is plays.reads) plays.reads.within plays.tells.stop
 completes (Err (Limit Servers)) from to old new told plays is read wrote = stop_answer _ plays.input told (told_input from to plays.input told is plays.reads) plays.reads.within plays.tells.stop
 completes (Err (Limit Controllers)) from to old new told plays is read wrote = stop_answer _ plays.input told (told_input from to plays.input told is plays.reads) plays.reads.within plays.tells.stop

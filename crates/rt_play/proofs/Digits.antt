@@ -24,7 +24,7 @@ pub tens_overflow : (ds : List ℕ) (i n : ℕ) → i < length ds → digits_val
 tens_overflow ds i n h so large = omega (arith, value_step ds i n h, value_grows (drop (i + 1) ds) (n * 10 + digit_value (get_or ds i 0)), so)
 
 pub more_overflow : (ds : List ℕ) (i n : ℕ) → i < length ds → is_ascii_digit (get_or ds i 0) ≡ true → digits_value_after 10 n (drop i ds) ≡ digits_value 10 ds →
-  18446744073709551616 ≤ n * 10 + (get_or ds i 0 - 48) → 18446744073709551615 < digits_value 10 ds
+    18446744073709551616 ≤ n * 10 + (get_or ds i 0 - 48) → 18446744073709551615 < digits_value 10 ds
 more_overflow ds i n h digit so large = omega (arith, value_step ds i n h, value_grows (drop (i + 1) ds) (n * 10 + digit_value (get_or ds i 0)), so, digit_known (get_or ds i 0) digit)
 
 pub digit_at : (ds : List ℕ) (i : ℕ) → list_all is_ascii_digit ds ≡ true → i < length ds → is_ascii_digit (get_or ds i 0) ≡ true

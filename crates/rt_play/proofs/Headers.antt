@@ -41,9 +41,9 @@ none_told report s = record { count = 0; puts = nothing_put s }
 
 pub header_stops : (fault : PlayFault) (input : List ℕ) (script new : ScriptLines) (s : SinkMeaning) → script ≡ script_lines input → ReadsHeader script new (Err fault) → Tells (report_of input) s s (Err fault)
 header_stops (Refused line reason) input script new s is reads =
-  subst (λ r. Stops r s s (Some (Refused line reason))) (sym (ap report_behind (sym (ap header_of is) ∙ reads))) (record { stop = refl; puts = nothing_put s })
+    subst (λ r. Stops r s s (Some (Refused line reason))) (sym (ap report_behind (sym (ap header_of is) ∙ reads))) (record { stop = refl; puts = nothing_put s })
 header_stops (Limit which) input script new s is reads =
-  subst (λ r. Stops r s s (Some (Limit which))) (sym (ap report_behind (sym (ap header_of is) ∙ reads))) (record { stop = refl; puts = nothing_put s })
+    subst (λ r. Stops r s s (Some (Limit which))) (sym (ap report_behind (sym (ap header_of is) ∙ reads))) (record { stop = refl; puts = nothing_put s })
 header_stops Memory input script new s is reads = none_told (report_of input) s
 header_stops Usage input script new s is reads = absurd reads
 header_stops ReadFault input script new s is reads = absurd reads
@@ -51,13 +51,13 @@ header_stops WriteFault input script new s is reads = absurd reads
 
 -- the report of a script is that of its lines, from the first world on
 pub header_passed : (input : List ℕ) (script : ScriptLines) (setup : Setup) (lines : List (ℕ × List ℕ)) (old new : SinkMeaning) (result : Result PlayEnd PlayFault) → script ≡ script_lines input →
-  header_of script ≡ Ok (setup, lines) → Tells (report_from lines (start setup)) old new result → Tells (report_of input) old new result
+    header_of script ≡ Ok (setup, lines) → Tells (report_from lines (start setup)) old new result → Tells (report_of input) old new result
 header_passed input script setup lines old new result is e tells =
-  subst (λ r. Tells r old new result) (sym (ap report_behind (sym (ap header_of is) ∙ e))) tells
+    subst (λ r. Tells r old new result) (sym (ap report_behind (sym (ap header_of is) ∙ e))) tells
 
 -- the lines run from the world that was made
 pub made_tells : (world : Kept) (setup : Setup) (lines : List (ℕ × List ℕ)) (old new : SinkMeaning) (result : Result PlayEnd PlayFault) → world ≡ record { state = start setup; spent = false } →
-  Tells (report_from lines world.state) old new result → Tells (report_from lines (start setup)) old new result
+    Tells (report_from lines world.state) old new result → Tells (report_from lines (start setup)) old new result
 made_tells world setup lines old new result made tells = subst (λ (w : Kept). Tells (report_from lines w.state) old new result) made tells
 
 safe_behind : (script : ScriptLines) (header : Result Passed PlayFault) → header_of script ≡ header → IsSafeBehind header

@@ -46,10 +46,10 @@ room_never count w = due_by (nat_le (w.events + count) events_limit) (Ok tt) (Er
 
 due_never : (w : State) (event : Event) → IsInputDue (due_of w event) → ⊥
 due_never w (Produce partition message) =
-  due_by (nat_lt partition.0 w.setup.partitions) (if nat_le (length message) message_limit then room_for 1 w else Err (Limit Message)) (Err NoSuchNode)
+    due_by (nat_lt partition.0 w.setup.partitions) (if nat_le (length message) message_limit then room_for 1 w else Err (Limit Message)) (Err NoSuchNode)
     (due_by (nat_le (length message) message_limit) (room_for 1 w) (Err (Limit Message)) (room_never 1 w) message_never) node_never
 due_never w (Consume instance partition sequence max) =
-  due_by (nat_lt instance.0 w.setup.servers && nat_lt partition.0 w.setup.partitions)
+    due_by (nat_lt instance.0 w.setup.servers && nat_lt partition.0 w.setup.partitions)
     (if is_of w.replica instance partition sequence && (is_consuming w.replica.state && nat_lt 0 max) then room_for 1 w else Err NothingToDo) (Err NoSuchNode)
     (due_by (is_of w.replica instance partition sequence && (is_consuming w.replica.state && nat_lt 0 max)) (room_for 1 w) (Err NothingToDo) (room_never 1 w) nothing_never) node_never
 due_never w Query = room_never 4 w
@@ -75,7 +75,7 @@ fault_never line (Limit which) never e = never (ap (λ w. limited w) (same_which
 fault_never line Memory never e = cc
 
 step_never : (line : ℕ) (event : Event) (due : Due) (x : State × Outcome) (rest : State → Report) → (IsInputDue due → ⊥) → ((v : State) → IsInputStop (rest v).stop → ⊥) →
-  IsInputStop (report_step line event (given_by due x) rest).stop → ⊥
+    IsInputStop (report_step line event (given_by due x) rest).stop → ⊥
 step_never line event (Ok u) x rest never later = later x.0
 step_never line event (Err refusal) x rest never later = fault_never line refusal never
 
@@ -110,7 +110,7 @@ then_never (Err f) more first later = first
 
 header_never : (script : ScriptLines) → IsInputFault (past_header script) → ⊥
 header_never script =
-  then_never (past_line schema_line script.after script.lines) _ (past_never schema_line script.after script.lines)
+    then_never (past_line schema_line script.after script.lines) _ (past_never schema_line script.after script.lines)
     (λ lines. then_never (past_line table_line script.after lines) (past_line cluster_line script.after) (past_never table_line script.after lines) (past_never cluster_line script.after))
 
 abbrev refused_past : PlayFault → LinesOrFault

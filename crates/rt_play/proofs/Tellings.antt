@@ -43,26 +43,27 @@ put_text old mid new texts text before now = record {
 -- a run whose lines are at their end
 pub tells_end : (report : Report) (texts : List (List ℕ)) (old now : SinkMeaning) (end : PlayEnd) → report ≡ told_all texts ended → Puts old now (concat texts) → end.lines ≡ length texts → Tells report old now (Ok end)
 tells_end report texts old now end same puts count =
-  let whole : report.texts ≡ texts = ap (λ r. r.texts) same ∙ append-nil texts in (
-  record { stop = ap (λ r. r.stop) same; puts = subst (λ all. Puts old now (concat all)) (sym whole) puts },
-  count ∙ ap length (sym whole))
+    let whole : report.texts ≡ texts = ap (λ r. r.texts) same ∙ append-nil texts in (
+      record { stop = ap (λ r. r.stop) same; puts = subst (λ all. Puts old now (concat all)) (sym whole) puts },
+      count ∙ ap length (sym whole),
+    )
 
 stops_there : (report : Report) (texts : List (List ℕ)) (old now : SinkMeaning) (fault : PlayFault) → report ≡ told_all texts (stopped fault) → Puts old now (concat texts) → Stops report old now (Some fault)
 stops_there report texts old now fault same puts =
-  let whole : report.texts ≡ texts = ap (λ r. r.texts) same ∙ append-nil texts in
-  record { stop = ap (λ r. r.stop) same; puts = subst (λ all. Puts old now (concat all)) (sym whole) puts }
+    let whole : report.texts ≡ texts = ap (λ r. r.texts) same ∙ append-nil texts in
+    record { stop = ap (λ r. r.stop) same; puts = subst (λ all. Puts old now (concat all)) (sym whole) puts }
 
 take_front : (xs ys : List (List ℕ)) → take (length xs) (xs ++ ys) ≡ xs
 take_front xs ys = grind (arith, common_steps)
 
 pub runs_out_there : (report rest : Report) (texts : List (List ℕ)) (old now : SinkMeaning) → report ≡ told_all texts rest → Puts old now (concat texts) → PutsLines report old now
 runs_out_there report rest texts old now same puts =
-  let first : take (length texts) report.texts ≡ texts = ap (λ r. take (length texts) r.texts) same ∙ take_front texts rest.texts in
-  record { count = length texts; puts = subst (λ all. Puts old now (concat all)) (sym first) puts }
+    let first : take (length texts) report.texts ≡ texts = ap (λ r. take (length texts) r.texts) same ∙ take_front texts rest.texts in
+    record { count = length texts; puts = subst (λ all. Puts old now (concat all)) (sym first) puts }
 
 -- a line that stops the run
 pub tells_stop : (fault : PlayFault) (number : ℕ) (line text : List ℕ) (w v : Kept) (rest : State → Report) (report : Report) (texts : List (List ℕ)) (old now : SinkMeaning) →
-  PlaysLine number line w v text (Err fault) → report ≡ told_all texts (report_line number (event_of line) w.state rest) → Puts old now (concat texts) → Tells report old now (Err fault)
+    PlaysLine number line w v text (Err fault) → report ≡ told_all texts (report_line number (event_of line) w.state rest) → Puts old now (concat texts) → Tells report old now (Err fault)
 tells_stop (Refused at reason) number line text w v rest report texts old now plays same puts = stops_there report texts old now _ (same ∙ ap (told_all texts) (plays rest)) puts
 tells_stop (Limit which) number line text w v rest report texts old now plays same puts = stops_there report texts old now _ (same ∙ ap (told_all texts) (plays rest)) puts
 tells_stop Memory number line text w v rest report texts old now plays same puts = runs_out_there report _ texts old now same puts
@@ -72,12 +73,12 @@ tells_stop WriteFault number line text w v rest report texts old now plays same 
 
 -- a text that was written in part
 pub tells_fault : (report rest : Report) (texts : List (List ℕ)) (text : List ℕ) (old mid new : SinkMeaning) → report ≡ told_all texts (told text rest) → Puts old mid (concat texts) → FailsWithin text mid new →
-  FailsWithin (concat report.texts) old new
+    FailsWithin (concat report.texts) old new
 tells_fault report rest texts text old mid new same puts fails = record {
   front = concat texts ++ fails.front;
   rest = fails.rest ++ concat rest.texts;
   whole = ap (λ r. concat r.texts) same ∙ concat-append texts (text ∷ rest.texts) ∙ ap (λ x. concat texts ++ (x ++ concat rest.texts)) fails.whole
-    ∙ ap (λ x. concat texts ++ x) (append_assoc fails.front fails.rest (concat rest.texts)) ∙ sym (append_assoc (concat texts) fails.front _);
+      ∙ ap (λ x. concat texts ++ x) (append_assoc fails.front fails.rest (concat rest.texts)) ∙ sym (append_assoc (concat texts) fails.front _);
   taken = fails.taken ∙ ap (λ x. added x fails.front) puts.taken ∙ added_more old.taken (concat texts) fails.front;
   counts = (omega (arith, puts.counts, fails.counts.0), λ h. omega (arith, puts.counts, fails.counts.0, fails.counts.1, h));
 }

@@ -13,9 +13,9 @@ take_further piece done count = take-add done count piece
 
 -- a piece of which so much was written, and then more
 pub put_more : (start now new : Option (List ℕ)) (piece : List ℕ) (done count : ℕ) → now ≡ added start (take done piece) →
-  new ≡ added now (take count (drop done piece)) → new ≡ added start (take (done + count) piece)
+    new ≡ added now (take count (drop done piece)) → new ≡ added start (take (done + count) piece)
 put_more start now new piece done count so then_so =
-  then_so ∙ ap (λ x. added x (take count (drop done piece))) so ∙ added_more start _ _ ∙ ap (added start) (sym (take_further piece done count))
+    then_so ∙ ap (λ x. added x (take count (drop done piece))) so ∙ added_more start _ _ ∙ ap (added start) (sym (take_further piece done count))
 
 put_back_more : (left : Option (List ℕ)) (a b : List ℕ) → put_back a (put_back b left) ≡ put_back (a ++ b) left
 put_back_more None a b = refl
@@ -23,7 +23,7 @@ put_back_more (Some rest) a b = ap Some (sym (append_assoc a b rest))
 
 -- what was read, and a piece more
 pub takes_more : (from mid to : SourceMeaning) (input piece : List ℕ) (count : ℕ) → from.left ≡ put_back input mid.left → from.faults ≤ mid.faults → Came mid to piece count →
-  length input + count ≤ 67108865 → Takes from to (input ++ take count piece)
+    length input + count ≤ 67108865 → Takes from to (input ++ take count piece)
 takes_more from mid to input piece count left counts came few = record {
   left = left ∙ ap (put_back input) came.left ∙ put_back_more to.left input (take count piece);
   few = omega (arith, length-append input (take count piece), length-take-le count piece came.fits, few);

@@ -26,7 +26,7 @@ place_in byte (b ∷ bs) = if b == byte then 0 else place_in byte bs + 1
 -- what stands before the first of these bytes, and what behind it
 abbrev pub parted_at : ℕ → List ℕ → Option (List ℕ × List ℕ)
 parted_at byte text =
-  if nat_lt (place_in byte text) (length text) then Some (take (place_in byte text) text, drop (place_in byte text + 1) text) else None
+    if nat_lt (place_in byte text) (length text) then Some (take (place_in byte text) text, drop (place_in byte text + 1) text) else None
 
 -- decimal digits without leading zeros
 abbrev pub is_numeral : List ℕ → Bool
@@ -62,9 +62,9 @@ is_message text = is_then (after_prefix (codes "{\"k\":\"") text) has_letter
 -- `P TEXT`
 abbrev pub produce_of : List ℕ → Option Event
 produce_of text =
-  then_some (parted_at 32 text) (λ parts.
-  then_some (index_of parts.0) (λ partition.
-  if is_message parts.1 then Some (Produce (record { 0 = partition }) parts.1) else None))
+    then_some (parted_at 32 text) (λ parts.
+    then_some (index_of parts.0) (λ partition.
+    if is_message parts.1 then Some (Produce (record { 0 = partition }) parts.1) else None))
 
 -- `sK`
 abbrev pub server_of : List ℕ → Option ℕ
@@ -74,10 +74,10 @@ server_of (b ∷ word) = if b == 115 then index_of word else None
 -- `P/Q`
 abbrev pub segment_of : List ℕ → Option (ℕ × ℕ)
 segment_of word =
-  then_some (parted_at 47 word) (λ parts.
-  then_some (index_of parts.0) (λ partition.
-  then_some (index_of parts.1) (λ sequence.
-  Some (partition, sequence))))
+    then_some (parted_at 47 word) (λ parts.
+    then_some (index_of parts.0) (λ partition.
+    then_some (index_of parts.1) (λ sequence.
+    Some (partition, sequence))))
 
 -- a batch of a number that no batch has is one of no message, at which there is nothing to do
 abbrev pub batch_of : ℕ → ℕ
@@ -86,12 +86,12 @@ batch_of count = if nat_le count 4294967295 then count else 0
 -- `sK P/Q N`
 abbrev pub consume_of : List ℕ → Option Event
 consume_of text =
-  then_some (parted_at 32 text) (λ first.
-  then_some (server_of first.0) (λ server.
-  then_some (parted_at 32 first.1) (λ second.
-  then_some (segment_of second.0) (λ segment.
-  then_some (number_of second.1) (λ count.
-  Some (Consume (record { 0 = server }) (record { 0 = segment.0 }) (record { 0 = segment.1 }) (batch_of count)))))))
+    then_some (parted_at 32 text) (λ first.
+    then_some (server_of first.0) (λ server.
+    then_some (parted_at 32 first.1) (λ second.
+    then_some (segment_of second.0) (λ segment.
+    then_some (number_of second.1) (λ count.
+    Some (Consume (record { 0 = server }) (record { 0 = segment.0 }) (record { 0 = segment.1 }) (batch_of count)))))))
 
 -- the one query that is taken so far
 abbrev pub query_of : List ℕ → Option Event
@@ -100,9 +100,9 @@ query_of text = if bytes_eq text (codes "SELECT COUNT(*) FROM t") then Some Quer
 -- a line's first word, and what follows the space behind it
 abbrev pub event_by : List ℕ → List ℕ → Option Event
 event_by word text =
-  if bytes_eq word (codes "produce") then produce_of text else
-  (if bytes_eq word (codes "consume") then consume_of text else
-  (if bytes_eq word (codes "query") then query_of text else None))
+    if bytes_eq word (codes "produce") then produce_of text else
+    (if bytes_eq word (codes "consume") then consume_of text else
+    (if bytes_eq word (codes "query") then query_of text else None))
 
 -- the event of a line, or none where the line is outside the grammar
 abbrev pub event_of : List ℕ → Option Event

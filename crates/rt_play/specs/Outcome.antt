@@ -23,12 +23,12 @@ state_text Discarded = codes "DISCARDED"
 abbrev pub subject_text : Event → List ℕ
 subject_text (Produce partition message) = decimal partition.0
 subject_text (Consume instance partition sequence max) =
-  codes "s" ++ (decimal instance.0 ++ (codes " " ++ (decimal partition.0 ++ (codes "/" ++ decimal sequence.0))))
+    codes "s" ++ (decimal instance.0 ++ (codes " " ++ (decimal partition.0 ++ (codes "/" ++ decimal sequence.0))))
 subject_text Query = []
 
 -- what came of it: `@OFFSET`, or how far the replica is, what it holds and its state, or the answer
 abbrev pub outcome_text : List ℕ → Outcome → List ℕ
 outcome_text subject (Produced offset) = codes "produced " ++ (subject ++ (codes "@" ++ (decimal offset.0 ++ codes "\n")))
 outcome_text subject (Consumed cur rows state) =
-  codes "consumed " ++ (subject ++ (codes " cur=" ++ (decimal cur.0 ++ (codes " rows=" ++ (decimal rows ++ (codes " " ++ (state_text state ++ codes "\n")))))))
+    codes "consumed " ++ (subject ++ (codes " cur=" ++ (decimal cur.0 ++ (codes " rows=" ++ (decimal rows ++ (codes " " ++ (state_text state ++ codes "\n")))))))
 outcome_text subject (Answered answer) = codes "answer " ++ (answer_bytes answer ++ codes "\n")

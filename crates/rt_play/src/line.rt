@@ -145,7 +145,11 @@ fn index(word: &[u8]) -> Option<u32>
 fn batch(count: u64) -> u32
     ensures { result ≡ batch_of count }
 {
-    if count <= 4_294_967_295 { count as u32 } else { 0 }
+    if count <= 4_294_967_295 {
+        count as u32
+    } else {
+        0
+    }
 }
 
 // The one query that is taken so far.

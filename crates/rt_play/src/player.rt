@@ -31,11 +31,9 @@ pub fn play<S: Source, K: Sink>(
     ensures plays { length words.now ≡ 0 → PlaysInput (S.meaning source.old) (S.meaning source.new) (K.meaning sink.old) (K.meaning sink.new) result }
 
     // Where the source tells what is left and no count rises, the answer is the script's own, or want of memory.
-    ensures complete {
-      (input : List ℕ) → length words.now ≡ 0 → (S.meaning source.old).left ≡ Some input →
-      (Rises (S.meaning source.old).faults (S.meaning source.new).faults → ⊥) →
-      (Rises (K.meaning sink.old).faults (K.meaning sink.new).faults → ⊥) → Meets (answer_of input) result
-    }
+    ensures complete { (input : List ℕ) → length words.now ≡ 0 → (S.meaning source.old).left ≡ Some input →
+        (Rises (S.meaning source.old).faults (S.meaning source.new).faults → ⊥) →
+        (Rises (K.meaning sink.old).faults (K.meaning sink.new).faults → ⊥) → Meets (answer_of input) result }
 
     // Every world of every script is safe, and every answer in it is right.
     ensures safe { (input : List ℕ) → IsSafeScript input }

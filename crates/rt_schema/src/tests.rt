@@ -1,240 +1,94 @@
 //! Texts and messages with the answers that they have to get.
+ghost use Rattle.rt_schema.specs.Schema.{IsSchema};
+
 use crate::{Row, Schema, SchemaRefused, Table, Value, read_row, read_schema, read_table};
 use std::alloc::{AllocError, Global};
+use std::process::Abort;
 use std::test::Fail;
 
 const SCHEMA: &str =
     "{\"schemaName\":\"t\",\"dimensionFieldSpecs\":[{\"name\":\"k\",\"dataType\":\"STRING\"},{\"name\":\"i\",\"dataType\":\"INT\"},{\"name\":\"b\",\"dataType\":\"BOOLEAN\"},{\"name\":\"a b\",\"dataType\":\"STRING\"}],\"metricFieldSpecs\":[{\"name\":\"v\",\"dataType\":\"LONG\"},{\"name\":\"m\",\"dataType\":\"INT\"}],\"dateTimeFieldSpecs\":[{\"name\":\"ts\",\"dataType\":\"TIMESTAMP\"}]}";
 
-const SCHEMA_TEXTS: [(&str, &str); 21] = [
-    ("[", "NotJson"),
-    ("[]", "NotJson"),
-    ("{\"schemaName\":\"t\",\"x\":1e999}", "NotJson"),
-    ("{}", "MissingField"),
-    ("{\"schemaName\":\"t\"}", "MissingField"),
-    (
-        "{\"schemaName\":\"t\",\"metricFieldSpecs\":[],\"dimensionFieldSpecs\":null}",
-        "MissingField",
-    ),
-    (
-        "{\"schemaName\":7,\"metricFieldSpecs\":[{\"name\":\"v\",\"dataType\":\"LONG\"}]}",
-        "MissingField",
-    ),
-    (
-        "{\"schemaName\":\"t\",\"metricFieldSpecs\":[{\"name\":\"v\",\"dataType\":\"JSON\"}],\"dateTimeFieldSpecs\":[null]}",
-        "MissingField",
-    ),
-    (
-        "{\"schemaName\":\"t\",\"metricFieldSpecs\":[{\"name\":\"v\",\"dataType\":null}]}",
-        "MissingField",
-    ),
-    (
-        "{\"schemaName\":\"t\",\"metricFieldSpecs\":[{\"name\":\"\",\"dataType\":\"LONG\"},{\"name\":\"\",\"dataType\":\"STRING\"}]}",
-        "UnknownType",
-    ),
-    (
-        "{\"schemaName\":\"t\",\"dateTimeFieldSpecs\":[{\"name\":\"v\",\"dataType\":\"BOOLEAN\"}]}",
-        "UnknownType",
-    ),
-    (
-        "{\"schemaName\":\"t\",\"metricFieldSpecs\":[{\"name\":\"v\",\"dataType\":\"TIMESTAMP\"}]}",
-        "UnknownType",
-    ),
-    (
-        "{\"schemaName\":\"t\",\"dimensionFieldSpecs\":[{\"name\":\"v\",\"dataType\":\"int\"}]}",
-        "UnknownType",
-    ),
-    (
-        "{\"schemaName\":\"t\",\"dimensionFieldSpecs\":[{\"name\":\"v\",\"dataType\":\"INT\",\"singleValueField\":false}]}",
-        "UnknownType",
-    ),
-    (
-        "{\"schemaName\":\"t\",\"dimensionFieldSpecs\":[{\"name\":\"v\",\"dataType\":\"INT\",\"defaultNullValue\":0}]}",
-        "UnknownType",
-    ),
-    (
-        "{\"schemaName\":\"t\",\"dimensionFieldSpecs\":[{\"name\":\"v\",\"dataType\":\"INT\",\"transformFunction\":\"\"}]}",
-        "UnknownType",
-    ),
-    (
-        "{\"schemaName\":\"t\",\"dimensionFieldSpecs\":[{\"name\":\"\",\"dataType\":\"INT\"},{\"name\":\"\",\"dataType\":\"INT\"}]}",
-        "DuplicateColumn",
-    ),
-    (
-        "{\"schemaName\":\"t\",\"dimensionFieldSpecs\":[{\"name\":\"\",\"dataType\":\"INT\"}]}",
-        "Limit",
-    ),
-    (
-        "{\"schemaName\":\"\",\"dateTimeFieldSpecs\":[{\"name\":\"c\",\"dataType\":\"LONG\"}],\"metricFieldSpecs\":[{\"name\":\"b\",\"dataType\":\"INT\",\"singleValueField\":0,\"defaultNullValue\":null}],\"dimensionFieldSpecs\":[{\"name\":\"a\",\"dataType\":\"BOOLEAN\",\"singleValueField\":true}]}",
-        " a:Bool:Dimension b:Int:Metric c:Long:Moment",
-    ),
-    (
-        SCHEMA,
-        "t k:Text:Dimension i:Int:Dimension b:Bool:Dimension a b:Text:Dimension v:Long:Metric m:Int:Metric ts:Time:Moment",
-    ),
-    (
-        "{\"schemaName\":\"events\",\"dimensionFieldSpecs\":[{\"name\":\"country\",\"dataType\":\"STRING\"}],\"metricFieldSpecs\":[{\"name\":\"clicks\",\"dataType\":\"INT\"}],\"dateTimeFieldSpecs\":[{\"name\":\"ts\",\"dataType\":\"TIMESTAMP\",\"format\":\"1:MILLISECONDS:EPOCH\",\"granularity\":\"1:MILLISECONDS\"}]}",
-        "events country:Text:Dimension clicks:Int:Metric ts:Time:Moment",
-    ),
-];
+fn schema_gives(rt: &impl Abort, alloc: Global, text: &str, want: &str) -> Result<(), AllocError> {
+    let shown = match read_schema(alloc, text) {
+        Ok(schema) => schema_shown(alloc, &schema)?,
+        Err(refused) => refused_shown(alloc, refused)?,
+    };
+    assert_eq!(rt; shown.as_str(), want, "{text}");
+    Ok(())
+}
 
-const TABLE_TEXTS: [(&str, &str); 24] = [
-    ("x", "NotJson"),
-    ("{}", "MissingField"),
-    (
-        "{\"tableName\":\"t\",\"tableType\":[1],\"segmentsConfig\":{\"replication\":1}}",
-        "MissingField",
-    ),
-    (
-        "{\"tableName\":\"t\",\"tableType\":\"OFFLINE\",\"segmentsConfig\":{\"replication\":null}}",
-        "MissingField",
-    ),
-    (
-        "{\"tableName\":\"t\",\"tableType\":\"REALTIME\",\"segmentsConfig\":{\"replicasPerPartition\":[],\"replication\":1}}",
-        "MissingField",
-    ),
-    (
-        "{\"tableName\":\"t\",\"tableType\":\"REALTIME\",\"segmentsConfig\":{\"replication\":-0}}",
-        "MissingField",
-    ),
-    (
-        "{\"tableName\":\"t\",\"tableType\":\"REALTIME\",\"segmentsConfig\":{\"replication\":1.0}}",
-        "MissingField",
-    ),
-    (
-        "{\"tableName\":\"t\",\"tableType\":\"REALTIME\",\"segmentsConfig\":{\"replication\":\"1234567890123456789\"}}",
-        "MissingField",
-    ),
-    (
-        "{\"tableName\":\"t\",\"tableType\":\"REALTIME\",\"segmentsConfig\":{\"replication\":1},\"tableIndexConfig\":[]}",
-        "MissingField",
-    ),
-    (
-        "{\"tableName\":\"t\",\"tableType\":\"REALTIME\",\"segmentsConfig\":{\"replication\":1},\"tableIndexConfig\":{\"invertedIndexColumns\":[\"k\",\"x\"]}}",
-        "MissingField",
-    ),
-    (
-        "{\"tableName\":\"t\",\"tableType\":\"REALTIME\",\"segmentsConfig\":{\"replication\":1},\"tableIndexConfig\":{\"streamConfigs\":{\"realtime.segment.flush.threshold.time\":\"30m1h\"}}}",
-        "MissingField",
-    ),
-    (
-        "{\"tableName\":\"t\",\"tableType\":\"REALTIME\",\"segmentsConfig\":{\"replication\":1},\"tableIndexConfig\":{\"streamConfigs\":{\"realtime.segment.flush.threshold.time\":\"1h1h\"}}}",
-        "MissingField",
-    ),
-    (
-        "{\"tableName\":\"t\",\"tableType\":\"REALTIME\",\"segmentsConfig\":{\"replication\":1},\"tableIndexConfig\":{\"streamConfigs\":{\"realtime.segment.flush.threshold.time\":\"1234567890s\"}}}",
-        "MissingField",
-    ),
-    (
-        "{\"tableName\":\"\",\"tableType\":\"realtime\",\"segmentsConfig\":{\"replication\":0}}",
-        "UnknownType",
-    ),
-    (
-        "{\"tableName\":\"t\",\"tableType\":\"REALTIME\",\"segmentsConfig\":{\"replication\":0}}",
-        "Limit",
-    ),
-    (
-        "{\"tableName\":\"_REALTIME\",\"tableType\":\"REALTIME\",\"segmentsConfig\":{\"replication\":1}}",
-        "Limit",
-    ),
-    (
-        "{\"tableName\":\"a.b\",\"tableType\":\"REALTIME\",\"segmentsConfig\":{\"replication\":1}}",
-        "Limit",
-    ),
-    (
-        "{\"tableName\":\"x_REALTIME_REALTIME\",\"tableType\":\"REALTIME\",\"segmentsConfig\":{\"replication\":\"007\"}}",
-        "x_REALTIME 7 1000000 21600000",
-    ),
-    (
-        "{\"tableName\":\"a__b-9\",\"tableType\":\"REALTIME\",\"segmentsConfig\":{\"replicasPerPartition\":null,\"replication\":18446744073709551615}}",
-        "a__b-9 4294967295 1000000 21600000",
-    ),
-    (
-        "{\"tableName\":\"t\",\"tableType\":\"REALTIME\",\"segmentsConfig\":{\"replication\":1},\"tableIndexConfig\":{\"invertedIndexColumns\":[\"v\",\"a b\",\"v\"],\"streamConfigs\":{\"realtime.segment.flush.threshold.rows\":0,\"realtime.segment.flush.threshold.time\":\"1h30m\"}}}",
-        "t 1 1000000 5400000 a b v",
-    ),
-    (
-        "{\"tableName\":\"t\",\"tableType\":\"REALTIME\",\"segmentsConfig\":{\"replication\":1},\"tableIndexConfig\":{\"streamConfigs\":{\"realtime.segment.flush.threshold.rows\":1000001,\"realtime.segment.flush.threshold.time\":\"2d3h4m5s\"}}}",
-        "t 1 1000000 183845000",
-    ),
-    (
-        "{\"tableName\":\"t\",\"tableType\":\"REALTIME\",\"segmentsConfig\":{\"replication\":1},\"tableIndexConfig\":{\"streamConfigs\":{\"realtime.segment.flush.threshold.rows\":\"1\",\"realtime.segment.flush.threshold.time\":\"999999999d\"}}}",
-        "t 1 1 86399999913600000",
-    ),
-    (
-        "{\"tableName\":\"t\",\"tableType\":\"REALTIME\",\"segmentsConfig\":{\"replication\":1},\"tableIndexConfig\":{\"streamConfigs\":{\"realtime.segment.flush.threshold.time\":18446744073709551615}}}",
-        "t 1 1000000 18446744073709551615",
-    ),
-    (
-        "{\"tableName\":\"events\",\"tableType\":\"REALTIME\",\"segmentsConfig\":{\"timeColumnName\":\"ts\",\"schemaName\":\"events\",\"replicasPerPartition\":\"2\"},\"tableIndexConfig\":{\"loadMode\":\"MMAP\",\"invertedIndexColumns\":[\"k\"],\"streamConfigs\":{\"streamType\":\"kafka\",\"realtime.segment.flush.threshold.rows\":\"25\",\"realtime.segment.flush.threshold.time\":\"6h\"}}}",
-        "events 2 25 21600000 k",
-    ),
-];
+fn table_gives(
+    rt: &impl Abort,
+    alloc: Global,
+    schema: &Schema,
+    text: &str,
+    want: &str,
+) -> Result<(), AllocError> {
+    let shown = match read_table(alloc, text, schema) {
+        Ok(table) => table_shown(alloc, &table)?,
+        Err(refused) => refused_shown(alloc, refused)?,
+    };
+    assert_eq!(rt; shown.as_str(), want, "{text}");
+    Ok(())
+}
 
-const MESSAGES: [(&str, &str); 30] = [
-    ("{}", "null|-2147483648|false|null|0|0|0"),
-    (
-        "{\"k\":null,\"i\":null,\"b\":null,\"a b\":null,\"v\":null,\"m\":null,\"ts\":null}",
-        "null|-2147483648|false|null|0|0|0",
-    ),
-    (
-        "{\"k\":\"d\",\"i\":5,\"b\":true,\"a b\":\"null\",\"v\":10,\"m\":1,\"ts\":-5,\"x\":{\"k\":1}}",
-        "d|5|true|null|10|1|-5",
-    ),
-    (
-        "{\"k\":\"a\",\"i\":1,\"k\":\"c\",\"i\":null}",
-        "c|-2147483648|false|null|0|0|0",
-    ),
-    ("{\"k\":7,\"k\":\"c\"}", "c|-2147483648|false|null|0|0|0"),
-    ("{\"k\":\"c\",\"k\":7}", "none"),
-    (
-        "{\"i\":2147483647,\"m\":-2147483648}",
-        "null|2147483647|false|null|0|-2147483648|0",
-    ),
-    ("{\"i\":2147483648}", "none"),
-    ("{\"m\":-2147483649}", "none"),
-    (
-        "{\"v\":9223372036854775807,\"ts\":-9223372036854775808}",
-        "null|-2147483648|false|null|9223372036854775807|0|-9223372036854775808",
-    ),
-    ("{\"v\":9223372036854775808}", "none"),
-    ("{\"ts\":-9223372036854775809}", "none"),
-    ("{\"i\":-0}", "none"),
-    ("{\"v\":1.0}", "none"),
-    ("{\"v\":1e0}", "none"),
-    ("{\"v\":\"1\"}", "none"),
-    ("{\"b\":1}", "none"),
-    ("{\"k\":[1]}", "none"),
-    (
-        "{\"\\u006B\":\"b\\u0061ck\\u005cslash\",\"t\\u0073\":7}",
-        "back\\slash|-2147483648|false|null|0|0|7",
-    ),
-    (
-        "{\"k\":\"\\uD83D\\uDE00\",\"a b\":\"\\f\\b\\t\"}",
-        "\u{1F600}|-2147483648|false|\u{c}\u{8}\t|0|0|0",
-    ),
-    ("{\"x\":\"\\udc00\\ud800\"}", "none"),
-    ("{\"x\":01}", "none"),
-    ("{\"x\":+1}", "none"),
-    ("{\"x\":1.}", "none"),
-    ("{\"x\":\"a\tb\"}", "none"),
-    ("\u{feff}{}", "none"),
-    ("{},", "none"),
-    (" {\t} ", "null|-2147483648|false|null|0|0|0"),
-    ("null", "none"),
-    ("", "none"),
-];
+fn row_gives(
+    rt: &impl Abort,
+    alloc: Global,
+    schema: &Schema,
+    message: &str,
+    want: &str,
+) -> Result<(), AllocError>
+    requires { IsSchema schema.now }
+{
+    let shown = row_shown(alloc, read_row(alloc, schema, message.as_bytes())?)?;
+    assert_eq!(rt; shown.as_str(), want, "{message}");
+    Ok(())
+}
 
 #[test]
 fn schema_texts(rt: HostRuntime) -> Result<(), Fail> {
     let alloc = rt.alloc();
-    for (text, want) in SCHEMA_TEXTS {
-        let shown = match read_schema(alloc, text) {
-            Ok(schema) => schema_shown(alloc, &schema)?,
-            Err(refused) => refused_shown(alloc, refused)?,
-        };
-        assert_eq!(rt; shown.as_str(), want, "{text}");
-    }
+    schema_gives(&rt, alloc, "[", "NotJson")?;
+    schema_gives(&rt, alloc, "{}", "MissingField")?;
+    schema_gives(&rt, alloc, "{\"schemaName\":\"t\"}", "MissingField")?;
+    schema_gives(
+        &rt,
+        alloc,
+        "{\"schemaName\":\"t\",\"metricFieldSpecs\":[{\"name\":\"v\",\"dataType\":\"JSON\"}],\"dateTimeFieldSpecs\":[null]}",
+        "MissingField",
+    )?;
+    schema_gives(
+        &rt,
+        alloc,
+        "{\"schemaName\":\"t\",\"metricFieldSpecs\":[{\"name\":\"\",\"dataType\":\"LONG\"},{\"name\":\"\",\"dataType\":\"STRING\"}]}",
+        "UnknownType",
+    )?;
+    schema_gives(
+        &rt,
+        alloc,
+        "{\"schemaName\":\"t\",\"dimensionFieldSpecs\":[{\"name\":\"\",\"dataType\":\"INT\"},{\"name\":\"\",\"dataType\":\"INT\"}]}",
+        "DuplicateColumn",
+    )?;
+    schema_gives(
+        &rt,
+        alloc,
+        "{\"schemaName\":\"t\",\"dimensionFieldSpecs\":[{\"name\":\"\",\"dataType\":\"INT\"}]}",
+        "Limit",
+    )?;
+    schema_gives(
+        &rt,
+        alloc,
+        "{\"schemaName\":\"\",\"dateTimeFieldSpecs\":[{\"name\":\"c\",\"dataType\":\"LONG\"}],\"metricFieldSpecs\":[{\"name\":\"b\",\"dataType\":\"INT\",\"singleValueField\":0,\"defaultNullValue\":null}],\"dimensionFieldSpecs\":[{\"name\":\"a\",\"dataType\":\"BOOLEAN\",\"singleValueField\":true}]}",
+        " a:Bool:Dimension b:Int:Metric c:Long:Moment",
+    )?;
+    schema_gives(
+        &rt,
+        alloc,
+        "{\"schemaName\":\"events\",\"dimensionFieldSpecs\":[{\"name\":\"country\",\"dataType\":\"STRING\"}],\"metricFieldSpecs\":[{\"name\":\"clicks\",\"dataType\":\"INT\"}],\"dateTimeFieldSpecs\":[{\"name\":\"ts\",\"dataType\":\"TIMESTAMP\",\"format\":\"1:MILLISECONDS:EPOCH\",\"granularity\":\"1:MILLISECONDS\"}]}",
+        "events country:Text:Dimension clicks:Int:Metric ts:Time:Moment",
+    )?;
     Ok(())
 }
 
@@ -242,13 +96,84 @@ fn schema_texts(rt: HostRuntime) -> Result<(), Fail> {
 fn table_texts(rt: HostRuntime) -> Result<(), Fail> {
     let alloc = rt.alloc();
     let schema = read_schema(alloc, SCHEMA)?;
-    for (text, want) in TABLE_TEXTS {
-        let shown = match read_table(alloc, text, &schema) {
-            Ok(table) => table_shown(alloc, &table)?,
-            Err(refused) => refused_shown(alloc, refused)?,
-        };
-        assert_eq!(rt; shown.as_str(), want, "{text}");
-    }
+    table_gives(&rt, alloc, &schema, "{}", "MissingField")?;
+    table_gives(
+        &rt,
+        alloc,
+        &schema,
+        "{\"tableName\":\"t\",\"tableType\":\"REALTIME\",\"segmentsConfig\":{\"replicasPerPartition\":[],\"replication\":1}}",
+        "MissingField",
+    )?;
+    table_gives(
+        &rt,
+        alloc,
+        &schema,
+        "{\"tableName\":\"t\",\"tableType\":\"REALTIME\",\"segmentsConfig\":{\"replication\":-0}}",
+        "MissingField",
+    )?;
+    table_gives(
+        &rt,
+        alloc,
+        &schema,
+        "{\"tableName\":\"t\",\"tableType\":\"REALTIME\",\"segmentsConfig\":{\"replication\":1},\"tableIndexConfig\":{\"invertedIndexColumns\":[\"k\",\"x\"]}}",
+        "MissingField",
+    )?;
+    table_gives(
+        &rt,
+        alloc,
+        &schema,
+        "{\"tableName\":\"t\",\"tableType\":\"REALTIME\",\"segmentsConfig\":{\"replication\":1},\"tableIndexConfig\":{\"streamConfigs\":{\"realtime.segment.flush.threshold.time\":\"30m1h\"}}}",
+        "MissingField",
+    )?;
+    table_gives(
+        &rt,
+        alloc,
+        &schema,
+        "{\"tableName\":\"\",\"tableType\":\"realtime\",\"segmentsConfig\":{\"replication\":0}}",
+        "UnknownType",
+    )?;
+    table_gives(
+        &rt,
+        alloc,
+        &schema,
+        "{\"tableName\":\"t\",\"tableType\":\"REALTIME\",\"segmentsConfig\":{\"replication\":0}}",
+        "Limit",
+    )?;
+    table_gives(
+        &rt,
+        alloc,
+        &schema,
+        "{\"tableName\":\"_REALTIME\",\"tableType\":\"REALTIME\",\"segmentsConfig\":{\"replication\":1}}",
+        "Limit",
+    )?;
+    table_gives(
+        &rt,
+        alloc,
+        &schema,
+        "{\"tableName\":\"x_REALTIME_REALTIME\",\"tableType\":\"REALTIME\",\"segmentsConfig\":{\"replication\":\"007\"}}",
+        "x_REALTIME 7 1000000 21600000",
+    )?;
+    table_gives(
+        &rt,
+        alloc,
+        &schema,
+        "{\"tableName\":\"a__b-9\",\"tableType\":\"REALTIME\",\"segmentsConfig\":{\"replicasPerPartition\":null,\"replication\":18446744073709551615}}",
+        "a__b-9 4294967295 1000000 21600000",
+    )?;
+    table_gives(
+        &rt,
+        alloc,
+        &schema,
+        "{\"tableName\":\"t\",\"tableType\":\"REALTIME\",\"segmentsConfig\":{\"replication\":1},\"tableIndexConfig\":{\"invertedIndexColumns\":[\"v\",\"a b\",\"v\"],\"streamConfigs\":{\"realtime.segment.flush.threshold.rows\":0,\"realtime.segment.flush.threshold.time\":\"1h30m\"}}}",
+        "t 1 1000000 5400000 a b v",
+    )?;
+    table_gives(
+        &rt,
+        alloc,
+        &schema,
+        "{\"tableName\":\"events\",\"tableType\":\"REALTIME\",\"segmentsConfig\":{\"timeColumnName\":\"ts\",\"schemaName\":\"events\",\"replicasPerPartition\":\"2\"},\"tableIndexConfig\":{\"loadMode\":\"MMAP\",\"invertedIndexColumns\":[\"k\"],\"streamConfigs\":{\"streamType\":\"kafka\",\"realtime.segment.flush.threshold.rows\":\"25\",\"realtime.segment.flush.threshold.time\":\"6h\"}}}",
+        "events 2 25 21600000 k",
+    )?;
     Ok(())
 }
 
@@ -256,16 +181,75 @@ fn table_texts(rt: HostRuntime) -> Result<(), Fail> {
 fn messages(rt: HostRuntime) -> Result<(), Fail> {
     let alloc = rt.alloc();
     let schema = read_schema(alloc, SCHEMA)?;
-    for (message, want) in MESSAGES {
-        let shown = row_shown(alloc, read_row(alloc, &schema, message.as_bytes())?)?;
-        assert_eq!(rt; shown.as_str(), want, "{message}");
-    }
-    let broken = b"{\"k\":\"\xc3\"}";
-    assert!(rt; read_row(alloc, &schema, broken)?.is_none());
-    let deep = nested(alloc, 126)?;
-    assert!(rt; read_row(alloc, &schema, deep.as_bytes())?.is_some());
-    let deeper = nested(alloc, 127)?;
-    assert!(rt; read_row(alloc, &schema, deeper.as_bytes())?.is_none());
+    row_gives(
+        &rt,
+        alloc,
+        &schema,
+        "{}",
+        "null|-2147483648|false|null|0|0|0",
+    )?;
+    row_gives(
+        &rt,
+        alloc,
+        &schema,
+        "{\"k\":\"d\",\"i\":5,\"b\":true,\"a b\":\"null\",\"v\":10,\"m\":1,\"ts\":-5,\"x\":{\"k\":1}}",
+        "d|5|true|null|10|1|-5",
+    )?;
+    row_gives(
+        &rt,
+        alloc,
+        &schema,
+        "{\"k\":\"a\",\"i\":1,\"k\":\"c\",\"i\":null}",
+        "c|-2147483648|false|null|0|0|0",
+    )?;
+    row_gives(&rt, alloc, &schema, "{\"k\":\"c\",\"k\":7}", "none")?;
+    row_gives(
+        &rt,
+        alloc,
+        &schema,
+        "{\"i\":2147483647,\"m\":-2147483648}",
+        "null|2147483647|false|null|0|-2147483648|0",
+    )?;
+    row_gives(&rt, alloc, &schema, "{\"i\":2147483648}", "none")?;
+    row_gives(
+        &rt,
+        alloc,
+        &schema,
+        "{\"v\":9223372036854775807,\"ts\":-9223372036854775808}",
+        "null|-2147483648|false|null|9223372036854775807|0|-9223372036854775808",
+    )?;
+    row_gives(&rt, alloc, &schema, "{\"v\":9223372036854775808}", "none")?;
+    row_gives(&rt, alloc, &schema, "{\"i\":-0}", "none")?;
+    row_gives(&rt, alloc, &schema, "{\"v\":1.0}", "none")?;
+    row_gives(&rt, alloc, &schema, "{\"v\":1e0}", "none")?;
+    row_gives(
+        &rt,
+        alloc,
+        &schema,
+        "{\"\\u006B\":\"b\\u0061ck\\u005cslash\",\"t\\u0073\":7}",
+        "back\\slash|-2147483648|false|null|0|0|7",
+    )?;
+    row_gives(
+        &rt,
+        alloc,
+        &schema,
+        "{\"k\":\"\\uD83D\\uDE00\",\"a b\":\"\\f\\b\\t\"}",
+        "\u{1F600}|-2147483648|false|\u{c}\u{8}\t|0|0|0",
+    )?;
+    row_gives(&rt, alloc, &schema, "{\"x\":\"\\udc00\\ud800\"}", "none")?;
+    Ok(())
+}
+
+#[test]
+fn bytes_and_depths(rt: HostRuntime) -> Result<(), Fail> {
+    let alloc = rt.alloc();
+    let schema = read_schema(
+        alloc,
+        "{\"schemaName\":\"t\",\"metricFieldSpecs\":[{\"name\":\"v\",\"dataType\":\"INT\"}]}",
+    )?;
+    assert!(rt; read_row(alloc, &schema, b"{\"k\":\"\xc3\"}")?.is_none());
+    assert!(rt; read_row(alloc, &schema, nested(alloc, 126)?.as_bytes())?.is_some());
+    assert!(rt; read_row(alloc, &schema, nested(alloc, 127)?.as_bytes())?.is_none());
     Ok(())
 }
 

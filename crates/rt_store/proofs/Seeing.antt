@@ -15,10 +15,11 @@ use Rattle.rt_model.proofs.Histories.{Has-append_cases, Has-same, value_of-last,
 use Rattle.rt_model.proofs.Lawful.{step_is_lawful}
 use Rattle.rt_store.specs.declared.refused.StoreRefused.{StoreRefused}
 use Rattle.rt_store.specs.declared.refused.StoreRefused.TheVariants.{NoNode, Exists, VersionChanged, Failed, Memory}
-use Rattle.rt_store.specs.Meaning.{Meaning}
+use Rattle.rt_store.specs.Meaning.{Told, Meaning}
+use Rattle.rt_store.specs.Memory.{means}
 use Rattle.rt_store.specs.Seen.{Grows, listed_write}
 use Rattle.rt_store.specs.Answers.{found_in, reading, listing, change_in, presence_in, first_of, refusal_of, after_by, answer_of, after_call}
-use Rattle.rt_store.specs.Calls.{Fault, Nothing, Lost, Kept, GoesBy, Calls, Reads, Lists, answer_under, writes_under}
+use Rattle.rt_store.specs.Calls.{Goes, Fault, Nothing, Lost, Kept, GoesBy, Calls, Reads, Lists, answer_under, writes_under, fault_of, told_after, answer_on, told_on, IsExact}
 
 -- ---- the writes after a call
 
@@ -232,3 +233,30 @@ pub write_lawful : {X : Type 0} (tell : Seen → X) (s : Starting) (old new : Me
     → Calls old new (answer_of tell call) (after_call call) result → IsLawfulHistory s new.seen
 write_lawful tell s old new call result l may c =
     lawful_write s old.seen c.base new.seen call l c.sees.grows (c.sees.lawful s l) may (call_wrote tell old new call result c)
+
+-- ---- a store that tells everything
+
+abbrev total : Told → Option Told
+total t = Some t
+
+same_told : (t new : Told) → total new ≡ total t → new ≡ t
+same_told t new e = cc
+
+goes_exact : {X : Type 0} (t new : Told) (fault : Fault) (base : List Seen) (answer : List Seen → Result X StoreRefused) (after : List Seen → List Seen) (result : Result X StoreRefused)
+    → base ≡ t.writes → Goes (means t) (means new) fault base (after base) (answer base) result
+    → (result ≡ answer_on t answer) × (new ≡ told_on t after)
+goes_exact t new fault base answer after result all g =
+    let told : new ≡ told_after t new.writes = same_told (told_after t new.writes) new g.meets.1 in (
+      g.answered ∙ ap (λ f. answer_under f (answer base)) g.meets.0 ∙ ap (λ h. answer_under (fault_of t.plan) (answer h)) all,
+      told ∙ ap (told_after t) (g.seen ∙ ap (λ f. writes_under f base (after base)) g.meets.0 ∙ ap (λ h. writes_under (fault_of t.plan) h (after h)) all),
+    )
+
+pub told_exact : {X : Type 0} (t new : Told) (answer : List Seen → Result X StoreRefused) (after : List Seen → List Seen) (result : Result X StoreRefused)
+    → Calls (means t) (means new) answer after result → IsExact t new answer after result
+told_exact t new answer after (Ok x) c = inr (goes_exact t new c.fault c.base answer after (Ok x) c.sees.all c.goes)
+told_exact t new answer after (Err NoNode) c = inr (goes_exact t new c.fault c.base answer after (Err NoNode) c.sees.all c.goes)
+told_exact t new answer after (Err (Exists found)) c = inr (goes_exact t new c.fault c.base answer after (Err (Exists found)) c.sees.all c.goes)
+told_exact t new answer after (Err (VersionChanged expected found)) c =
+    inr (goes_exact t new c.fault c.base answer after (Err (VersionChanged expected found)) c.sees.all c.goes)
+told_exact t new answer after (Err Failed) c = inr (goes_exact t new c.fault c.base answer after (Err Failed) c.sees.all c.goes)
+told_exact t new answer after (Err Memory) c = inl (refl, same_told t new c.goes.told)

@@ -1,5 +1,5 @@
 -- What each call promises, by what a store means before it and after it.
-use Rattle.std.specs.Prelude.{◌≡◌, ℕ, ◌+◌, ◌<◌, ◌≤◌, List, [], ◌∷◌, drop, Bool, true, false, Option, Some, None, Result, Ok, Err, ⊤}
+use Rattle.std.specs.Prelude.{◌≡◌, ℕ, ◌+◌, ◌<◌, ◌≤◌, List, [], ◌∷◌, drop, Bool, true, false, ◌⊎◌, Option, Some, None, Result, Ok, Err, ⊤}
 use Rattle.rt_base.specs.declared.numbers.Partition.{Partition}
 use Rattle.rt_base.specs.declared.numbers.Instance.{Instance}
 use Rattle.rt_model.specs.declared.node.Key.{Key}
@@ -109,6 +109,19 @@ pub record Calls {X : Type 0} (old new : Meaning) (answer : List Seen → Result
   pub base : List Seen
   pub sees : Sees old base
   pub goes : GoesBy old new fault base (after base) (answer base) result
+
+-- what a call answers over a store that tells everything, and what that tells after it
+abbrev pub answer_on : {X : Type 0} → Told → (List Seen → Result X StoreRefused) → Result X StoreRefused
+answer_on t answer = answer_under (fault_of t.plan) (answer t.writes)
+
+abbrev pub told_on : Told → (List Seen → List Seen) → Told
+told_on t after = told_after t (writes_under (fault_of t.plan) t.writes (after t.writes))
+
+-- the call has that one answer and leaves that, but that memory may run out, and then all is as before
+abbrev pub IsExact :
+    {X : Type 0} → Told → Told → (List Seen → Result X StoreRefused) → (List Seen → List Seen) → Result X StoreRefused → Type 0
+IsExact t new answer after result =
+    ((result ≡ Err Memory) × (new ≡ t)) ⊎ ((result ≡ answer_on t answer) × (new ≡ told_on t after))
 
 abbrev pub Reads : Meaning → Meaning → Key → Result Seen StoreRefused → Type 0
 Reads old new k result = Calls old new (reading k) (λ base. base) result

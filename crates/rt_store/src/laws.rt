@@ -1,4 +1,4 @@
-ghost use Rattle.std.specs.Prelude.{◌≡◌, ◌↔◌, ℕ, List, None, Result, Ok};
+ghost use Rattle.std.specs.Prelude.{◌≡◌, ◌↔◌, ◌++◌, ℕ, List, None, Result, Ok};
 ghost use Rattle.rt_base.specs.declared.numbers.Partition.{Partition};
 ghost use Rattle.rt_model.specs.declared.node.Key.{Key};
 ghost use Rattle.rt_model.specs.declared.node.Seen.{Seen};
@@ -7,9 +7,10 @@ ghost use Rattle.rt_model.specs.History.{Has};
 ghost use Rattle.rt_model.specs.Starting.{Starting};
 ghost use Rattle.rt_model.specs.Lawful.{Write, IsLawful, IsLawfulHistory, TakesEffect};
 ghost use Rattle.rt_store.specs.declared.refused.StoreRefused.{StoreRefused};
-ghost use Rattle.rt_store.specs.Meaning.{Meaning};
-ghost use Rattle.rt_store.specs.Answers.{refusal_of};
-ghost use Rattle.rt_store.specs.Calls.{Reads, Lists, Writes, WritesVersion};
+ghost use Rattle.rt_store.specs.Meaning.{Told, Meaning};
+ghost use Rattle.rt_store.specs.Memory.{means};
+ghost use Rattle.rt_store.specs.Answers.{reading, listing, refusal_of, answer_of, after_call};
+ghost use Rattle.rt_store.specs.Calls.{Reads, Lists, Writes, WritesVersion, IsExact};
 ghost use Rattle.rt_store.specs.Seen.{Grows, listed_write};
 
 /// A write call is refused by what stands exactly where it would not take effect.
@@ -49,4 +50,26 @@ pub fn lawful_calls_keep_the_history_lawful()
     ensures writes_version { (s : Starting) (old new : Meaning) (call : Write) (result : Result ℕ StoreRefused)
         → IsLawfulHistory s old.seen → IsLawful old.seen call → WritesVersion old new call result
         → IsLawfulHistory s new.seen }
+{}
+
+/// A call of the store in memory has one answer, and leaves one list of writes and of planned faults, but that memory
+/// may run out, after which all is as before.
+pub fn calls_of_a_told_store_are_exact()
+    ensures reads { (t new : Told) (k : Key) (result : Result Seen StoreRefused)
+        → Reads (means t) (means new) k result → IsExact t new (reading k) (λ base. base) result }
+    ensures lists { (t new : Told) (p : Partition) (result : Result (List Listed) StoreRefused)
+        → Lists (means t) (means new) p result → IsExact t new (listing p) (λ base. base) result }
+    ensures writes { (t new : Told) (call : Write) (result : Result (Unit {0}) StoreRefused)
+        → Writes (means t) (means new) call result
+        → IsExact t new (answer_of (λ w. tt) call) (after_call call) result }
+    ensures writes_version { (t new : Told) (call : Write) (result : Result ℕ StoreRefused)
+        → WritesVersion (means t) (means new) call result
+        → IsExact t new (answer_of (λ w. w.version) call) (after_call call) result }
+{}
+
+/// A history has one beginning: what is lawful from some starting contents, and begins with a list that is lawful from
+/// others, is lawful from those too.
+pub fn a_history_has_one_beginning()
+    ensures { (s t : Starting) (h more : List Seen)
+        → IsLawfulHistory s h → IsLawfulHistory t (h ++ more) → IsLawfulHistory s (h ++ more) }
 {}

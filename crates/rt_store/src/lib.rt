@@ -12,8 +12,8 @@ mod refused;
 mod store;
 
 pub use laws::{
-    answers_were_seen, lawful_calls_keep_the_history_lawful, refusals_are_of_no_effect,
-    what_was_seen_stays_seen,
+    a_history_has_one_beginning, answers_were_seen, calls_of_a_told_store_are_exact,
+    lawful_calls_keep_the_history_lawful, refusals_are_of_no_effect, what_was_seen_stays_seen,
 };
 pub use memory_store::MemoryStore;
 pub use refused::StoreRefused;

@@ -5,11 +5,13 @@ use Rattle.rt_play.proofs.reading.read_all.Goals as goal
 
 pub returns-then-len-gt-INPUT_LIMIT : goal.returns-then-len-gt-INPUT_LIMIT
 returns-then-len-gt-INPUT_LIMIT g c =
-  let so = c.pieces.invariant in
-  (record { input = c.pieces.input; taken = record { left = so.left; few = so.fits; counts = so.counts } }, omega (arith, c.if-len-gt-INPUT_LIMIT.true, c.len.ensures))
+    let so = c.pieces.invariant in
+    (record { input = c.pieces.input; taken = record { left = so.left; few = so.fits; counts = so.counts } }, omega (arith, c.if-len-gt-INPUT_LIMIT.true, c.len.ensures))
 
 pub returns-in-Err-extend : goal.returns-in-Err-extend
 returns-in-Err-extend g c =
-  let so = c.pieces.invariant in
-  record { input = c.pieces.input ++ take c.in-Ok.count c.read.new.into;
-    taken = takes_more (g.S.Source.meaning c.args.source.now) (g.S.Source.meaning c.pieces.source) (g.S.Source.meaning c.read.new.self) c.pieces.input c.read.new.into c.in-Ok.count so.left so.counts c.in-Ok.ensures (omega (arith, (c.in-Ok.ensures {u = tt}).fits, length-take c.min-room.result c.pieces.piece)) }
+    let so = c.pieces.invariant in
+    record {
+      input = c.pieces.input ++ take c.in-Ok.count c.read.new.into;
+      taken = takes_more (g.S.Source.meaning c.args.source.now) (g.S.Source.meaning c.pieces.source) (g.S.Source.meaning c.read.new.self) c.pieces.input c.read.new.into c.in-Ok.count so.left so.counts c.in-Ok.ensures (omega (arith, (c.in-Ok.ensures {u = tt}).fits, length-take c.min-room.result c.pieces.piece));
+    }

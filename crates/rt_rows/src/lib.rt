@@ -1,0 +1,5 @@
+//! Scripts with their reports: tests that cross the crates.
+#![tactic(auto)]
+
+#[cfg(test)]
+mod rows;
