@@ -1,77 +1,88 @@
--- Messages with their offsets.
+-- The messages of a range, and their rows with their offsets.
+use Rattle.std.proofs.Common.{◌≡◌, ◌+◌, ◌-◌, ◌≤◌, ℕ, List, [], ◌∷◌, ◌++◌, length, take, drop, get_or, slice_get, Option, Some, None, refl, ap, sym, ◌∙◌, add-zero, suc, arith}
+use Rattle.std.specs.List.{filter_map, cons_option}
 use Rattle.std.proofs.lemmas.Option.{get_or_from_slice_get, slice_get_within}
-use Rattle.std.proofs.lemmas.List.{get_or-drop, length-drop, take_more, append_assoc, length-append, length-take, length-take-le}
-use Rattle.std.proofs.Common.{Some, slice_get, ◌≡◌, ℕ, ◌+◌, ◌≤◌, ◌-◌, take, drop, get_or, List, [], ◌∷◌, ◌++◌, length, refl, ap, sym, ◌∙◌, add-zero, arith, suc}
+use Rattle.std.proofs.lemmas.List.{get_or-drop, length-drop, length-take-le, take_more, append_assoc, append-nil, drop-drop}
+use Rattle.std.proofs.Math.Seq.{take-add}
+use Rattle.rt_schema.specs.declared.row.Row.{Row}
+use Rattle.rt_schema.specs.declared.schema.Schema.{Schema}
+use Rattle.rt_schema.specs.Row.{row_of}
 use Rattle.rt_world.specs.declared.replica.Placed.{Placed}
-use Rattle.rt_world.specs.declared.replica.Replica.{Replica}
-use Rattle.rt_world.specs.Held.{placed_from, messages_between}
-use Rattle.rt_world.specs.Step.{batch, took}
+use Rattle.rt_world.specs.Held.{placed_from, placed_row, messages_between}
+use Rattle.rt_world.specs.Step.{room_of}
 
-abbrev pub placed_at : ℕ → List ℕ → Placed
-placed_at offset message = record { offset = record { 0 = offset }; message = message }
+-- the messages of two ranges that meet
+pub between_append :
+    (ms : List (List ℕ)) (a b c : ℕ) → a ≤ b → b ≤ c →
+    messages_between ms a c ≡ messages_between ms a b ++ messages_between ms b c
+between_append ms a b c h k =
+    ap (λ n. take n (drop a ms)) (omega (arith, h, k))
+    ∙ take-add (b - a) (c - b) (drop a ms)
+    ∙ ap (λ rest. take (b - a) (drop a ms) ++ take (c - b) rest)
+    (drop-drop (b - a) a ms ∙ ap (λ n. drop n ms) (omega (arith, h)))
 
--- one message more stands at the end, at the next offset
-pub placed_more :
-    (offset : ℕ) (ms : List (List ℕ)) (m : List ℕ) →
-    placed_from offset (ms ++ m ∷ []) ≡ placed_from offset ms ++ placed_at (offset + length ms) m ∷ []
-placed_more offset [] m = ap (λ n. placed_at n m ∷ []) (sym (add-zero offset))
-placed_more offset (n ∷ ns) m =
-    ap (λ rest. placed_at offset n ∷ rest)
-    (placed_more (offset + 1) ns m
-    ∙ ap (λ k. placed_from (offset + 1) ns ++ placed_at k m ∷ []) (omega arith))
+pub length_between :
+    (ms : List (List ℕ)) (a b : ℕ) → a ≤ b → b ≤ length ms → length (messages_between ms a b) ≡ b - a
+length_between ms a b h k =
+    length-take-le (b - a) (drop a ms) (omega (arith, h, k, length-drop a ms))
 
--- the messages of two lists, one after the other
+-- the range of one message
+pub between_one :
+    (ms : List (List ℕ)) (at : ℕ) (m : List ℕ) → slice_get ms at ≡ Some m → messages_between ms at (at + 1) ≡ m ∷ []
+between_one ms at m e =
+    let within = slice_get_within ms at m e in
+    let one : at + 1 - at ≡ 0 + 1 = omega arith in
+    ap (λ n. take n (drop at ms)) one
+    ∙ take_more (drop at ms) 0 m (omega (arith, within, length-drop at ms))
+    ∙ ap (λ x. x ∷ []) (get_or-drop at ms 0 m ∙ ap (λ n. get_or ms n m) (add-zero at) ∙ get_or_from_slice_get ms at m m e)
+
+-- the rows of two lists of messages, one after the other
 pub placed_append :
-    (offset : ℕ) (ms ns : List (List ℕ)) →
-    placed_from offset (ms ++ ns) ≡ placed_from offset ms ++ placed_from (offset + length ms) ns
-placed_append offset [] ns = ap (λ k. placed_from k ns) (sym (add-zero offset))
-placed_append offset (m ∷ ms) ns =
-    ap (λ rest. placed_at offset m ∷ rest)
-    (placed_append (offset + 1) ms ns
-    ∙ ap (λ k. placed_from (offset + 1) ms ++ placed_from k ns) (omega arith))
+    (schema : Schema) (offset : ℕ) (ms ns : List (List ℕ)) →
+    placed_from schema offset (ms ++ ns)
+    ≡ placed_from schema offset ms ++ placed_from schema (offset + length ms) ns
+placed_append schema offset [] ns = ap (λ k. placed_from schema k ns) (sym (add-zero offset))
+placed_append schema offset (m ∷ ms) ns =
+    let first = placed_row offset (row_of schema m) in
+    ap (λ rest. first ++ rest)
+    (placed_append schema (offset + 1) ms ns
+    ∙ ap (λ k. placed_from schema (offset + 1) ms ++ placed_from schema k ns) (omega arith))
+    ∙ sym (append_assoc first (placed_from schema (offset + 1) ms) (placed_from schema (offset + length (m ∷ ms)) ns))
 
-pub length_placed_from : (offset : ℕ) (ms : List (List ℕ)) → length (placed_from offset ms) ≡ length ms
-length_placed_from offset [] = refl
-length_placed_from offset (m ∷ ms) = ap suc (length_placed_from (offset + 1) ms)
-
--- the messages of a range, and the next one
-pub between_next :
-    (ms : List (List ℕ)) (start at : ℕ) (m : List ℕ) →
-    start ≤ at → slice_get ms at ≡ Some m →
-    messages_between ms start (at + 1) ≡ messages_between ms start at ++ m ∷ []
-between_next ms start at m h e =
-    let within = slice_get_within ms at m e in
-    let place : start + (at - start) ≡ at = omega (arith, h) in
-    ap (λ n. take n (drop start ms)) (omega (arith, h))
-    ∙ take_more (drop start ms) (at - start) m (omega (arith, h, within, length-drop start ms))
-    ∙ ap (λ x. messages_between ms start at ++ x ∷ [])
-    (get_or-drop start ms (at - start) m ∙ ap (λ n. get_or ms n m) place ∙ get_or_from_slice_get ms at m m e)
-
+-- the rows of a range, and that of the next message
 pub placed_next :
-    (held : List Placed) (ms : List (List ℕ)) (start at : ℕ) (m : List ℕ) →
+    (schema : Schema) (held : List Placed) (ms : List (List ℕ)) (start at : ℕ) (m : List ℕ) →
     start ≤ at → slice_get ms at ≡ Some m →
-    held ++ placed_from start (messages_between ms start (at + 1))
-    ≡ (held ++ placed_from start (messages_between ms start at)) ++ placed_at at m ∷ []
-placed_next held ms start at m h e =
+    (held ++ placed_from schema start (messages_between ms start at)) ++ placed_row at (row_of schema m)
+    ≡ held ++ placed_from schema start (messages_between ms start (at + 1))
+placed_next schema held ms start at m h e =
     let before = messages_between ms start at in
+    let row = placed_row at (row_of schema m) in
     let within = slice_get_within ms at m e in
-    let size : start + length before ≡ at = omega (arith, h, within, length-drop start ms, length-take-le (at - start) (drop start ms) (omega (arith, h, within, length-drop start ms))) in
-    ap (λ ns. held ++ placed_from start ns) (between_next ms start at m h e)
-    ∙ ap (λ placed. held ++ placed)
-    (placed_more start before m ∙ ap (λ n. placed_from start before ++ placed_at n m ∷ []) size)
-    ∙ sym (append_assoc held (placed_from start before) (placed_at at m ∷ []))
+    let size : start + length before ≡ at = omega (arith, h, length_between ms start at h (omega (arith, within))) in
+    append_assoc held (placed_from schema start before) row
+    ∙ ap (λ rows. held ++ rows)
+    (sym
+    (ap (placed_from schema start) (between_append ms start at (at + 1) h (omega arith) ∙ ap (λ one. before ++ one) (between_one ms at m e))
+    ∙ placed_append schema start before (m ∷ [])
+    ∙ ap (λ n. placed_from schema start before ++ placed_from schema n (m ∷ [])) size
+    ∙ ap (λ rows. placed_from schema start before ++ rows) (append-nil row)))
 
--- a batch ends at the row limit
-pub limited_took :
-    (limit max : ℕ) (r : Replica) (ms : List (List ℕ)) →
-    length r.held ≤ limit → length (took limit (batch limit max r ms) r ms).held ≤ limit
-limited_took limit max r ms h =
-    let count = batch limit max r ms in
-    let taken = messages_between ms r.cur.0 (r.cur.0 + count) in
-    omega (
-      arith,
-      h,
-      length-append r.held (placed_from r.cur.0 taken),
-      length_placed_from r.cur.0 taken,
-      length-take (r.cur.0 + count - r.cur.0) (drop r.cur.0 ms),
-    )
+pub length_placed_row : (offset : ℕ) (row : Option Row) → length (placed_row offset row) ≡ room_of row
+length_placed_row offset None = refl
+length_placed_row offset (Some row) = refl
+
+-- a row of each decodable message
+pub length_cons_option :
+    (o : Option Row) (placed : List Placed) (rows : List Row) (offset : ℕ) →
+    length placed ≡ length rows → length (placed_row offset o ++ placed) ≡ length (cons_option o rows)
+length_cons_option None placed rows offset e = e
+length_cons_option (Some row) placed rows offset e = ap suc e
+
+pub length_placed :
+    (schema : Schema) (offset : ℕ) (ms : List (List ℕ)) →
+    length (placed_from schema offset ms) ≡ length (filter_map (row_of schema) ms)
+length_placed schema offset [] = refl
+length_placed schema offset (m ∷ ms) =
+    length_cons_option (row_of schema m) (placed_from schema (offset + 1) ms) (filter_map (row_of schema) ms) offset
+    (length_placed schema (offset + 1) ms)

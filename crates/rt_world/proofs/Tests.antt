@@ -10,6 +10,7 @@ use Rattle.rt_world.specs.declared.refusal.Refusal.{Refusal}
 use Rattle.rt_world.specs.declared.refusal.Refusal.TheVariants.{NoSuchMessage, NoSuchNode, NodeDown, NothingToDo, Limit, Memory}
 use Rattle.rt_world.specs.declared.state.State.{State}
 use Rattle.rt_world.specs.Due.{Due, room_for, produce_due, consume_due, due_of, events_limit, message_limit}
+use Rattle.rt_schema.specs.Schema.{IsSchema}
 use Rattle.rt_stream.specs.Log.{messages_of}
 use Rattle.rt_world.specs.Kept.{Kept}
 use Rattle.rt_world.specs.Safe.{IsSafe}
@@ -91,10 +92,11 @@ produce_room w p m s due =
 pub consume_room :
     (w : State) (i : Instance) (p : Partition) (q : Sequence) (max : ℕ) →
     IsSafe w → consume_due w i p q max ≡ Ok tt →
-    (p.0 < length w.log) × (w.events ≤ events_limit) × (w.replica.cur.0 ≤ length (messages_of w.log p))
+    IsSchema w.setup.schema × (p.0 < length w.log) × (w.events ≤ events_limit) × (w.replica.cur.0 ≤ length (messages_of w.log p))
     × (length w.replica.held ≤ w.setup.table.rows)
 consume_room w i p q max s due =
     let within = consume_within w i p q max due in (
+      s.schema,
       omega (arith, within.0, s.partitions),
       s.counted,
       subst (λ n. w.replica.cur.0 ≤ length (get_or w.log n [])) within.1 s.held.within,

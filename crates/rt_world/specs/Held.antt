@@ -1,5 +1,8 @@
--- What a replica holds: the stream's messages from its start, each with its offset.
-use Rattle.std.specs.Prelude.{◌≡◌, ◌+◌, ◌-◌, ◌≤◌, ℕ, List, [], ◌∷◌, length, take, drop}
+-- What a replica holds: the stream's rows from its start, each with its message's offset.
+use Rattle.std.specs.Prelude.{◌≡◌, ◌+◌, ◌-◌, ◌≤◌, ℕ, List, [], ◌∷◌, ◌++◌, length, take, drop, Option, Some, None}
+use Rattle.rt_schema.specs.declared.row.Row.{Row}
+use Rattle.rt_schema.specs.declared.schema.Schema.{Schema}
+use Rattle.rt_schema.specs.Row.{row_of}
 use Rattle.rt_world.specs.declared.replica.Placed.{Placed}
 use Rattle.rt_world.specs.declared.replica.Replica.{Replica}
 
@@ -7,13 +10,17 @@ use Rattle.rt_world.specs.declared.replica.Replica.{Replica}
 abbrev pub messages_between : List (List ℕ) → ℕ → ℕ → List (List ℕ)
 messages_between messages start end = take (end - start) (drop start messages)
 
--- messages with their offsets, from a first one on
-abbrev pub placed_from : ℕ → List (List ℕ) → List Placed
-placed_from offset [] = []
-placed_from offset (m ∷ ms) =
-    record { offset = record { 0 = offset }; message = m } ∷ placed_from (offset + 1) ms
+-- the row of a message with the message's offset, where the message is decodable
+abbrev pub placed_row : ℕ → Option Row → List Placed
+placed_row offset None = []
+placed_row offset (Some row) = record { offset = record { 0 = offset }; row = row } ∷ []
 
-pub record IsHeld (messages : List (List ℕ)) (r : Replica) : Type 0 where
+-- the rows of messages, each with its message's offset, from a first offset on
+abbrev pub placed_from : Schema → ℕ → List (List ℕ) → List Placed
+placed_from schema offset [] = []
+placed_from schema offset (m ∷ ms) = placed_row offset (row_of schema m) ++ placed_from schema (offset + 1) ms
+
+pub record IsHeld (schema : Schema) (messages : List (List ℕ)) (r : Replica) : Type 0 where
   pub ordered : r.start.0 ≤ r.cur.0
   pub within : r.cur.0 ≤ length messages
-  pub rows : r.held ≡ placed_from r.start.0 (messages_between messages r.start.0 r.cur.0)
+  pub rows : r.held ≡ placed_from schema r.start.0 (messages_between messages r.start.0 r.cur.0)

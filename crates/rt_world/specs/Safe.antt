@@ -2,6 +2,7 @@
 use Rattle.std.specs.Prelude.{◌≡◌, ◌<◌, ◌≤◌, false, length, Ok, Err}
 use Rattle.rt_model.specs.declared.setup.Setup.{Setup}
 use Rattle.rt_world.specs.declared.state.State.{State}
+use Rattle.rt_schema.specs.Schema.{IsSchema}
 use Rattle.rt_stream.specs.Log.{messages_of}
 use Rattle.rt_world.specs.Held.{IsHeld}
 use Rattle.rt_world.specs.Kept.{Kept}
@@ -15,15 +16,18 @@ pub record IsSetup (setup : Setup) : Type 0 where
   pub partitions : setup.partitions ≡ 1
   pub replication : setup.table.replication ≡ 1
   pub rows : 0 < setup.table.rows
+  pub schema : IsSchema setup.schema
 
 pub record IsSafe (w : State) : Type 0 where
   -- the log has the partitions of the setup, among them the replica's
   pub partitions : length w.log ≡ w.setup.partitions
   pub logged : w.replica.partition.0 < length w.log
   -- what the replica holds is the stream's, from its start up to `cur`
-  pub held : IsHeld (messages_of w.log w.replica.partition) w.replica
+  pub held : IsHeld w.setup.schema (messages_of w.log w.replica.partition) w.replica
   -- it consumes up to the row limit, and no further
   pub limited : length w.replica.held ≤ w.setup.table.rows
+  -- messages are read by a schema that was itself read
+  pub schema : IsSchema w.setup.schema
   pub counted : w.events ≤ events_limit
 
 abbrev pub IsSafeAfter : Given → Type 0

@@ -1,5 +1,6 @@
 -- What each event makes of a world, and what comes of it.
-use Rattle.std.specs.Prelude.{◌≡◌, ◌+◌, ◌-◌, ℕ, true, false, if◌then◌else◌, ◌==◌, nat_le, min, List, [], ◌∷◌, ◌++◌, length, replicate, Result, Ok, Err, pos}
+use Rattle.std.specs.Prelude.{◌≡◌, ◌+◌, ◌-◌, ℕ, Bool, true, false, if◌then◌else◌, ◌==◌, ◌&&◌, ◌||◌, nat_le, nat_lt, List, [], ◌∷◌, ◌++◌, length, take, drop, replicate, Option, Some, None, Result, Ok, Err, pos}
+use Rattle.rt_base.specs.declared.numbers.Moment.{Moment}
 use Rattle.rt_base.specs.declared.numbers.Partition.{Partition}
 use Rattle.rt_base.specs.declared.range.Range.{Range}
 use Rattle.rt_model.specs.declared.answer.Answer.{Answer}
@@ -16,25 +17,36 @@ use Rattle.rt_world.specs.declared.refusal.Refusal.TheVariants.{NoSuchMessage, N
 use Rattle.rt_world.specs.declared.replica.Replica.{Replica}
 use Rattle.rt_world.specs.declared.state.State.{State}
 use Rattle.rt_world.specs.Due.{Due, due_of}
+use Rattle.rt_schema.specs.declared.row.Row.{Row}
+use Rattle.rt_schema.specs.declared.schema.Schema.{Schema}
+use Rattle.rt_schema.specs.Row.{row_of}
 use Rattle.rt_stream.specs.Log.{messages_of, with_message}
 use Rattle.rt_world.specs.Held.{messages_between, placed_from}
 use Rattle.rt_world.specs.Kept.{Kept}
 
 -- the first world of a setup
-abbrev pub first_replica : Replica
-first_replica =
+abbrev pub first_replica : Moment → Replica
+first_replica started =
     record {
       instance = record { 0 = 0 };
       partition = record { 0 = 0 };
       sequence = record { 0 = 0 };
       start = record { 0 = 0 };
+      started = started;
       cur = record { 0 = 0 };
       state = InitialConsuming;
       held = [];
     }
 
 abbrev pub start : Setup → State
-start setup = record { setup = setup; log = replicate setup.partitions []; replica = first_replica; events = 0 }
+start setup =
+    record {
+      setup = setup;
+      log = replicate setup.partitions [];
+      replica = first_replica setup.start;
+      moment = setup.start;
+      events = 0;
+    }
 
 -- a message comes to the end of its partition
 abbrev pub produced : State → Partition → List ℕ → State × Outcome
@@ -44,32 +56,51 @@ produced w partition message =
       Produced (record { 0 = length messages }),
     )
 
--- how many messages a batch takes: as many as were asked for, as there are, and as the row limit lets
-abbrev pub batch : ℕ → ℕ → Replica → List (List ℕ) → ℕ
-batch limit max r messages = min max (min (length messages - r.cur.0) (limit - length r.held))
+-- a message takes the room of a row where it is decodable
+abbrev pub room_of : Option Row → ℕ
+room_of None = 0
+room_of (Some row) = 1
 
--- a replica holds where it has as many rows as the limit
-abbrev pub state_at : ℕ → ℕ → ReplicaState
-state_at limit rows = if nat_le limit rows then Holding else InitialConsuming
+-- how many of these messages are taken until the room for rows is full
+abbrev pub filling : Schema → ℕ → List (List ℕ) → ℕ
+filling schema room [] = 0
+filling schema room (m ∷ ms) =
+    if room == 0 then 0 else filling schema (room - room_of (row_of schema m)) ms + 1
 
--- a replica after it took so many messages
-abbrev pub took : ℕ → ℕ → Replica → List (List ℕ) → Replica
-took limit count r messages =
+-- how many messages a batch takes: as many as were asked for and are there, up to the one that fills the row limit
+abbrev pub batch : Setup → ℕ → Replica → List (List ℕ) → ℕ
+batch setup max r messages = filling setup.schema (setup.table.rows - length r.held) (take max (drop r.cur.0 messages))
+
+-- a replica that has taken so many messages
+abbrev pub advanced : Schema → ℕ → Replica → List (List ℕ) → Replica
+advanced schema count r messages =
     record r {
       cur = record { 0 = r.cur.0 + count };
-      held = r.held ++ placed_from r.cur.0 (messages_between messages r.cur.0 (r.cur.0 + count));
-      state = state_at limit (length r.held + count);
+      held = r.held ++ placed_from schema r.cur.0 (messages_between messages r.cur.0 (r.cur.0 + count));
     }
+
+-- whether a replica past its start has consumed for as long as its table lets it
+abbrev pub is_timed_out : Setup → Moment → Replica → Bool
+is_timed_out setup now r = nat_le setup.table.millis (now.0 - r.started.0) && nat_lt r.start.0 r.cur.0
+
+-- a replica holds with as many rows as the row limit, and past the time limit
+abbrev pub state_at : Setup → Moment → Replica → ReplicaState
+state_at setup now r =
+    if nat_le setup.table.rows (length r.held) || is_timed_out setup now r then Holding else InitialConsuming
+
+abbrev pub held_at : Setup → Moment → Replica → Replica
+held_at setup now r = record r { state = state_at setup now r }
+
+-- a replica after a batch
+abbrev pub took : Setup → Moment → ℕ → Replica → List (List ℕ) → Replica
+took setup now max r messages = held_at setup now (advanced setup.schema (batch setup max r messages) r messages)
 
 abbrev pub consumed_by : State → Replica → State × Outcome
 consumed_by w r =
     (record w { replica = r; events = w.events + 1 }, Consumed r.cur (length r.held) r.state)
 
 abbrev pub consumed : State → Partition → ℕ → State × Outcome
-consumed w partition max =
-    let messages = messages_of w.log partition in
-    let limit = w.setup.table.rows in
-    consumed_by w (took limit (batch limit max w.replica messages) w.replica messages)
+consumed w partition max = consumed_by w (took w.setup w.moment max w.replica (messages_of w.log partition))
 
 -- the range of the messages that a replica holds, where it holds one
 abbrev pub ranges_of : Replica → List (Partition × Range)

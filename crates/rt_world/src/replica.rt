@@ -1,20 +1,23 @@
-ghost use Rattle.std.specs.Prelude.{◌≡◌, ◌+◌, ◌^◌, ◌<◌, ◌++◌, ◌↔◌, ◌≤◌, IfOk, IsTrue, OnOk, length, true};
+ghost use Rattle.std.specs.Prelude.{◌≡◌, ◌+◌, ◌-◌, ◌^◌, ◌<◌, ◌++◌, ◌≤◌, IfOk, OnOk, length};
 ghost use Rattle.rt_world.specs.Due.{is_of, is_consuming};
 ghost use Rattle.rt_stream.specs.Log.{messages_of};
-ghost use Rattle.rt_world.specs.Held.{messages_between, placed_from};
-ghost use Rattle.rt_world.specs.Step.{batch, took, count_of, first_replica};
+ghost use Rattle.rt_schema.specs.Row.{row_of};
+ghost use Rattle.rt_schema.specs.Schema.{IsSchema};
+ghost use Rattle.rt_world.specs.Held.{messages_between, placed_from, placed_row};
+ghost use Rattle.rt_world.specs.Step.{filling, took, state_at, is_timed_out, count_of, first_replica};
 
-use rt_base::{Instance, Offset, Partition, Range, Sequence};
-use rt_lists::{Bytes, Items};
-use rt_model::{Answer, Cell, ReplicaState, ResultRow};
+use rt_base::{Instance, Moment, Offset, Partition, Range, Sequence};
+use rt_lists::Items;
+use rt_model::{Answer, Cell, ReplicaState, ResultRow, Setup};
+use rt_schema::{Row, Schema, read_row};
 use rt_stream::StreamLog;
 use std::alloc::{AllocError, Global};
 
-/// A message with its offset.
+/// A row with its message's offset.
 #[derive(Drop, PartialEq, Eq)]
 pub struct Placed {
     pub offset: Offset,
-    pub message: Bytes,
+    pub row: Row,
 }
 
 /// One consumer of a segment.
@@ -25,23 +28,26 @@ pub struct Replica {
     pub sequence: Sequence,
     /// The segment's first offset.
     pub start: Offset,
+    /// When it began to consume.
+    pub started: Moment,
     /// The offset of the next message.
     pub cur: Offset,
     pub state: ReplicaState,
-    /// The messages from the start up to `cur`.
+    /// The rows of the messages from the start up to `cur`.
     pub held: Items<Placed>,
 }
 
 impl Replica {
     /// The replica of the first segment of partition 0 at server 0.
-    pub fn first(alloc: Global) -> Replica
-        ensures { result ≡ first_replica }
+    pub fn first(alloc: Global, started: Moment) -> Replica
+        ensures { result ≡ first_replica started }
     {
         Replica {
             instance: Instance(0),
             partition: Partition(0),
             sequence: Sequence(0),
             start: Offset(0),
+            started,
             cur: Offset(0),
             state: ReplicaState::InitialConsuming,
             held: Items::new(alloc),
@@ -63,34 +69,56 @@ impl Replica {
     }
 
     /// Takes messages of its partition, from `cur` on: at most `max`, and no more rows than the limit.
-    #[tactic(auto, using(crate::proofs::Places::limited_took))]
+    #[tactic(auto, using(crate::proofs::Filling::batch_at, crate::proofs::Filling::limited_batch))]
     pub fn take(
         &mut self,
         alloc: Global,
-        limit: u32,
+        setup: &Setup,
+        now: Moment,
         max: u32,
         log: &StreamLog,
         partition: Partition,
     ) -> Result<(), AllocError>
+        requires schema { IsSchema setup.now.schema }
         requires partition { partition.0 < length log.now }
         requires within { self.old.cur.0 ≤ length (messages_of log.now partition) }
-        requires limited { length self.old.held ≤ limit }
-        ensures took { let messages = messages_of log.now partition in
-            OnOk result (self.new ≡ took limit (batch limit max self.old messages) self.old messages) }
-        ensures limited { OnOk result (length self.new.held ≤ limit) }
+        requires limited { length self.old.held ≤ setup.now.table.rows }
+        ensures took { OnOk result (self.new ≡ took setup.now now max self.old (messages_of log.now partition)) }
+        ensures few { OnOk result (length self.new.held < 2 ^ 32) }
     {
-        let rows = self.held.len() as u64;
         let there = log.size(partition).0 - self.cur.0;
-        let count = u64::from(max).min(there.min(u64::from(limit) - rows));
-        let end = Offset(self.cur.0 + count);
-        place(alloc, &mut self.held, log, partition, self.cur, end)?;
-        self.cur = end;
-        self.state = if u64::from(limit) <= rows + count {
+        let stop = Offset(self.cur.0 + u64::from(max).min(there));
+        let limit = setup.table.rows;
+        self.cur = fill(
+            alloc,
+            &mut self.held,
+            &setup.schema,
+            limit,
+            log,
+            partition,
+            self.cur,
+            stop,
+        )?;
+        self.state = self.state_at(setup, now);
+        Ok(())
+    }
+
+    /// HOLDING with as many rows as the row limit, and past the time limit; else INITIAL_CONSUMING.
+    fn state_at(&self, setup: &Setup, now: Moment) -> ReplicaState
+        ensures { result ≡ state_at setup.now now self.now }
+    {
+        let full = self.held.len() >= setup.table.rows as usize;
+        if full || self.is_timed_out(setup, now) {
             ReplicaState::Holding
         } else {
             ReplicaState::InitialConsuming
-        };
-        Ok(())
+        }
+    }
+
+    fn is_timed_out(&self, setup: &Setup, now: Moment) -> bool
+        ensures { result ≡ is_timed_out setup.now now self.now }
+    {
+        now.0.saturating_sub(self.started.0) >= setup.table.millis && self.start < self.cur
     }
 
     /// The count of the rows that it holds, with their range.
@@ -119,25 +147,51 @@ impl Replica {
     }
 }
 
-/// Adds the messages of a range of offsets to those that are held.
-#[tactic(auto, using(crate::proofs::Places::placed_next))]
-fn place(
+/// Adds the rows of messages from an offset on, until another offset or the row limit, and answers where it ended.
+#[tactic(auto, using(crate::proofs::Filling::fill_next, crate::proofs::Filling::fill_stop, crate::proofs::Filling::fill_full, crate::proofs::Places::placed_next, crate::proofs::Filling::room_kept))]
+fn fill(
     alloc: Global,
     held: &mut Items<Placed>,
+    schema: &Schema,
+    limit: u32,
     log: &StreamLog,
     partition: Partition,
     start: Offset,
-    end: Offset,
-) -> Result<(), AllocError>
+    stop: Offset,
+) -> Result<Offset, AllocError>
+    requires schema { IsSchema schema.now }
     requires partition { partition.0 < length log.now }
-    requires ordered { start.0 ≤ end.0 }
-    requires within { end.0 ≤ length (messages_of log.now partition) }
-    ensures { OnOk result (held.new ≡ held.old ++ placed_from start.0 (messages_between (messages_of log.now partition) start.0 end.0)) }
+    requires ordered { start.0 ≤ stop.0 }
+    requires within { stop.0 ≤ length (messages_of log.now partition) }
+    requires limited { length held.old ≤ limit }
+    ensures end { let messages = messages_between (messages_of log.now partition) start.0 stop.0 in
+        let room = limit - length held.old in
+        IfOk result (λ end. end.0 ≡ start.0 + filling schema.now room messages) }
+    ensures few { IfOk result (λ end. length held.new < 2 ^ 32) }
+    ensures held { let messages = messages_of log.now partition in
+        IfOk result (λ end. held.new ≡ held.old ++ placed_from schema.now start.0 (messages_between messages start.0 end.0)) }
 {
-    for offset in start.0..end.0 {
-        let offset = Offset(offset);
-        let message = Bytes::copied_from(alloc, log.message(partition, offset))?;
-        held.push(Placed { offset, message })?;
+    let mut offset = start;
+    while offset.0 < stop.0 && held.len() < limit as usize {
+        place(alloc, held, schema, offset, log.message(partition, offset))?;
+        offset = Offset(offset.0 + 1);
     }
-    Ok(())
+    Ok(offset)
+}
+
+/// Adds the row of a message, where the message is decodable.
+fn place(
+    alloc: Global,
+    held: &mut Items<Placed>,
+    schema: &Schema,
+    offset: Offset,
+    message: &[u8],
+) -> Result<(), AllocError>
+    requires { IsSchema schema.now }
+    ensures { OnOk result (held.new ≡ held.old ++ placed_row offset.0 (row_of schema.now message.now)) }
+{
+    match read_row(alloc, schema, message)? {
+        Some(row) => held.push(Placed { offset, row }),
+        None => Ok(()),
+    }
 }

@@ -1,11 +1,12 @@
 ghost use Rattle.std.specs.Prelude.{◌≡◌, ◌+◌, ◌≤◌, ◌<◌, IfOk, length};
 ghost use Rattle.rt_world.specs.Due.{due_of, produce_due, consume_due, room_for, events_limit};
+ghost use Rattle.rt_schema.specs.Schema.{IsSchema};
 ghost use Rattle.rt_stream.specs.Log.{messages_of};
 ghost use Rattle.rt_world.specs.Safe.{IsSafe};
 ghost use Rattle.rt_world.specs.Step.{after, start, produced, consumed, counted};
 
 use crate::{Event, Outcome, Refusal, Replica};
-use rt_base::{Instance, Offset, Partition, Sequence, Which};
+use rt_base::{Instance, Moment, Partition, Sequence, Which};
 use rt_lists::Bytes;
 use rt_model::Setup;
 use rt_stream::{MESSAGE_LIMIT, StreamLog};
@@ -25,6 +26,8 @@ pub struct State {
     pub log: StreamLog,
     /// The one consumer.
     pub replica: Replica,
+    /// The present moment.
+    pub moment: Moment,
     /// The number of events so far.
     pub events: u64,
 }
@@ -35,10 +38,12 @@ impl State {
         ensures { IfOk result (λ w. w ≡ start setup) }
     {
         let log = StreamLog::make(alloc, setup.partitions)?;
+        let now = setup.start;
         Ok(State {
             setup,
             log,
-            replica: Replica::first(alloc),
+            replica: Replica::first(alloc, now),
+            moment: now,
             events: 0,
         })
     }
@@ -154,6 +159,7 @@ impl State {
         partition: Partition,
         max: u32,
     ) -> Result<Outcome, AllocError>
+        requires schema { IsSchema self.old.setup.schema }
         requires partition { partition.0 < length self.old.log }
         requires counted { self.old.events ≤ events_limit }
         requires within { self.old.replica.cur.0 ≤ length (messages_of self.old.log partition) }
@@ -161,7 +167,7 @@ impl State {
         ensures { IfOk result (λ outcome. (self.new, outcome) ≡ consumed self.old partition max) }
     {
         self.replica
-            .take(alloc, self.setup.table.rows, max, &self.log, partition)?;
+            .take(alloc, &self.setup, self.moment, max, &self.log, partition)?;
         self.events += 1;
         Ok(Outcome::Consumed {
             cur: self.replica.cur,
