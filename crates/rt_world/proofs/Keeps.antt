@@ -28,7 +28,7 @@ use Rattle.rt_world.specs.Safe.{IsSafe, IsSetup}
 use Rattle.rt_world.specs.Step.{start, after, produced, consumed, advanced, took, batch, count_of}
 use Rattle.rt_world.proofs.Filling.{batch_fits, limited_batch}
 use Rattle.rt_world.proofs.Places.{between_append, length_between, placed_append, length_placed}
-use Rattle.rt_world.proofs.Tests.{produce_within, consume_within, room_true}
+use Rattle.rt_world.proofs.Conditions.{produce_within, consume_within, room_true}
 
 -- what is held stays held as the log grows
 pub held_grows :

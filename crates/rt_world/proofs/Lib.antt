@@ -1,5 +1,5 @@
+pub mod Conditions
 pub mod Filling
 pub mod Keeps
 pub mod Places
 pub mod Runs
-pub mod Tests

@@ -113,7 +113,7 @@ impl State {
     }
 
     /// Has an event happen that is due, and says what comes of it.
-    #[tactic(auto, using(crate::proofs::Tests::produce_room, crate::proofs::Tests::consume_room, crate::proofs::Tests::room_true))]
+    #[tactic(auto, using(crate::proofs::Conditions::produce_room, crate::proofs::Conditions::consume_room, crate::proofs::Conditions::room_true))]
     pub fn happen(&mut self, alloc: Global, event: &Event) -> Result<Outcome, AllocError>
         requires safe { IsSafe self.old }
         requires due { due_of self.old event.now ≡ Ok tt }

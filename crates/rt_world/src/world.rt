@@ -54,7 +54,7 @@ impl World {
     }
 
     /// Has an event happen, and says what came of it. A refused event changes nothing.
-    #[tactic(auto, using(crate::proofs::Tests::steps_refused, crate::proofs::Keeps::kept_after, crate::proofs::Keeps::right_outcome))]
+    #[tactic(auto, using(crate::proofs::Conditions::steps_refused, crate::proofs::Keeps::kept_after, crate::proofs::Keeps::right_outcome))]
     pub fn apply(&mut self, alloc: Global, event: &Event) -> Result<Outcome, Refusal>
         ensures step { Steps self.old event.now self.new result }
         ensures right { IfOk result (IsRightOutcome self.new.state) }
