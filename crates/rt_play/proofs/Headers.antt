@@ -30,7 +30,14 @@ setup_known (Ok l) setup lines e = ap (λ (x : Passed). x.0) (same_ok (header_se
 setup_known (Err fault) setup lines e = cc
 
 header_fits : IsSetup header_setup
-header_fits = record { servers = refl; controllers = refl; partitions = refl; replication = refl; rows = omega arith }
+header_fits = record {
+  servers = refl;
+  controllers = refl;
+  partitions = refl;
+  replication = refl;
+  rows = omega arith;
+  schema = record { few = (omega arith, omega arith); named = refl; distinct = refl; taken = refl };
+}
 
 pub setup_fits : (script : ScriptLines) (setup : Setup) (lines : List (ℕ × List ℕ)) → header_of script ≡ Ok (setup, lines) → IsSetup setup
 setup_fits script setup lines e = subst IsSetup (setup_known (past_header script) setup lines e) header_fits
@@ -61,7 +68,7 @@ pub made_tells : (world : Kept) (setup : Setup) (lines : List (ℕ × List ℕ))
 made_tells world setup lines old new result made tells = subst (λ (w : Kept). Tells (report_from lines w.state) old new result) made tells
 
 safe_behind : (script : ScriptLines) (header : Result Passed PlayFault) → header_of script ≡ header → IsSafeBehind header
-safe_behind script (Ok x) e = safe_from_start x.0 (events_of x.1) (setup_fits script x.0 x.1 e)
+safe_behind script (Ok x) e = safe_from_start x.0 (events_of x.0.table.name x.1) (setup_fits script x.0 x.1 e)
 safe_behind script (Err fault) e = tt
 
 pub safe_script : (input : List ℕ) → IsSafeScript input

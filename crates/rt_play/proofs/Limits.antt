@@ -85,7 +85,7 @@ line_never line (Some event) w rest later e = step_never line event (due_of w ev
 
 lines_never : (lines : List (ℕ × List ℕ)) (w : State) → IsInputStop (report_from lines w).stop → ⊥
 lines_never [] w e = cc
-lines_never (line ∷ lines) w e = line_never line.0 (event_of line.1) w (report_from lines) (lines_never lines) e
+lines_never (line ∷ lines) w e = line_never line.0 (event_of w.setup.table.name line.1) w (report_from lines) (lines_never lines) e
 
 abbrev IsInputFault : LinesOrFault → Type 0
 IsInputFault past = past ≡ Err (fault.Limit Input)

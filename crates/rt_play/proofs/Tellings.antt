@@ -63,7 +63,7 @@ runs_out_there report rest texts old now same puts =
 
 -- a line that stops the run
 pub tells_stop : (fault : PlayFault) (number : ℕ) (line text : List ℕ) (w v : Kept) (rest : State → Report) (report : Report) (texts : List (List ℕ)) (old now : SinkMeaning) →
-    PlaysLine number line w v text (Err fault) → report ≡ told_all texts (report_line number (event_of line) w.state rest) → Puts old now (concat texts) → Tells report old now (Err fault)
+    PlaysLine number line w v text (Err fault) → report ≡ told_all texts (report_line number (event_of w.state.setup.table.name line) w.state rest) → Puts old now (concat texts) → Tells report old now (Err fault)
 tells_stop (Refused at reason) number line text w v rest report texts old now plays same puts = stops_there report texts old now _ (same ∙ ap (told_all texts) (plays rest)) puts
 tells_stop (Limit which) number line text w v rest report texts old now plays same puts = stops_there report texts old now _ (same ∙ ap (told_all texts) (plays rest)) puts
 tells_stop Memory number line text w v rest report texts old now plays same puts = runs_out_there report _ texts old now same puts

@@ -1,6 +1,6 @@
 -- What a line of a script says, behind the header: the event that it reads as, where it reads as one.
-use Rattle.std.specs.Prelude.{ℕ, ◌+◌, Bool, true, false, List, [], ◌∷◌, length, take, drop, Option, None, Some, codes, bytes_eq, nat_eq, ◌==◌, nat_le, ◌&&◌, if◌then◌else◌, nat_lt}
-use Rattle.std.specs.Char.{is_ascii_digit, is_ascii_lowercase}
+use Rattle.std.specs.Prelude.{ℕ, ◌+◌, Bool, true, false, List, [], ◌∷◌, length, take, drop, Option, None, Some, codes, bytes_eq, nat_eq, ◌==◌, nat_le, ◌&&◌, ◌||◌, if◌then◌else◌, nat_lt}
+use Rattle.std.specs.Char.{is_ascii_digit}
 use Rattle.std.specs.List.{list_all, starts_with}
 use Rattle.std.specs.Str.Parse.{digits_value}
 use Rattle.rt_world.specs.declared.event.Event.{Event}
@@ -46,25 +46,12 @@ number_of word = number_up_to 18446744073709551615 word
 abbrev pub index_of : List ℕ → Option ℕ
 index_of word = number_up_to 4294967294 word
 
--- a number of 1 to 18 digits, and the brace behind it
-abbrev pub ends_message : List ℕ → Bool
-ends_message text = is_then (parted_at 125 text) (λ parts. (is_numeral parts.0 && nat_le (length parts.0) 18) && (length parts.1 == 0))
-
--- a letter, and what follows it
-abbrev pub has_letter : List ℕ → Bool
-has_letter [] = false
-has_letter (letter ∷ text) = is_ascii_lowercase letter && is_then (after_prefix (codes "\",\"v\":") text) ends_message
-
--- the messages that are taken so far: `{"k":"X","v":N}` with one letter X and a number N
-abbrev pub is_message : List ℕ → Bool
-is_message text = is_then (after_prefix (codes "{\"k\":\"") text) has_letter
-
 -- `P TEXT`
 abbrev pub produce_of : List ℕ → Option Event
 produce_of text =
     then_some (parted_at 32 text) (λ parts.
     then_some (index_of parts.0) (λ partition.
-    if is_message parts.1 then Some (Produce (record { 0 = partition }) parts.1) else None))
+    Some (Produce (record { 0 = partition }) parts.1)))
 
 -- `sK`
 abbrev pub server_of : List ℕ → Option ℕ
@@ -93,17 +80,24 @@ consume_of text =
     then_some (number_of second.1) (λ count.
     Some (Consume (record { 0 = server }) (record { 0 = segment.0 }) (record { 0 = segment.1 }) (batch_of count)))))))
 
--- the one query that is taken so far
-abbrev pub query_of : List ℕ → Option Event
-query_of text = if bytes_eq text (codes "SELECT COUNT(*) FROM t") then Some Query else None
+-- a table by its name, with or without the suffix of its kind
+abbrev pub is_table : List ℕ → List ℕ → Bool
+is_table table name = is_then (after_prefix table name) (λ suffix. (length suffix == 0) || bytes_eq suffix (codes "_REALTIME"))
+
+-- the one query that is taken so far: the count of a table's rows
+abbrev pub is_count : List ℕ → List ℕ → Bool
+is_count table text = is_then (after_prefix (codes "SELECT COUNT(*) FROM ") text) (is_table table)
+
+abbrev pub query_of : List ℕ → List ℕ → Option Event
+query_of table text = if is_count table text then Some Query else None
 
 -- a line's first word, and what follows the space behind it
-abbrev pub event_by : List ℕ → List ℕ → Option Event
-event_by word text =
+abbrev pub event_by : List ℕ → List ℕ → List ℕ → Option Event
+event_by table word text =
     if bytes_eq word (codes "produce") then produce_of text else
     (if bytes_eq word (codes "consume") then consume_of text else
-    (if bytes_eq word (codes "query") then query_of text else None))
+    (if bytes_eq word (codes "query") then query_of table text else None))
 
--- the event of a line, or none where the line is outside the grammar
-abbrev pub event_of : List ℕ → Option Event
-event_of line = then_some (parted_at 32 line) (λ parts. event_by parts.0 parts.1)
+-- the event of a line in the script of a table, or none where the line is outside the grammar
+abbrev pub event_of : List ℕ → List ℕ → Option Event
+event_of table line = then_some (parted_at 32 line) (λ parts. event_by table parts.0 parts.1)

@@ -150,10 +150,10 @@ ReadsAll from to (Err stop.Memory) = TakesSome from to
 -- what is reported of a line, from a world on
 abbrev pub PlaysLine : ℕ → List ℕ → Kept → Kept → List ℕ → Result Unit PlayFault → Type 0
 PlaysLine number line old new text (Ok done) =
-    (new.spent ≡ false) × ((rest : State → Report) → report_line number (event_of line) old.state rest ≡ told text (rest new.state))
+    (new.spent ≡ false) × ((rest : State → Report) → report_line number (event_of old.state.setup.table.name line) old.state rest ≡ told text (rest new.state))
 PlaysLine number line old new text (Err Memory) = Unit {0}
-PlaysLine number line old new text (Err (Refused at reason)) = (rest : State → Report) → report_line number (event_of line) old.state rest ≡ stopped (Refused at reason)
-PlaysLine number line old new text (Err (Limit which)) = (rest : State → Report) → report_line number (event_of line) old.state rest ≡ stopped (Limit which)
+PlaysLine number line old new text (Err (Refused at reason)) = (rest : State → Report) → report_line number (event_of old.state.setup.table.name line) old.state rest ≡ stopped (Refused at reason)
+PlaysLine number line old new text (Err (Limit which)) = (rest : State → Report) → report_line number (event_of old.state.setup.table.name line) old.state rest ≡ stopped (Limit which)
 PlaysLine number line old new text (Err Usage) = ⊥
 PlaysLine number line old new text (Err ReadFault) = ⊥
 PlaysLine number line old new text (Err WriteFault) = ⊥

@@ -50,7 +50,7 @@ report_line line (Some event) w rest = report_step line event (step w event) res
 -- the report of lines from a world on
 abbrev pub report_from : List (ℕ × List ℕ) → State → Report
 report_from [] w = ended
-report_from (line ∷ lines) w = report_line line.0 (event_of line.1) w (report_from lines)
+report_from (line ∷ lines) w = report_line line.0 (event_of w.setup.table.name line.1) w (report_from lines)
 
 abbrev pub report_behind : Result (Setup × List (ℕ × List ℕ)) PlayFault → Report
 report_behind (Ok x) = report_from x.1 (start x.0)

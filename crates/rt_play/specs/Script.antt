@@ -13,13 +13,13 @@ abbrev pub event_before : Option Event → List Event → List Event
 event_before None events = []
 event_before (Some event) events = event ∷ events
 
--- the events of lines, up to the first line that is outside the grammar
-abbrev pub events_of : List (ℕ × List ℕ) → List Event
-events_of [] = []
-events_of (line ∷ lines) = event_before (event_of line.1) (events_of lines)
+-- the events of lines in the script of a table, up to the first line that is outside the grammar
+abbrev pub events_of : List ℕ → List (ℕ × List ℕ) → List Event
+events_of table [] = []
+events_of table (line ∷ lines) = event_before (event_of table line.1) (events_of table lines)
 
 abbrev pub IsSafeBehind : Result (Setup × List (ℕ × List ℕ)) PlayFault → Type 0
-IsSafeBehind (Ok x) = IsSafeRun (events_of x.1) (start x.0)
+IsSafeBehind (Ok x) = IsSafeRun (events_of x.0.table.name x.1) (start x.0)
 IsSafeBehind (Err fault) = Unit {0}
 
 -- every world of a script's run is safe, and every answer in it is right

@@ -2,11 +2,10 @@ ghost use Rattle.std.specs.Prelude.{◌≡◌, IfOk};
 ghost use Rattle.rt_play.specs.Line.{
   batch_of,
   consume_of,
-  ends_message,
   event_of,
-  has_letter,
   index_of,
-  is_message,
+  is_count,
+  is_table,
   number_of,
   produce_of,
   query_of,
@@ -14,16 +13,16 @@ ghost use Rattle.rt_play.specs.Line.{
   server_of,
 };
 
-use crate::numeral::{is_numeral, number_up_to};
+use crate::numeral::number_up_to;
 use crate::parts::{after_prefix, part_at};
 use rt_base::{Instance, Partition, Sequence};
-use rt_lists::Bytes;
+use rt_lists::{Bytes, Text};
 use rt_world::Event;
 use std::alloc::{AllocError, Global};
 
 /// The event of a line behind the header, or none where the line is outside the grammar.
-pub(crate) fn event(alloc: Global, line: &[u8]) -> Result<Option<Event>, AllocError>
-    ensures { IfOk result (λ event. event ≡ event_of line.now) }
+pub(crate) fn event(alloc: Global, table: &Text, line: &[u8]) -> Result<Option<Event>, AllocError>
+    ensures { IfOk result (λ event. event ≡ event_of table.now line.now) }
 {
     let Some((word, text)) = part_at(line, b' ') else {
         return Ok(None);
@@ -35,7 +34,7 @@ pub(crate) fn event(alloc: Global, line: &[u8]) -> Result<Option<Event>, AllocEr
         return Ok(consume(text));
     }
     if word == b"query".as_slice() {
-        return Ok(query(text));
+        return Ok(query(table, text));
     }
     Ok(None)
 }
@@ -50,48 +49,11 @@ fn produce(alloc: Global, text: &[u8]) -> Result<Option<Event>, AllocError>
     let Some(partition) = index(word) else {
         return Ok(None);
     };
-    if !is_message(text) {
-        return Ok(None);
-    }
     let message = Bytes::copied_from(alloc, text)?;
     Ok(Some(Event::Produce {
         partition: Partition(partition),
         message,
     }))
-}
-
-// `{"k":"X","v":N}`, with one letter X and a number N of 1 to 18 digits.
-fn is_message(text: &[u8]) -> bool
-    ensures { result ≡ is_message text.now }
-{
-    match after_prefix(text, b"{\"k\":\"".as_slice()) {
-        Some(rest) => has_letter(rest),
-        None => false,
-    }
-}
-
-fn has_letter(text: &[u8]) -> bool
-    ensures { result ≡ has_letter text.now }
-{
-    let [letter, rest @ ..] = text else {
-        return false;
-    };
-    if !letter.is_ascii_lowercase() {
-        return false;
-    }
-    match after_prefix(rest, b"\",\"v\":".as_slice()) {
-        Some(rest) => ends_message(rest),
-        None => false,
-    }
-}
-
-fn ends_message(text: &[u8]) -> bool
-    ensures { result ≡ ends_message text.now }
-{
-    match part_at(text, b'}') {
-        Some((digits, rest)) => is_numeral(digits) && digits.len() <= 18 && rest.is_empty(),
-        None => false,
-    }
 }
 
 // `sK P/Q N`
@@ -152,13 +114,32 @@ fn batch(count: u64) -> u32
     }
 }
 
-// The one query that is taken so far.
-fn query(text: &[u8]) -> Option<Event>
-    ensures { result ≡ query_of text.now }
+// The one query that is taken so far: the count of the table's rows.
+fn query(table: &Text, text: &[u8]) -> Option<Event>
+    ensures { result ≡ query_of table.now text.now }
 {
-    if text == b"SELECT COUNT(*) FROM t".as_slice() {
+    if is_count(table, text) {
         Some(Event::Query)
     } else {
         None
+    }
+}
+
+fn is_count(table: &Text, text: &[u8]) -> bool
+    ensures { result ≡ is_count table.now text.now }
+{
+    match after_prefix(text, b"SELECT COUNT(*) FROM ".as_slice()) {
+        Some(name) => is_table(table, name),
+        None => false,
+    }
+}
+
+// Whether a name is the table's, with or without the suffix of its kind.
+fn is_table(table: &Text, name: &[u8]) -> bool
+    ensures { result ≡ is_table table.now name.now }
+{
+    match after_prefix(name, table.as_bytes()) {
+        Some(suffix) => suffix.is_empty() || suffix == b"_REALTIME".as_slice(),
+        None => false,
     }
 }

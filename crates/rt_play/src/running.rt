@@ -86,7 +86,7 @@ fn play_line(
     ensures { PlaysLine number line.now world.old world.new (string_bytes text.new) result }
 {
     text.clear();
-    let Some(event) = event(alloc, line)? else {
+    let Some(event) = event(alloc, world.table_name(), line)? else {
         return Err(PlayFault::Refused {
             line: number,
             reason: LineReason::BadLine,

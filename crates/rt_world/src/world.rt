@@ -5,6 +5,7 @@ ghost use Rattle.rt_world.specs.Safe.{IsSetup};
 ghost use Rattle.rt_world.specs.Step.{Steps, start};
 
 use crate::{Event, Outcome, Refusal, State};
+use rt_lists::Text;
 use rt_model::Setup;
 use std::alloc::{AllocError, Global};
 use std::marker::Model;
@@ -39,6 +40,13 @@ impl World {
             state: State::start(alloc, setup)?,
             spent: false,
         })
+    }
+
+    /// The name of the cluster's table.
+    pub fn table_name(&self) -> &Text
+        ensures { result.now ≡ self.now.state.setup.table.name }
+    {
+        &self.state.setup.table.name
     }
 
     /// Why an event can't happen now, if it can't: the refusal that `apply` would give.
