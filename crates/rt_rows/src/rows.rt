@@ -18,7 +18,7 @@ struct Row {
     fault: &'static str,
 }
 
-const ROWS: [Row; 15] = [
+const ROWS: [Row; 16] = [
     Row {
         name: "the header alone",
         lines: "",
@@ -56,8 +56,14 @@ const ROWS: [Row; 15] = [
         fault: "line 4: BadLine",
     },
     Row {
-        name: "nineteen digits",
-        lines: "produce 0 {\"k\":\"a\",\"v\":100000000000000000}\nproduce 0 {\"k\":\"a\",\"v\":1000000000000000000}\n",
+        name: "one undecodable message",
+        lines: "produce 0 {\"k\":\"a\",\"v\":1}\nproduce 0 oops\nproduce 0 {\"k\":\"a\",\"v\":3}\nconsume s0 0/0 3\nquery SELECT COUNT(*) FROM t_REALTIME\n",
+        report: "produced 0@0\nproduced 0@1\nproduced 0@2\nconsumed s0 0/0 cur=3 rows=2 INITIAL_CONSUMING\nanswer {\"ranges\":[[0,0,3]],\"missing\":[],\"rows\":[[2]]}\n",
+        fault: "",
+    },
+    Row {
+        name: "an empty message, and none",
+        lines: "produce 0 \nproduce 0\n",
         report: "produced 0@0\n",
         fault: "line 5: BadLine",
     },
