@@ -1,94 +1,127 @@
-use Rattle.std.specs.Prelude.{◌≡◌, ℕ, Bool, List, [], ◌∷◌, Option, None, Result, Ok, Err, codes, bytes_eq, if◌then◌else◌}
-use Rattle.rt_schema.specs.declared.column.Kind.TheVariants as kind
-use Rattle.rt_schema.specs.declared.column.Role.TheVariants as role
-use Rattle.rt_schema.specs.declared.column.Column.{Column}
+-- The header of a script: its schema line, its table line and its cluster line.
+use Rattle.std.specs.Prelude.{◌≡◌, ℕ, ◌<◌, List, [], ◌∷◌, Option, None, Some, Result, Ok, Err, codes, if◌then◌else◌}
+use Rattle.std.specs.Str.{is_utf8}
+use Rattle.rt_base.specs.declared.which.Which.{Which}
 use Rattle.rt_schema.specs.declared.schema.Schema.{Schema}
 use Rattle.rt_schema.specs.declared.table.Table.{Table}
+use Rattle.rt_schema.specs.declared.schema_refused.SchemaRefused.{SchemaRefused}
+use Rattle.rt_schema.specs.declared.schema_refused.SchemaRefused.TheVariants as refused
+use Rattle.rt_schema.specs.Schema.{IsSchema}
+use Rattle.rt_schema.specs.SchemaText.{schema_of}
+use Rattle.rt_schema.specs.TableText.{table_of}
 use Rattle.rt_model.specs.declared.setup.Setup.{Setup}
-use Rattle.rt_lines.specs.declared.line_reason.LineReason.TheVariants.{BadLine}
+use Rattle.rt_lines.specs.declared.cluster.Cluster.{Cluster}
+use Rattle.rt_lines.specs.declared.line_reason.LineReason.{LineReason}
+use Rattle.rt_lines.specs.declared.line_reason.LineReason.TheVariants.{BadLine, Schema as BadSchema, Table as BadTable}
 use Rattle.rt_lines.specs.declared.play_fault.PlayFault.{PlayFault}
 use Rattle.rt_lines.specs.declared.play_fault.PlayFault.TheVariants.{Usage, Refused, ReadFault, WriteFault, Memory, Limit}
+use Rattle.rt_lines.specs.Cluster.{cluster_of, cluster_fault, is_single}
 use Rattle.rt_lines.specs.Lines.{ScriptLines}
+use Rattle.rt_lines.specs.Words.{then_some, after_prefix}
 
--- the three lines of the one header that is taken
-abbrev pub schema_line : List ℕ
-schema_line = codes "schema {\"schemaName\":\"t\",\"dimensionFieldSpecs\":[{\"name\":\"k\",\"dataType\":\"STRING\"}],\"metricFieldSpecs\":[{\"name\":\"v\",\"dataType\":\"LONG\"}]}"
+-- a line with its number
+abbrev pub NumberedLine : Type 0
+NumberedLine = ℕ × List ℕ
 
-abbrev pub table_line : List ℕ
-table_line = codes "table {\"tableName\":\"t\",\"tableType\":\"REALTIME\",\"segmentsConfig\":{\"replication\":\"1\"},\"tableIndexConfig\":{\"invertedIndexColumns\":[\"k\"],\"streamConfigs\":{\"realtime.segment.flush.threshold.rows\":\"100\",\"realtime.segment.flush.threshold.time\":\"1h\"}}}"
+abbrev pub then_ok : {A B : Type 0} → Result A PlayFault → (A → Result B PlayFault) → Result B PlayFault
+then_ok (Ok x) f = f x
+then_ok (Err fault) f = Err fault
 
-abbrev pub cluster_line : List ℕ
-cluster_line = codes "cluster servers=1 controllers=1 partitions=1 start=1700000000000 grace=0"
+-- the fault of a text that its reader refuses, which numbers its refusals from 1 on
+abbrev pub refused_by : (ℕ → LineReason) → ℕ → SchemaRefused → PlayFault
+refused_by reason line refused.NotJson = Refused line (reason 1)
+refused_by reason line refused.MissingField = Refused line (reason 2)
+refused_by reason line refused.UnknownType = Refused line (reason 3)
+refused_by reason line refused.DuplicateColumn = Refused line (reason 4)
+refused_by reason line refused.Limit = Refused line (reason 5)
+refused_by reason line refused.Memory = Memory
 
-abbrev pub header_schema : Schema
-header_schema = record {
-  name = codes "t";
-  columns = record { name = codes "k"; kind = kind.Text; role = role.Dimension } ∷ record { name = codes "v"; kind = kind.Long; role = role.Metric } ∷ [];
+abbrev pub if_taken : {A : Type 0} → (ℕ → LineReason) → ℕ → Result A SchemaRefused → Result A PlayFault
+if_taken reason line (Ok x) = Ok x
+if_taken reason line (Err why) = Err (refused_by reason line why)
+
+-- the text behind a line's first word, in UTF-8
+abbrev pub text_behind : List ℕ → List ℕ → Option (List ℕ)
+text_behind word line = then_some (after_prefix word line) (λ text. if is_utf8 text then Some text else None)
+
+abbrev pub if_well_formed : {A B : Type 0} → ℕ → Option A → (A → Result B PlayFault) → Result B PlayFault
+if_well_formed line None f = Err (Refused line BadLine)
+if_well_formed line (Some x) f = f x
+
+-- `schema TEXT`
+abbrev pub schema_at : NumberedLine → Result Schema PlayFault
+schema_at line = if_well_formed line.0 (text_behind (codes "schema ") line.1) (λ text. if_taken BadSchema line.0 (schema_of text))
+
+-- `table TEXT`
+abbrev pub table_at : Schema → NumberedLine → Result Table PlayFault
+table_at schema line = if_well_formed line.0 (text_behind (codes "table ") line.1) (λ text. if_taken BadTable line.0 (table_of schema text))
+
+abbrev pub setup_of : Schema → Table → Cluster → Setup
+setup_of schema table c = record {
+  schema = schema;
+  table = table;
+  servers = c.servers;
+  controllers = c.controllers;
+  partitions = c.partitions;
+  start = record { 0 = c.start };
+  grace = c.grace;
+  retention = c.options.retention;
+  format = c.options.format;
 }
 
--- a row limit of 100 and a time limit of an hour
-abbrev pub header_table : Table
-header_table = record { name = codes "t"; replication = 1; indexed = codes "k" ∷ []; rows = 100; millis = 3600000 }
+-- a cluster beyond no limit; of those only one with a single node of each kind is taken so far
+abbrev pub setup_with : Schema → Table → ℕ → Cluster → Option Which → Result Setup PlayFault
+setup_with schema table line c (Some which) = Err (Limit which)
+setup_with schema table line c None = if is_single c table.replication then Ok (setup_of schema table c) else Err (Refused line BadLine)
 
--- what that header says
-abbrev pub header_setup : Setup
-header_setup = record {
-  schema = header_schema;
-  table = header_table;
-  servers = 1;
-  controllers = 1;
-  partitions = 1;
-  start = record { 0 = 1700000000000 };
-  grace = 0;
-  retention = None;
-  format = 2;
-}
+abbrev pub setup_at : Schema → Table → NumberedLine → Result Setup PlayFault
+setup_at schema table line = if_well_formed line.0 (cluster_of line.1) (λ c. setup_with schema table line.0 c (cluster_fault c table.replication))
 
-abbrev pub LinesOrFault : Type 0
-LinesOrFault = Result (List (ℕ × List ℕ)) PlayFault
+abbrev pub with_rest : {A : Type 0} → List NumberedLine → Result A PlayFault → Result (A × List NumberedLine) PlayFault
+with_rest lines (Ok x) = Ok (x, lines)
+with_rest lines (Err fault) = Err fault
 
--- the lines behind the first one, if that is the wanted one; a line that is missing has the number after the last line
-abbrev pub past_line : List ℕ → ℕ → List (ℕ × List ℕ) → LinesOrFault
-past_line wanted after [] = Err (Refused after BadLine)
-past_line wanted after (line ∷ lines) = if bytes_eq line.1 wanted then Ok lines else Err (Refused line.0 BadLine)
-
-abbrev pub then_past : LinesOrFault → (List (ℕ × List ℕ) → LinesOrFault) → LinesOrFault
-then_past (Ok lines) past = past lines
-then_past (Err fault) past = Err fault
-
--- the lines behind the header
-abbrev pub past_header : ScriptLines → LinesOrFault
-past_header script =
-    then_past (past_line schema_line script.after script.lines) (λ lines.
-    then_past (past_line table_line script.after lines) (past_line cluster_line script.after))
-
-abbrev pub with_setup : LinesOrFault → Result (Setup × List (ℕ × List ℕ)) PlayFault
-with_setup (Ok lines) = Ok (header_setup, lines)
-with_setup (Err fault) = Err fault
+-- what the next line says, and the lines behind it; a line that is missing has the number after the last line
+abbrev pub next_line : {A : Type 0} → (NumberedLine → Result A PlayFault) → ℕ → List NumberedLine → Result (A × List NumberedLine) PlayFault
+next_line says after [] = Err (Refused after BadLine)
+next_line says after (line ∷ lines) = with_rest lines (says line)
 
 -- what the header of a script says, with the lines behind it; or why it is refused
-abbrev pub header_of : ScriptLines → Result (Setup × List (ℕ × List ℕ)) PlayFault
-header_of script = with_setup (past_header script)
+abbrev pub header_of : ScriptLines → Result (Setup × List NumberedLine) PlayFault
+header_of script =
+    then_ok (next_line schema_at script.after script.lines) (λ schema.
+    then_ok (next_line (table_at schema.0) script.after schema.1) (λ table.
+    next_line (setup_at schema.0 table.0) script.after table.1))
 
-abbrev pub IsRefused : PlayFault → Type 0
-IsRefused (Refused line reason) = Unit {0}
-IsRefused Memory = ⊥
-IsRefused (Limit which) = ⊥
-IsRefused Usage = ⊥
-IsRefused ReadFault = ⊥
-IsRefused WriteFault = ⊥
+-- a line says this; want of memory is free, and no fault comes but a refusal and a limit
+abbrev pub Says : {A : Type 0} → Result A PlayFault → Result A PlayFault → Type 0
+Says wanted (Ok x) = wanted ≡ Ok x
+Says wanted (Err Memory) = Unit {0}
+Says wanted (Err (Refused line reason)) = wanted ≡ Err (Refused line reason)
+Says wanted (Err (Limit which)) = wanted ≡ Err (Limit which)
+Says wanted (Err Usage) = ⊥
+Says wanted (Err ReadFault) = ⊥
+Says wanted (Err WriteFault) = ⊥
 
--- a line was passed, or refused
-abbrev pub PassesLine : List ℕ → ScriptLines → ScriptLines → Result Unit PlayFault → Type 0
-PassesLine wanted old new (Ok done) = (past_line wanted old.after old.lines ≡ Ok new.lines) × (new.after ≡ old.after)
-PassesLine wanted old new (Err fault) = (past_line wanted old.after old.lines ≡ Err fault) × IsRefused fault
+-- some lines were read and say this, and those behind them are left; or they are refused for their reason
+abbrev pub Reads : {A : Type 0} → Result (A × List NumberedLine) PlayFault → ScriptLines → ScriptLines → Result A PlayFault → Type 0
+Reads wanted old new (Ok x) = (wanted ≡ Ok (x, new.lines)) × (new.after ≡ old.after)
+Reads wanted old new (Err Memory) = Unit {0}
+Reads wanted old new (Err (Refused line reason)) = wanted ≡ Err (Refused line reason)
+Reads wanted old new (Err (Limit which)) = wanted ≡ Err (Limit which)
+Reads wanted old new (Err Usage) = ⊥
+Reads wanted old new (Err ReadFault) = ⊥
+Reads wanted old new (Err WriteFault) = ⊥
 
--- the header was read, or refused for its reason; want of memory is free, and no other fault comes
+-- the header was read, or refused for its reason
 abbrev pub ReadsHeader : ScriptLines → ScriptLines → Result Setup PlayFault → Type 0
-ReadsHeader old new (Ok setup) = (header_of old ≡ Ok (setup, new.lines)) × (new.after ≡ old.after)
-ReadsHeader old new (Err Memory) = Unit {0}
-ReadsHeader old new (Err (Refused line reason)) = header_of old ≡ Err (Refused line reason)
-ReadsHeader old new (Err (Limit which)) = header_of old ≡ Err (Limit which)
-ReadsHeader old new (Err Usage) = ⊥
-ReadsHeader old new (Err ReadFault) = ⊥
-ReadsHeader old new (Err WriteFault) = ⊥
+ReadsHeader old new result = Reads (header_of old) old new result
+
+-- the setup of a header that was taken
+pub record IsTaken (setup : Setup) : Type 0 where
+  pub servers : setup.servers ≡ 1
+  pub controllers : setup.controllers ≡ 1
+  pub partitions : setup.partitions ≡ 1
+  pub replication : setup.table.replication ≡ 1
+  pub rows : 0 < setup.table.rows
+  pub schema : IsSchema setup.schema

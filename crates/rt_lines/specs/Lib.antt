@@ -1,4 +1,6 @@
 pub mod Answer
+pub mod Cluster
 pub mod Fault
 pub mod Header
 pub mod Lines
+pub mod Words

@@ -1,50 +1,154 @@
-ghost use Rattle.std.specs.Prelude.{◌≡◌, ◌<◌, ◌^◌, IfOk, length};
+ghost use Rattle.std.specs.Prelude.{◌≡◌, ◌<◌, ◌^◌, Some, None, IfOk, IfSome, IfNone, length};
+ghost use Rattle.rt_lines.specs.declared.line_reason.LineReason.TheVariants.{Schema as BadSchema, Table as BadTable};
 ghost use Rattle.rt_lines.specs.Header.{
+  IsTaken,
+  Reads,
   ReadsHeader,
-  PassesLine,
-  header_schema,
-  header_setup,
-  header_table,
+  Says,
+  next_line,
+  refused_by,
+  schema_at,
+  setup_at,
+  setup_of,
+  table_at,
+  text_behind,
 };
 
+use crate::cluster::{Cluster, beyond, is_single, read_cluster};
+use crate::parts::after_prefix;
 use crate::{LineReason, Lines, PlayFault};
 use rt_base::Moment;
-use rt_lists::{Items, Text};
 use rt_model::Setup;
-use rt_schema::{Column, Kind, Role, Schema, Table};
-use std::alloc::{AllocError, Global};
+use rt_schema::{Schema, SchemaRefused, Table, read_schema, read_table};
+use std::alloc::Global;
 
-const SCHEMA_LINE: &str =
-    "schema {\"schemaName\":\"t\",\"dimensionFieldSpecs\":[{\"name\":\"k\",\"dataType\":\"STRING\"}],\"metricFieldSpecs\":[{\"name\":\"v\",\"dataType\":\"LONG\"}]}";
-
-const TABLE_LINE: &str =
-    "table {\"tableName\":\"t\",\"tableType\":\"REALTIME\",\"segmentsConfig\":{\"replication\":\"1\"},\"tableIndexConfig\":{\"invertedIndexColumns\":[\"k\"],\"streamConfigs\":{\"realtime.segment.flush.threshold.rows\":\"100\",\"realtime.segment.flush.threshold.time\":\"1h\"}}}";
-
-const CLUSTER_LINE: &str =
-    "cluster servers=1 controllers=1 partitions=1 start=1700000000000 grace=0";
-
-/// Reads the three header lines: the schema, the table and the cluster. One header is taken so far.
-/// Any other line in their places is refused, and a missing one by the number after the last line.
+/// Reads the three header lines: the schema, the table and the cluster. The first of them that is
+/// missing or outside the grammar, or whose text is refused or goes beyond a limit, ends the reading. A
+/// line that is missing has the number after the last line. So far a cluster has one server, one
+/// controller, one partition and one replica of each segment; others within the limits are refused as
+/// lines outside the grammar are.
 pub fn read_header(alloc: Global, lines: &mut Lines<'_>) -> Result<Setup, PlayFault>
     ensures reads { ReadsHeader lines.old lines.new result }
+    ensures taken { IfOk result IsTaken }
     ensures few { length lines.new.lines < 2 ^ 64 }
 {
-    pass_line(lines, SCHEMA_LINE)?;
-    pass_line(lines, TABLE_LINE)?;
-    pass_line(lines, CLUSTER_LINE)?;
-    let setup = setup(alloc)?;
-    Ok(setup)
+    let schema = read_schema_line(alloc, lines)?;
+    let table = read_table_line(alloc, lines, &schema)?;
+    read_cluster_line(lines, schema, table)
 }
 
-// Passes the next line, if it is the wanted one.
-fn pass_line(lines: &mut Lines<'_>, wanted: &str) -> Result<(), PlayFault>
-    ensures passes { PassesLine wanted.now lines.old lines.new result }
+#[tactic(auto, using(crate::proofs::Headers::line_reads))]
+fn read_schema_line(alloc: Global, lines: &mut Lines<'_>) -> Result<Schema, PlayFault>
+    ensures reads { Reads (next_line schema_at lines.old.after lines.old.lines) lines.old lines.new result }
     ensures few { length lines.new.lines < 2 ^ 64 }
 {
     match lines.take() {
-        Ok((_, line)) if line == wanted.as_bytes() => Ok(()),
-        Ok((number, _)) => Err(bad_line(number)),
+        Ok((number, line)) => schema(alloc, number, line),
         Err(number) => Err(bad_line(number)),
+    }
+}
+
+#[tactic(auto, using(crate::proofs::Headers::line_reads))]
+fn read_table_line(
+    alloc: Global,
+    lines: &mut Lines<'_>,
+    schema: &Schema,
+) -> Result<Table, PlayFault>
+    ensures reads { Reads (next_line (table_at schema.now) lines.old.after lines.old.lines) lines.old lines.new result }
+    ensures few { length lines.new.lines < 2 ^ 64 }
+{
+    match lines.take() {
+        Ok((number, line)) => table(alloc, number, line, schema),
+        Err(number) => Err(bad_line(number)),
+    }
+}
+
+#[tactic(auto, using(crate::proofs::Headers::line_reads))]
+fn read_cluster_line(
+    lines: &mut Lines<'_>,
+    schema: Schema,
+    table: Table,
+) -> Result<Setup, PlayFault>
+    ensures reads { Reads (next_line (setup_at schema table) lines.old.after lines.old.lines) lines.old lines.new result }
+    ensures few { length lines.new.lines < 2 ^ 64 }
+{
+    match lines.take() {
+        Ok((number, line)) => setup(schema, table, number, line),
+        Err(number) => Err(bad_line(number)),
+    }
+}
+
+// `schema TEXT`
+fn schema(alloc: Global, number: u64, line: &[u8]) -> Result<Schema, PlayFault>
+    ensures { Says (schema_at (number, line.now)) result }
+{
+    let Some(text) = text_behind(b"schema ".as_slice(), line) else {
+        return Err(bad_line(number));
+    };
+    match read_schema(alloc, text) {
+        Ok(schema) => Ok(schema),
+        Err(refused) => Err(schema_fault(number, refused)),
+    }
+}
+
+// `table TEXT`
+fn table(alloc: Global, number: u64, line: &[u8], schema: &Schema) -> Result<Table, PlayFault>
+    ensures { Says (table_at schema.now (number, line.now)) result }
+{
+    let Some(text) = text_behind(b"table ".as_slice(), line) else {
+        return Err(bad_line(number));
+    };
+    match read_table(alloc, text, schema) {
+        Ok(table) => Ok(table),
+        Err(refused) => Err(table_fault(number, refused)),
+    }
+}
+
+// What a schema and a table make with the cluster of a line.
+fn setup(schema: Schema, table: Table, number: u64, line: &[u8]) -> Result<Setup, PlayFault>
+    ensures { Says (setup_at schema table (number, line.now)) result }
+{
+    let Some(cluster) = read_cluster(line) else {
+        return Err(bad_line(number));
+    };
+    if let Some(which) = beyond(cluster, table.replication) {
+        return Err(PlayFault::Limit(which));
+    }
+    if !is_single(cluster, table.replication) {
+        return Err(bad_line(number));
+    }
+    Ok(setup_of(schema, table, cluster))
+}
+
+fn setup_of(schema: Schema, table: Table, cluster: Cluster) -> Setup
+    requires servers { cluster.servers ≡ 1 }
+    requires controllers { cluster.controllers ≡ 1 }
+    requires partitions { cluster.partitions ≡ 1 }
+    ensures { result ≡ setup_of schema table cluster }
+{
+    Setup {
+        schema,
+        table,
+        servers: cluster.servers as u32,
+        controllers: cluster.controllers as u32,
+        partitions: cluster.partitions as u32,
+        start: Moment(cluster.start),
+        grace: cluster.grace,
+        retention: cluster.options.retention,
+        format: cluster.options.format,
+    }
+}
+
+// The text behind a line's first word, in UTF-8.
+#[tactic(auto, using(crate::proofs::Headers::is_text, crate::proofs::Headers::is_no_text))]
+fn text_behind<'a>(word: &[u8], line: &'a [u8]) -> Option<&'a str>
+    ensures some { IfSome result (λ text. text_behind word.now line.now ≡ Some text.now) }
+    ensures none { IfNone result (text_behind word.now line.now ≡ None) }
+{
+    let text = after_prefix(line, word)?;
+    match str::from_utf8(text) {
+        Ok(text) => Some(text),
+        Err(_) => None,
     }
 }
 
@@ -57,52 +161,46 @@ fn bad_line(line: u64) -> PlayFault
     }
 }
 
-fn setup(alloc: Global) -> Result<Setup, AllocError>
-    ensures { IfOk result (λ setup. setup ≡ header_setup) }
+fn schema_fault(line: u64, refused: SchemaRefused) -> PlayFault
+    ensures { result ≡ refused_by BadSchema line refused }
 {
-    Ok(Setup {
-        schema: schema(alloc)?,
-        table: table(alloc)?,
-        servers: 1,
-        controllers: 1,
-        partitions: 1,
-        start: Moment(1_700_000_000_000),
-        grace: 0,
-        retention: None,
-        format: 2,
-    })
+    match refused {
+        SchemaRefused::NotJson => bad_schema(line, 1),
+        SchemaRefused::MissingField => bad_schema(line, 2),
+        SchemaRefused::UnknownType => bad_schema(line, 3),
+        SchemaRefused::DuplicateColumn => bad_schema(line, 4),
+        SchemaRefused::Limit => bad_schema(line, 5),
+        SchemaRefused::Memory => PlayFault::Memory,
+    }
 }
 
-fn schema(alloc: Global) -> Result<Schema, AllocError>
-    ensures { IfOk result (λ schema. schema ≡ header_schema) }
+fn bad_schema(line: u64, number: u32) -> PlayFault
+    ensures { result ≡ PlayFault.Refused line (BadSchema number) }
 {
-    let mut columns = Items::new(alloc);
-    columns.push(Column {
-        name: Text::copied_from(alloc, "k")?,
-        kind: Kind::Text,
-        role: Role::Dimension,
-    })?;
-    columns.push(Column {
-        name: Text::copied_from(alloc, "v")?,
-        kind: Kind::Long,
-        role: Role::Metric,
-    })?;
-    Ok(Schema {
-        name: Text::copied_from(alloc, "t")?,
-        columns,
-    })
+    PlayFault::Refused {
+        line,
+        reason: LineReason::Schema(number),
+    }
 }
 
-fn table(alloc: Global) -> Result<Table, AllocError>
-    ensures { IfOk result (λ table. table ≡ header_table) }
+fn table_fault(line: u64, refused: SchemaRefused) -> PlayFault
+    ensures { result ≡ refused_by BadTable line refused }
 {
-    let mut indexed = Items::new(alloc);
-    indexed.push(Text::copied_from(alloc, "k")?)?;
-    Ok(Table {
-        name: Text::copied_from(alloc, "t")?,
-        replication: 1,
-        indexed,
-        rows: 100,
-        millis: 3_600_000,
-    })
+    match refused {
+        SchemaRefused::NotJson => bad_table(line, 1),
+        SchemaRefused::MissingField => bad_table(line, 2),
+        SchemaRefused::UnknownType => bad_table(line, 3),
+        SchemaRefused::DuplicateColumn => bad_table(line, 4),
+        SchemaRefused::Limit => bad_table(line, 5),
+        SchemaRefused::Memory => PlayFault::Memory,
+    }
+}
+
+fn bad_table(line: u64, number: u32) -> PlayFault
+    ensures { result ≡ PlayFault.Refused line (BadTable number) }
+{
+    PlayFault::Refused {
+        line,
+        reason: LineReason::Table(number),
+    }
 }

@@ -1,16 +1,22 @@
-//! The lines of a script, the faults of a run, and the text of an answer.
+//! The lines of a script, their words and numbers, its header, the faults of a run, and the text of an
+//! answer.
 #![tactic(auto)]
 
 mod answer;
+mod cluster;
 mod header;
 mod json;
 mod json_text;
 mod line_reason;
 mod lines;
+mod numeral;
+mod parts;
 mod play_fault;
 
 pub use answer::{answer_text, write_answer};
 pub use header::read_header;
 pub use line_reason::LineReason;
 pub use lines::Lines;
+pub use numeral::{is_numeral, number_up_to};
+pub use parts::{after_prefix, part_at};
 pub use play_fault::PlayFault;

@@ -1,7 +1,8 @@
 use Rattle.std.proofs.Common.{◌≡◌, ℕ, ◌<◌, ◌≤◌, Bool, true, false, List, [], ◌∷◌, Option, Some, None, Result, Ok, Err, refl, ap, sym, ◌∙◌, subst, rules, arith}
 use Rattle.rt_base.specs.Sink.{SinkMeaning, added}
 use Rattle.rt_model.specs.declared.setup.Setup.{Setup}
-use Rattle.rt_lines.specs.Header.{header_of, header_setup, with_setup, past_header, ReadsHeader, LinesOrFault}
+use Rattle.rt_lines.specs.Header.{header_of, ReadsHeader, IsTaken}
+use Rattle.rt_lines.proofs.Headers.{header_taken}
 use Rattle.rt_lines.specs.Lines.{ScriptLines, script_lines}
 use Rattle.rt_lines.specs.declared.play_fault.PlayFault.{PlayFault}
 use Rattle.rt_lines.specs.declared.play_fault.PlayFault.TheVariants.{Usage, Refused, ReadFault, WriteFault, Memory, Limit}
@@ -15,32 +16,19 @@ use Rattle.rt_play.specs.Report.{Report, report_of, report_behind, report_from, 
 use Rattle.rt_play.specs.Script.{IsSafeScript, IsSafeBehind, events_of}
 use Rattle.rt_play.proofs.Tellings.{nothing_put}
 
--- the header that is taken is of one server, one controller and one partition
 abbrev Passed : Type 0
 Passed = Setup × List (ℕ × List ℕ)
 
-abbrev ok_passed : Passed → Result Passed PlayFault
-ok_passed x = Ok x
-
-same_ok : (x y : Passed) → ok_passed x ≡ ok_passed y → x ≡ y
-same_ok x y e = cc
-
-setup_known : (past : LinesOrFault) (setup : Setup) (lines : List (ℕ × List ℕ)) → with_setup past ≡ Ok (setup, lines) → header_setup ≡ setup
-setup_known (Ok l) setup lines e = ap (λ (x : Passed). x.0) (same_ok (header_setup, l) (setup, lines) e)
-setup_known (Err fault) setup lines e = cc
-
-header_fits : IsSetup header_setup
-header_fits = record {
-  servers = refl;
-  controllers = refl;
-  partitions = refl;
-  replication = refl;
-  rows = omega arith;
-  schema = record { few = (omega arith, omega arith); named = refl; distinct = refl; taken = refl };
+-- the setup of a header that is taken is one that a world starts from
+pub taken_fits : (setup : Setup) → IsTaken setup → IsSetup setup
+taken_fits setup taken = record {
+  servers = taken.servers;
+  controllers = taken.controllers;
+  partitions = taken.partitions;
+  replication = taken.replication;
+  rows = taken.rows;
+  schema = taken.schema;
 }
-
-pub setup_fits : (script : ScriptLines) (setup : Setup) (lines : List (ℕ × List ℕ)) → header_of script ≡ Ok (setup, lines) → IsSetup setup
-setup_fits script setup lines e = subst IsSetup (setup_known (past_header script) setup lines e) header_fits
 
 -- nothing was written where memory ran out before the first line
 pub none_told : (report : Report) (s : SinkMeaning) → PutsLines report s s
@@ -68,7 +56,7 @@ pub made_tells : (world : Kept) (setup : Setup) (lines : List (ℕ × List ℕ))
 made_tells world setup lines old new result made tells = subst (λ (w : Kept). Tells (report_from lines w.state) old new result) made tells
 
 safe_behind : (script : ScriptLines) (header : Result Passed PlayFault) → header_of script ≡ header → IsSafeBehind header
-safe_behind script (Ok x) e = safe_from_start x.0 (events_of x.0.table.name x.1) (setup_fits script x.0 x.1 e)
+safe_behind script (Ok x) e = safe_from_start x.0 (events_of x.0.table.name x.1) (taken_fits x.0 (header_taken script x.0 x.1 e))
 safe_behind script (Err fault) e = tt
 
 pub safe_script : (input : List ℕ) → IsSafeScript input

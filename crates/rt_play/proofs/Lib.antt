@@ -1,5 +1,4 @@
 pub mod Completes
-pub mod Digits
 pub mod Headers
 pub mod Limits
 pub mod Tellings

@@ -1,10 +1,11 @@
 use Rattle.std.proofs.Common.{◌≡◌, ℕ, Bool, true, false, List, [], ◌∷◌, Option, Some, None, Result, Ok, Err, refl, ap, sym, ◌∙◌}
-use Rattle.std.specs.Prelude.{◌+◌, if◌then◌else◌, bytes_eq, nat_lt, nat_le, ◌&&◌, length}
+use Rattle.std.specs.Prelude.{◌+◌, if◌then◌else◌, IfErr, nat_lt, nat_le, ◌&&◌, length}
 use Rattle.rt_base.specs.declared.which.Which.{Which}
 use Rattle.rt_base.specs.declared.which.Which.TheVariants.{Input, Events, Message}
-use Rattle.rt_lines.specs.Header.{LinesOrFault, header_setup, past_line, then_past, past_header, with_setup, schema_line, table_line, cluster_line}
-use Rattle.rt_lines.specs.Lines.{ScriptLines, script_lines}
-use Rattle.rt_lines.specs.declared.line_reason.LineReason.TheVariants.{BadLine}
+use Rattle.rt_model.specs.declared.setup.Setup.{Setup}
+use Rattle.rt_lines.specs.Header.{header_of}
+use Rattle.rt_lines.proofs.HeaderLimits.{header_other}
+use Rattle.rt_lines.specs.Lines.{script_lines}
 use Rattle.rt_lines.specs.declared.play_fault.PlayFault.{PlayFault}
 use Rattle.rt_lines.specs.declared.play_fault.PlayFault.TheVariants as fault
 use Rattle.rt_world.specs.Due.{Due, due_of, room_for, events_limit, message_limit, is_of, is_consuming}
@@ -87,42 +88,16 @@ lines_never : (lines : List (ℕ × List ℕ)) (w : State) → IsInputStop (repo
 lines_never [] w e = cc
 lines_never (line ∷ lines) w e = line_never line.0 (event_of w.setup.table.name line.1) w (report_from lines) (lines_never lines) e
 
-abbrev IsInputFault : LinesOrFault → Type 0
-IsInputFault past = past ≡ Err (fault.Limit Input)
+abbrev Passed : Type 0
+Passed = Setup × List (ℕ × List ℕ)
 
-past_by : (test : Bool) (x y : LinesOrFault) → (IsInputFault x → ⊥) → (IsInputFault y → ⊥) → IsInputFault (if test then x else y) → ⊥
-past_by true x y first second = first
-past_by false x y first second = second
-
-lines_pass : (lines : List (ℕ × List ℕ)) → IsInputFault (Ok lines) → ⊥
-lines_pass lines e = cc
-
-bad_line : (number : ℕ) → IsInputFault (Err (fault.Refused number BadLine)) → ⊥
-bad_line number e = cc
-
-past_never : (wanted : List ℕ) (last : ℕ) (lines : List (ℕ × List ℕ)) → IsInputFault (past_line wanted last lines) → ⊥
-past_never wanted last [] = bad_line last
-past_never wanted last (line ∷ lines) = past_by (bytes_eq line.1 wanted) (Ok lines) (Err (fault.Refused line.0 BadLine)) (lines_pass lines) (bad_line line.0)
-
-then_never : (past : LinesOrFault) (more : List (ℕ × List ℕ) → LinesOrFault) → (IsInputFault past → ⊥) → ((lines : List (ℕ × List ℕ)) → IsInputFault (more lines) → ⊥) → IsInputFault (then_past past more) → ⊥
-then_never (Ok lines) more first later = later lines
-then_never (Err f) more first later = first
-
-header_never : (script : ScriptLines) → IsInputFault (past_header script) → ⊥
-header_never script =
-    then_never (past_line schema_line script.after script.lines) _ (past_never schema_line script.after script.lines)
-    (λ lines. then_never (past_line table_line script.after lines) (past_line cluster_line script.after) (past_never table_line script.after lines) (past_never cluster_line script.after))
-
-abbrev refused_past : PlayFault → LinesOrFault
-refused_past f = Err f
-
-same_fault : (a b : PlayFault) → IsStop a b → refused_past a ≡ refused_past b
+same_fault : (a b : PlayFault) → IsStop a b → a ≡ b
 same_fault a b e = cc
 
-behind_never : (past : LinesOrFault) → (IsInputFault past → ⊥) → IsInputStop (report_behind (with_setup past)).stop → ⊥
-behind_never (Ok lines) never e = lines_never lines (start header_setup) e
+behind_never : (header : Result Passed PlayFault) → IfErr header (λ f. f ≡ fault.Limit Input → ⊥) → IsInputStop (report_behind header).stop → ⊥
+behind_never (Ok x) never e = lines_never x.1 (start x.0) e
 behind_never (Err f) never e = never (same_fault f (fault.Limit Input) e)
 
 -- no report stops at the limit of the input
 pub report_never : (input : List ℕ) → IsInputStop (report_of input).stop → ⊥
-report_never input = behind_never (past_header (script_lines input)) (header_never (script_lines input))
+report_never input = behind_never (header_of (script_lines input)) (header_other (script_lines input))

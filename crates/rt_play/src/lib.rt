@@ -5,9 +5,7 @@
 #![tactic(auto)]
 
 mod line;
-mod numeral;
 mod outcome_line;
-mod parts;
 mod play_end;
 mod player;
 mod reading;

@@ -1,4 +1,5 @@
 ghost use Rattle.std.specs.Prelude.{◌≡◌, IfOk};
+ghost use Rattle.rt_lines.specs.Words.{number_of};
 ghost use Rattle.rt_play.specs.Line.{
   batch_of,
   consume_of,
@@ -6,16 +7,14 @@ ghost use Rattle.rt_play.specs.Line.{
   index_of,
   is_count,
   is_table,
-  number_of,
   produce_of,
   query_of,
   segment_of,
   server_of,
 };
 
-use crate::numeral::number_up_to;
-use crate::parts::{after_prefix, part_at};
 use rt_base::{Instance, Partition, Sequence};
+use rt_lines::{after_prefix, number_up_to, part_at};
 use rt_lists::{Bytes, Text};
 use rt_world::Event;
 use std::alloc::{AllocError, Global};

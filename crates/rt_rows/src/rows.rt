@@ -4,7 +4,7 @@ use rt_play::{PlayEnd, play};
 use std::alloc::{AllocError, Global};
 use std::test::Fail;
 
-/// The header that is taken so far.
+/// A header of one text column and one number.
 const HEADER: &str =
     "schema {\"schemaName\":\"t\",\"dimensionFieldSpecs\":[{\"name\":\"k\",\"dataType\":\"STRING\"}],\"metricFieldSpecs\":[{\"name\":\"v\",\"dataType\":\"LONG\"}]}\ntable {\"tableName\":\"t\",\"tableType\":\"REALTIME\",\"segmentsConfig\":{\"replication\":\"1\"},\"tableIndexConfig\":{\"invertedIndexColumns\":[\"k\"],\"streamConfigs\":{\"realtime.segment.flush.threshold.rows\":\"100\",\"realtime.segment.flush.threshold.time\":\"1h\"}}}\ncluster servers=1 controllers=1 partitions=1 start=1700000000000 grace=0\n";
 

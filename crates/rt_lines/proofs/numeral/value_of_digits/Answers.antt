@@ -1,6 +1,6 @@
-use Rattle.std.proofs.Common.{◌≡◌, ◌+◌, ◌*◌, ◌^◌, ◌<◌, length, arith}
-use Rattle.rt_play.proofs.Digits.{tens_overflow, more_overflow, digit_at}
-use Rattle.rt_play.proofs.numeral.value_of_digits.Goals as goal
+use Rattle.std.proofs.Common.{◌<◌, length, arith}
+use Rattle.rt_lines.proofs.Digits.{tens_overflow, more_overflow, digit_at}
+use Rattle.rt_lines.proofs.numeral.value_of_digits.Goals as goal
 
 pub returns-in-None-checked_add-clause-none : goal.returns-in-None-checked_add-clause-none
 returns-in-None-checked_add-clause-none c =

@@ -2,10 +2,10 @@ ghost use Rattle.std.specs.Prelude.{◌≡◌, ◌<◌, true, IfSome, IfNone};
 ghost use Rattle.std.specs.Char.{is_ascii_digit};
 ghost use Rattle.std.specs.List.{list_all};
 ghost use Rattle.std.specs.Str.Parse.{digits_value};
-ghost use Rattle.rt_play.specs.Line.{is_numeral, number_up_to};
+ghost use Rattle.rt_lines.specs.Words.{is_numeral, number_up_to};
 
 /// The number that a word writes, at most this one: decimal digits without sign or leading zeros.
-pub(crate) fn number_up_to(most: u64, word: &[u8]) -> Option<u64>
+pub fn number_up_to(most: u64, word: &[u8]) -> Option<u64>
     ensures { result ≡ number_up_to most word.now }
 {
     if !is_numeral(word) {
@@ -18,7 +18,7 @@ pub(crate) fn number_up_to(most: u64, word: &[u8]) -> Option<u64>
 }
 
 /// Whether a word is decimal digits without leading zeros.
-pub(crate) fn is_numeral(word: &[u8]) -> bool
+pub fn is_numeral(word: &[u8]) -> bool
     ensures { result ≡ is_numeral word.now }
 {
     match word {

@@ -1,8 +1,8 @@
 ghost use Rattle.std.specs.Prelude.{◌≡◌, ◌≤◌, Some, None, IfSome, IfNone, length};
-ghost use Rattle.rt_play.specs.Line.{after_prefix, parted_at, place_in};
+ghost use Rattle.rt_lines.specs.Words.{after_prefix, parted_at, place_in};
 
 /// A text without the prefix that it begins with.
-pub(crate) fn after_prefix<'a>(text: &'a [u8], prefix: &[u8]) -> Option<&'a [u8]>
+pub fn after_prefix<'a>(text: &'a [u8], prefix: &[u8]) -> Option<&'a [u8]>
     ensures some { IfSome result (λ rest. after_prefix prefix.now text.now ≡ Some rest.now) }
     ensures none { IfNone result (after_prefix prefix.now text.now ≡ None) }
 {
@@ -14,7 +14,7 @@ pub(crate) fn after_prefix<'a>(text: &'a [u8], prefix: &[u8]) -> Option<&'a [u8]
 }
 
 /// What stands before the first of these bytes, and what behind it.
-pub(crate) fn part_at(text: &[u8], byte: u8) -> Option<(&[u8], &[u8])>
+pub fn part_at(text: &[u8], byte: u8) -> Option<(&[u8], &[u8])>
     ensures some { IfSome result (λ parts. parted_at byte text.now ≡ Some (parts.0.now, parts.1.now)) }
     ensures none { IfNone result (parted_at byte text.now ≡ None) }
 {

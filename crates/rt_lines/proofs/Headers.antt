@@ -1,0 +1,195 @@
+use Rattle.std.proofs.Common.{◌≡◌, ℕ, Bool, true, false, List, [], ◌∷◌, Option, Some, None, Result, Ok, Err, refl, ap, sym, ◌∙◌, subst, arith, eqb, eqb-true}
+use Rattle.std.specs.Prelude.{IfOk, cond, codes, ◌&&◌}
+use Rattle.std.specs.Str.{IsUtf8, is_utf8}
+use Rattle.std.proofs.lemmas.Str.{IsUtf8-from_is_utf8, is_utf8-from_IsUtf8}
+use Rattle.rt_base.specs.declared.which.Which.{Which}
+use Rattle.rt_schema.specs.declared.schema.Schema.{Schema}
+use Rattle.rt_schema.specs.declared.table.Table.{Table}
+use Rattle.rt_schema.specs.declared.schema_refused.SchemaRefused.{SchemaRefused}
+use Rattle.rt_schema.specs.declared.schema_refused.SchemaRefused.TheVariants as refused
+use Rattle.rt_schema.specs.Schema.{IsSchema}
+use Rattle.rt_schema.specs.SchemaText.{schema_of, Answers}
+use Rattle.rt_schema.specs.TableText.{table_of, IsTable}
+use Rattle.rt_schema.proofs.Schemas.{answered_is_schema}
+use Rattle.rt_schema.proofs.Tables.{answered_is_table}
+use Rattle.rt_model.specs.declared.setup.Setup.{Setup}
+use Rattle.rt_lines.specs.declared.cluster.Cluster.{Cluster}
+use Rattle.rt_lines.specs.declared.line_reason.LineReason.{LineReason}
+use Rattle.rt_lines.specs.declared.line_reason.LineReason.TheVariants.{BadLine, Schema as BadSchema, Table as BadTable}
+use Rattle.rt_lines.specs.declared.play_fault.PlayFault.{PlayFault}
+use Rattle.rt_lines.specs.declared.play_fault.PlayFault.TheVariants.{Usage, Refused, ReadFault, WriteFault, Memory, Limit}
+use Rattle.rt_lines.specs.Cluster.{cluster_of, cluster_fault}
+use Rattle.rt_lines.specs.Lines.{ScriptLines}
+use Rattle.rt_lines.specs.Words.{then_some, after_prefix}
+use Rattle.rt_lines.specs.Header.{NumberedLine, then_ok, if_taken, text_behind, if_well_formed, schema_at, table_at, setup_of, setup_with, setup_at, with_rest, next_line, header_of, Says, Reads, ReadsHeader, IsTaken}
+
+-- a text in UTF-8, or not
+pub is_text : (word line text : List ℕ) → after_prefix word line ≡ Some text → IsUtf8 text → text_behind word line ≡ Some text
+is_text word line text e utf8 = ap (λ o. then_some o (λ t. cond (is_utf8 t) (Some t) None)) e ∙ ap (λ b. cond b (Some text) None) (is_utf8-from_IsUtf8 text utf8)
+
+no_text_at : (text : List ℕ) (b : Bool) → is_utf8 text ≡ b → (IsUtf8 text → ⊥) → cond b (Some text) None ≡ None
+no_text_at text true e bad = absurd (bad (IsUtf8-from_is_utf8 text e))
+no_text_at text false e bad = refl
+
+pub is_no_text : (word line text : List ℕ) → after_prefix word line ≡ Some text → (IsUtf8 text → ⊥) → text_behind word line ≡ None
+is_no_text word line text e bad = ap (λ o. then_some o (λ t. cond (is_utf8 t) (Some t) None)) e ∙ no_text_at text (is_utf8 text) refl bad
+
+-- what a text's reader answers, its line says
+answered_says : {A : Type 0} (reason : ℕ → LineReason) (number : ℕ) (wanted result : Result A SchemaRefused) → Answers wanted result → Says (if_taken reason number wanted) (if_taken reason number result)
+answered_says reason number wanted (Ok x) a = ap (if_taken reason number) (sym a)
+answered_says reason number wanted (Err refused.NotJson) a = ap (if_taken reason number) (sym a)
+answered_says reason number wanted (Err refused.MissingField) a = ap (if_taken reason number) (sym a)
+answered_says reason number wanted (Err refused.UnknownType) a = ap (if_taken reason number) (sym a)
+answered_says reason number wanted (Err refused.DuplicateColumn) a = ap (if_taken reason number) (sym a)
+answered_says reason number wanted (Err refused.Limit) a = ap (if_taken reason number) (sym a)
+answered_says reason number wanted (Err refused.Memory) a = tt
+
+pub schema_says : (number : ℕ) (line text : List ℕ) (result : Result Schema SchemaRefused) → text_behind (codes "schema ") line ≡ Some text → Answers (schema_of text) result →
+    Says (schema_at (number, line)) (if_taken BadSchema number result)
+schema_says number line text result e a =
+    subst (λ w. Says w (if_taken BadSchema number result)) (sym (ap (λ o. if_well_formed number o (λ t. if_taken BadSchema number (schema_of t))) e))
+    (answered_says BadSchema number (schema_of text) result a)
+
+pub table_says : (schema : Schema) (number : ℕ) (line text : List ℕ) (result : Result Table SchemaRefused) → text_behind (codes "table ") line ≡ Some text → Answers (table_of schema text) result →
+    Says (table_at schema (number, line)) (if_taken BadTable number result)
+table_says schema number line text result e a =
+    subst (λ w. Says w (if_taken BadTable number result)) (sym (ap (λ o. if_well_formed number o (λ t. if_taken BadTable number (table_of schema t))) e))
+    (answered_says BadTable number (table_of schema text) result a)
+
+-- a line that was read says what the next line is to say
+pub line_reads : {A : Type 0} (says : NumberedLine → Result A PlayFault) (old new : ScriptLines) (line : NumberedLine) (result : Result A PlayFault) → old.lines ≡ line ∷ new.lines → new.after ≡ old.after →
+    Says (says line) result → Reads (next_line says old.after old.lines) old new result
+line_reads says old new line (Ok x) e after h = (ap (next_line says old.after) e ∙ ap (with_rest new.lines) h, after)
+line_reads says old new line (Err (Refused number reason)) e after h = ap (next_line says old.after) e ∙ ap (with_rest new.lines) h
+line_reads says old new line (Err (Limit which)) e after h = ap (next_line says old.after) e ∙ ap (with_rest new.lines) h
+line_reads says old new line (Err Memory) e after h = tt
+line_reads says old new line (Err Usage) e after h = h
+line_reads says old new line (Err ReadFault) e after h = h
+line_reads says old new line (Err WriteFault) e after h = h
+
+-- one reading behind another
+reads_ok : {A B : Type 0} (wanted : Result (A × List NumberedLine) PlayFault) (f : A × List NumberedLine → Result (B × List NumberedLine) PlayFault) (old mid new : ScriptLines) (x : A) (result : Result B PlayFault) →
+    Reads wanted old mid (Ok x) → Reads (f (x, mid.lines)) mid new result → Reads (then_ok wanted f) old new result
+reads_ok wanted f old mid new x (Ok y) h k = (ap (λ w. then_ok w f) h.0 ∙ k.0, k.1 ∙ h.1)
+reads_ok wanted f old mid new x (Err (Refused number reason)) h k = ap (λ w. then_ok w f) h.0 ∙ k
+reads_ok wanted f old mid new x (Err (Limit which)) h k = ap (λ w. then_ok w f) h.0 ∙ k
+reads_ok wanted f old mid new x (Err Memory) h k = tt
+reads_ok wanted f old mid new x (Err Usage) h k = k
+reads_ok wanted f old mid new x (Err ReadFault) h k = k
+reads_ok wanted f old mid new x (Err WriteFault) h k = k
+
+reads_err : {A B : Type 0} (wanted : Result (A × List NumberedLine) PlayFault) (f : A × List NumberedLine → Result (B × List NumberedLine) PlayFault) (old mid new : ScriptLines) (fault : PlayFault) →
+    Reads wanted old mid (Err fault) → Reads (then_ok wanted f) old new (Err fault)
+reads_err wanted f old mid new (Refused number reason) h = ap (λ w. then_ok w f) h
+reads_err wanted f old mid new (Limit which) h = ap (λ w. then_ok w f) h
+reads_err wanted f old mid new Memory h = tt
+reads_err wanted f old mid new Usage h = h
+reads_err wanted f old mid new ReadFault h = h
+reads_err wanted f old mid new WriteFault h = h
+
+abbrev SetupAndRest : Type 0
+SetupAndRest = Result (Setup × List NumberedLine) PlayFault
+
+-- what stands behind the schema line, and behind the table line
+abbrev behind_table : Schema → ℕ → Table × List NumberedLine → SetupAndRest
+behind_table schema after table = next_line (setup_at schema table.0) after table.1
+
+abbrev behind_schema : ℕ → Schema × List NumberedLine → SetupAndRest
+behind_schema after schema = then_ok (next_line (table_at schema.0) after schema.1) (behind_table schema.0 after)
+
+pub header_reads : (old first second new : ScriptLines) (schema : Schema) (table : Table) (result : Result Setup PlayFault) →
+    Reads (next_line schema_at old.after old.lines) old first (Ok schema) → Reads (next_line (table_at schema) first.after first.lines) first second (Ok table) →
+    Reads (next_line (setup_at schema table) second.after second.lines) second new result → ReadsHeader old new result
+header_reads old first second new schema table result a b c =
+    reads_ok (next_line schema_at old.after old.lines) (behind_schema old.after) old first new schema result a
+    (subst (λ n. Reads (behind_schema n (schema, first.lines)) first new result) a.1
+    (reads_ok (next_line (table_at schema) first.after first.lines) (behind_table schema first.after) first second new table result b
+    (subst (λ n. Reads (behind_table schema n (table, second.lines)) second new result) b.1 c)))
+
+pub schema_stops : (old first new : ScriptLines) (fault : PlayFault) → Reads (next_line schema_at old.after old.lines) old first (Err fault) → ReadsHeader old new (Err fault)
+schema_stops old first new fault a = reads_err (next_line schema_at old.after old.lines) (behind_schema old.after) old first new fault a
+
+pub table_stops : (old first second new : ScriptLines) (schema : Schema) (fault : PlayFault) →
+    Reads (next_line schema_at old.after old.lines) old first (Ok schema) → Reads (next_line (table_at schema) first.after first.lines) first second (Err fault) → ReadsHeader old new (Err fault)
+table_stops old first second new schema fault a b =
+    reads_ok (next_line schema_at old.after old.lines) (behind_schema old.after) old first new schema (Err fault) a
+    (subst (λ n. Reads (behind_schema n (schema, first.lines)) first new (Err fault)) a.1
+    (reads_err (next_line (table_at schema) first.after first.lines) (behind_table schema first.after) first second new fault b))
+
+-- what a header that is taken has
+answers_itself : {A : Type 0} (wanted : Result A SchemaRefused) → Answers wanted wanted
+answers_itself (Ok x) = refl
+answers_itself (Err refused.NotJson) = refl
+answers_itself (Err refused.MissingField) = refl
+answers_itself (Err refused.UnknownType) = refl
+answers_itself (Err refused.DuplicateColumn) = refl
+answers_itself (Err refused.Limit) = refl
+answers_itself (Err refused.Memory) = tt
+
+if_taken_has : {A : Type 0} (P : A → Type 0) (reason : ℕ → LineReason) (line : ℕ) (r : Result A SchemaRefused) → IfOk r P → IfOk (if_taken reason line r) P
+if_taken_has P reason line (Ok x) h = h
+if_taken_has P reason line (Err why) h = tt
+
+well_formed_has : {A B : Type 0} (P : B → Type 0) (line : ℕ) (o : Option A) (f : A → Result B PlayFault) → ((x : A) → IfOk (f x) P) → IfOk (if_well_formed line o f) P
+well_formed_has P line None f h = tt
+well_formed_has P line (Some x) f h = h x
+
+rest_has : {A : Type 0} (P : A → Type 0) (lines : List NumberedLine) (r : Result A PlayFault) → IfOk r P → IfOk (with_rest lines r) (λ x. P x.0)
+rest_has P lines (Ok x) h = h
+rest_has P lines (Err fault) h = tt
+
+next_has : {A : Type 0} (P : A → Type 0) (says : NumberedLine → Result A PlayFault) (after : ℕ) (lines : List NumberedLine) → ((line : NumberedLine) → IfOk (says line) P) → IfOk (next_line says after lines) (λ x. P x.0)
+next_has P says after [] h = tt
+next_has P says after (line ∷ lines) h = rest_has P lines (says line) (h line)
+
+then_has : {A B : Type 0} (P : B → Type 0) (Q : A → Type 0) (r : Result A PlayFault) (f : A → Result B PlayFault) → IfOk r Q → ((x : A) → Q x → IfOk (f x) P) → IfOk (then_ok r f) P
+then_has P Q (Ok x) f h k = k x h
+then_has P Q (Err fault) f h k = tt
+
+schema_has : (line : NumberedLine) → IfOk (schema_at line) IsSchema
+schema_has line =
+    well_formed_has IsSchema line.0 (text_behind (codes "schema ") line.1) (λ text. if_taken BadSchema line.0 (schema_of text))
+    (λ text. if_taken_has IsSchema BadSchema line.0 (schema_of text) (answered_is_schema text (schema_of text) (answers_itself (schema_of text))))
+
+table_has : (schema : Schema) (line : NumberedLine) → IfOk (table_at schema line) IsTable
+table_has schema line =
+    well_formed_has IsTable line.0 (text_behind (codes "table ") line.1) (λ text. if_taken BadTable line.0 (table_of schema text))
+    (λ text. if_taken_has IsTable BadTable line.0 (table_of schema text) (answered_is_table schema text (table_of schema text) (answers_itself (table_of schema text))))
+
+single_at : (schema : Schema) (table : Table) (line : ℕ) (c : Cluster) (s k p r : Bool) → eqb c.servers 1 ≡ s → eqb c.controllers 1 ≡ k → eqb c.partitions 1 ≡ p → eqb table.replication 1 ≡ r →
+    IsSchema schema → IsTable table → IfOk (cond (((s && k) && p) && r) (Ok (setup_of schema table c)) (Err (Refused line BadLine))) IsTaken
+single_at schema table line c true true true true s k p r is has = record {
+  servers = eqb-true c.servers 1 s;
+  controllers = eqb-true c.controllers 1 k;
+  partitions = eqb-true c.partitions 1 p;
+  replication = eqb-true table.replication 1 r;
+  rows = omega (arith, has.rows.0);
+  schema = is;
+}
+single_at schema table line c true true true false s k p r is has = tt
+single_at schema table line c true true false r' s k p r is has = tt
+single_at schema table line c true false p' r' s k p r is has = tt
+single_at schema table line c false k' p' r' s k p r is has = tt
+
+with_has : (schema : Schema) (table : Table) (line : ℕ) (c : Cluster) (o : Option Which) → IsSchema schema → IsTable table → IfOk (setup_with schema table line c o) IsTaken
+with_has schema table line c (Some which) is has = tt
+with_has schema table line c None is has = single_at schema table line c _ _ _ _ refl refl refl refl is has
+
+setup_has : (schema : Schema) (table : Table) → IsSchema schema → IsTable table → (line : NumberedLine) → IfOk (setup_at schema table line) IsTaken
+setup_has schema table is has line =
+    well_formed_has IsTaken line.0 (cluster_of line.1) (λ c. setup_with schema table line.0 c (cluster_fault c table.replication))
+    (λ c. with_has schema table line.0 c (cluster_fault c table.replication) is has)
+
+header_has : (script : ScriptLines) → IfOk (header_of script) (λ x. IsTaken x.0)
+header_has script =
+    then_has (λ x. IsTaken x.0) (λ x. IsSchema x.0) (next_line schema_at script.after script.lines) (behind_schema script.after) (next_has IsSchema schema_at script.after script.lines schema_has)
+    (λ schema is. then_has (λ x. IsTaken x.0) (λ x. IsTable x.0) (next_line (table_at schema.0) script.after schema.1) (behind_table schema.0 script.after) (next_has IsTable (table_at schema.0) script.after schema.1 (table_has schema.0))
+    (λ table has. next_has IsTaken (setup_at schema.0 table.0) script.after table.1 (setup_has schema.0 table.0 is has)))
+
+-- a setup that a header says is one that is taken
+pub header_taken : (script : ScriptLines) (setup : Setup) (lines : List NumberedLine) → header_of script ≡ Ok (setup, lines) → IsTaken setup
+header_taken script setup lines e = subst (λ r. IfOk r (λ x. IsTaken x.0)) e (header_has script)
+
+pub reads_taken : (old new : ScriptLines) (result : Result Setup PlayFault) → ReadsHeader old new result → IfOk result IsTaken
+reads_taken old new (Ok setup) h = header_taken old setup new.lines h.0
+reads_taken old new (Err fault) h = tt
