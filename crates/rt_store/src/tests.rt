@@ -92,3 +92,81 @@ fn a_kept_fault_writes_first(rt: HostRuntime) -> Result<(), Fail> {
     assert_eq!(rt; store.bump(alloc, Instance(0)), Ok(2));
     Ok(())
 }
+
+#[test]
+fn a_fault_at_a_create(rt: HostRuntime) -> Result<(), Fail> {
+    let alloc = rt.alloc();
+    let mut lost = faulty(alloc, false)?;
+    assert_eq!(rt;
+        lost.create(alloc, Key::Boot(Instance(7)), &Node::Boot),
+        Err(StoreRefused::Failed)
+    );
+    assert_eq!(rt; lost.history().len(), 6);
+    let mut kept = faulty(alloc, true)?;
+    assert_eq!(rt;
+        kept.create(alloc, Key::Boot(Instance(7)), &Node::Boot),
+        Err(StoreRefused::Failed)
+    );
+    assert_eq!(rt; kept.history().len(), 7);
+    Ok(())
+}
+
+#[test]
+fn a_fault_at_a_set(rt: HostRuntime) -> Result<(), Fail> {
+    let alloc = rt.alloc();
+    let first = fresh(alloc)?.read(alloc, FIRST)?;
+    let mut lost = faulty(alloc, false)?;
+    assert_eq!(rt;
+        lost.compare_and_set(alloc, &first, &first.node),
+        Err(StoreRefused::Failed)
+    );
+    assert_eq!(rt; lost.history().len(), 6);
+    let mut kept = faulty(alloc, true)?;
+    assert_eq!(rt;
+        kept.compare_and_set(alloc, &first, &first.node),
+        Err(StoreRefused::Failed)
+    );
+    assert_eq!(rt; kept.history().len(), 7);
+    Ok(())
+}
+
+#[test]
+fn a_fault_at_a_deletion(rt: HostRuntime) -> Result<(), Fail> {
+    let alloc = rt.alloc();
+    let first = fresh(alloc)?.read(alloc, FIRST)?;
+    let mut lost = faulty(alloc, false)?;
+    assert_eq!(rt; lost.delete(alloc, &first), Err(StoreRefused::Failed));
+    assert_eq!(rt; lost.history().len(), 6);
+    let mut kept = faulty(alloc, true)?;
+    assert_eq!(rt; kept.delete(alloc, &first), Err(StoreRefused::Failed));
+    assert_eq!(rt; kept.delete(alloc, &first), Err(StoreRefused::NoNode));
+    Ok(())
+}
+
+#[test]
+fn a_deleted_node_is_created_at_its_next_version(rt: HostRuntime) -> Result<(), Fail> {
+    let alloc = rt.alloc();
+    let mut store = fresh(alloc)?;
+    let first = store.read(alloc, FIRST)?;
+    assert_eq!(rt; store.delete(alloc, &first), Ok(()));
+    assert_eq!(rt; store.list(alloc, Partition(0))?.len(), 0);
+    assert_eq!(rt; store.create(alloc, FIRST, &first.node), Ok(()));
+    assert_eq!(rt; store.read(alloc, FIRST)?.version, 2);
+    Ok(())
+}
+
+#[test]
+fn a_node_is_created_after_another(rt: HostRuntime) -> Result<(), Fail> {
+    let alloc = rt.alloc();
+    let next = Key::Meta(Partition(0), Sequence(1));
+    let mut store = fresh(alloc)?;
+    let first = store.read(alloc, FIRST)?;
+    assert_eq!(rt;
+        store.create_after(alloc, next, &first.node, &first),
+        Ok(())
+    );
+    assert_eq!(rt; store.list(alloc, Partition(0))?.len(), 2);
+    let taken = store.create_after(alloc, next, &first.node, &first);
+    assert_eq!(rt; taken, Err(StoreRefused::Exists { found: 0 }));
+    Ok(())
+}
