@@ -3,10 +3,10 @@ ghost use Rattle.serde_json.specs.Data.{object};
 ghost use Rattle.rt_schema.specs.Schema.{names_of, are_distinct, IsSchema};
 ghost use Rattle.serde_json.specs.Find.{as_str};
 ghost use Rattle.serde_json.specs.View.{view, members_view};
-ghost use Rattle.rt_schema.specs.Value.{missing_of, in_32_bits, value_of, cell_of};
+ghost use Rattle.rt_schema.specs.Value.{in_32_bits, value_of, cell_of};
 ghost use Rattle.rt_schema.specs.Row.{row_in, row_of, IsRowOf};
 
-use crate::{Column, Kind, Role, Row, Schema, Value};
+use crate::{Column, Kind, Row, Schema, Value};
 use rt_lists::{Items, Text};
 use serde_json::{Map, Value as Json};
 use std::alloc::{AllocError, Global};
@@ -62,22 +62,8 @@ fn cell(alloc: Global, column: &Column, found: Option<Json>) -> Result<Option<Va
     ensures { IfOk result (λ value. value ≡ cell_of column.now (option_map view found)) }
 {
     match found {
-        None | Some(Json::Null) => Ok(Some(missing(alloc, column.kind, column.role)?)),
+        None | Some(Json::Null) => Ok(Some(column.missing(alloc)?)),
         Some(json) => Ok(value(column.kind, json)),
-    }
-}
-
-fn missing(alloc: Global, kind: Kind, role: Role) -> Result<Value, AllocError>
-    ensures { IfOk result (λ value. value ≡ missing_of kind role) }
-{
-    match (kind, role) {
-        (Kind::Int, Role::Metric) => Ok(Value::Int(0)),
-        (Kind::Int, _) => Ok(Value::Int(i32::MIN)),
-        (Kind::Long, Role::Metric) => Ok(Value::Long(0)),
-        (Kind::Long, _) => Ok(Value::Long(i64::MIN)),
-        (Kind::Text, _) => Ok(Value::Text(Text::copied_from(alloc, "null")?)),
-        (Kind::Bool, _) => Ok(Value::Bool(false)),
-        (Kind::Time, _) => Ok(Value::Time(0)),
     }
 }
 
