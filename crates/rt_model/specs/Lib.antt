@@ -1,12 +1,16 @@
 pub mod Chain
 pub mod Completion
+pub mod Condition
 pub mod Entries
+pub mod Falls
 pub mod Finished
 pub mod History
 pub mod Ideal
 pub mod Lawful
 pub mod Laws
+pub mod Marks
 pub mod Metadata
 pub mod Starting
 pub mod Tests
 pub mod Tiled
+pub mod Tree

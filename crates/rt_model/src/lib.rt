@@ -11,6 +11,8 @@ mod machine_state;
 mod node;
 mod order;
 mod piece;
+mod predicate;
+mod query;
 mod query_parts;
 mod ranges;
 mod reading;
@@ -41,6 +43,8 @@ pub use machine_state::MachineState;
 pub use node::{Key, Listed, Node, Seen};
 pub use order::{deletions, is_in_order, sequences};
 pub use piece::Piece;
+pub use predicate::{Condition, Predicate};
+pub use query::Query;
 pub use query_parts::{Aggregate, ColumnAt, Comparison, Item, Literal, OrderKey};
 pub use ranges::tiled_to;
 pub use reading::{
