@@ -1,5 +1,4 @@
 -- What a condition means: its tree.
-use Rattle.std.specs.Prelude.{List, [], ◌∷◌}
 use Rattle.rt_model.specs.declared.predicate.Condition.{Condition}
 use Rattle.rt_model.specs.declared.predicate.Condition.TheVariants as condition
 use Rattle.rt_model.specs.Tree.{Tree, Compare, Between, OneOf, NoneOf, Not, And, Or, trees}

@@ -1,5 +1,5 @@
 -- Each part of a condition has fewer nodes than the condition.
-use Rattle.std.specs.Prelude.{ℕ, ◌+◌, ◌≤◌, max, List, [], ◌∷◌}
+use Rattle.std.specs.Prelude.{◌+◌, ◌≤◌, max, List, [], ◌∷◌}
 use Rattle.std.proofs.Common.{arith}
 use denote.Param.Weighed.{most}
 use Rattle.rt_model.specs.declared.predicate.Condition.{Condition}

@@ -1,4 +1,6 @@
+pub mod Aggregate
 pub mod Chain
+pub mod Checked
 pub mod Completion
 pub mod Condition
 pub mod Entries
@@ -9,8 +11,12 @@ pub mod Ideal
 pub mod Lawful
 pub mod Laws
 pub mod Marks
+pub mod Match
 pub mod Metadata
+pub mod Plan
+pub mod RightAnswer
 pub mod Starting
 pub mod Tests
 pub mod Tiled
 pub mod Tree
+pub mod Values

@@ -1,5 +1,5 @@
 -- What a predicate means: a tree of tests on the columns of a row.
-use Rattle.std.specs.Prelude.{◌≡◌, refl, ℕ, ◌+◌, ◌≤◌, List, [], ◌∷◌, ◌++◌}
+use Rattle.std.specs.Prelude.{ℕ, ◌+◌, List, [], ◌∷◌}
 use Rattle.rt_model.specs.declared.query_parts.ColumnAt.{ColumnAt}
 use Rattle.rt_model.specs.declared.query_parts.Comparison.{Comparison}
 use Rattle.rt_model.specs.declared.query_parts.Literal.{Literal}
