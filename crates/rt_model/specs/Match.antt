@@ -1,5 +1,5 @@
 -- Whether a row meets a predicate: truth by cases.
-use Rattle.std.specs.Prelude.{Bool, true, false, not, ◌&&◌, ◌||◌, List, [], ◌∷◌, Option, Some, None, slice_index_or}
+use Rattle.std.specs.Prelude.{Bool, true, false, not, ◌&&◌, ◌||◌, List, [], ◌∷◌, Option, Some, None, slice_get, slice_index_or}
 use Rattle.std.specs.declared.cmp.Ordering.{Ordering}
 use Rattle.std.specs.Ordering.{is_eq, is_ne, is_lt, is_le, is_gt, is_ge}
 use Rattle.rt_schema.specs.declared.row.Row.{Row}
@@ -40,12 +40,20 @@ abbrev pub is_one_of : Value → List Literal → Bool
 is_one_of v [] = false
 is_one_of v (l ∷ ls) = compares Equal v l || is_one_of v ls
 
+-- a row has a value at the column's place that passes a test
+abbrev pub meets : (Value → Bool) → Option Value → Bool
+meets test None = false
+meets test (Some v) = test v
+
+abbrev pub value_at : Row → ColumnAt → Option Value
+value_at row column = slice_get row.values column.place
+
 abbrev mutual
   pub matches : Tree → Row → Bool
-  matches (Compare column comparison l) row = compares comparison (value_in row column) l
-  matches (Between column low high) row = lies_between (value_in row column) low high
-  matches (OneOf column ls) row = is_one_of (value_in row column) ls
-  matches (NoneOf column ls) row = not (is_one_of (value_in row column) ls)
+  matches (Compare column comparison l) row = meets (λ v. compares comparison v l) (value_at row column)
+  matches (Between column low high) row = meets (λ v. lies_between v low high) (value_at row column)
+  matches (OneOf column ls) row = meets (λ v. is_one_of v ls) (value_at row column)
+  matches (NoneOf column ls) row = meets (λ v. not (is_one_of v ls)) (value_at row column)
   matches (Not t) row = not (matches t row)
   matches (And ts) row = matches_all ts row
   matches (Or ts) row = matches_any ts row
