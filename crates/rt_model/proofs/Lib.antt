@@ -3,12 +3,13 @@ pub mod Entries
 pub mod Histories
 pub mod Kept
 pub mod Lawful
+pub mod Leaving
 pub mod Lives
 pub mod Ordering
 pub mod Partitions
 pub mod Readings
-pub mod Leaving
 pub mod Starts
 pub mod Steps
 pub mod TilesTo
 pub mod Tilings
+pub mod Trees
