@@ -1,0 +1,126 @@
+-- What each call promises, by what a deep store means before it and after it.
+use Rattle.std.specs.Prelude.{◌≡◌, ℕ, ◌+◌, ◌<◌, ◌≤◌, List, [], ◌∷◌, drop, Bool, true, false, ◌⊎◌, Option, Some, None, Result, Ok, Err, ⊤}
+use Rattle.rt_deep.specs.declared.deep_put.DeepPut.{DeepPut}
+use Rattle.rt_deep.specs.declared.refused.DeepRefused.{DeepRefused}
+use Rattle.rt_deep.specs.declared.refused.DeepRefused.TheVariants.{Absent, OtherBytes, Failed, Memory}
+use Rattle.rt_deep.specs.Meaning.{Told, Meaning}
+use Rattle.rt_deep.specs.Files.{Grows, AreOnce}
+use Rattle.rt_deep.specs.Answers.{getting, putting, after_put}
+
+-- the fault that a call meets: none, one by which the call is lost, or one by which it is carried out and only
+-- its answer is lost
+pub data Fault : Type 0 where
+  Nothing : Fault
+  Lost : Fault
+  Kept : Fault
+
+abbrev pub fault_by : Option Bool → Fault
+fault_by None = Nothing
+fault_by (Some true) = Kept
+fault_by (Some false) = Lost
+
+-- the first planned fault, if there is one
+abbrev pub planned : List Bool → Option Bool
+planned [] = None
+planned (kept ∷ plan) = Some kept
+
+-- the fault that the next call meets
+abbrev pub fault_of : List Bool → Fault
+fault_of plan = fault_by (planned plan)
+
+-- what is told once the next call has met its fault
+abbrev pub met_by : Option Bool → Told → Told
+met_by None t = t
+met_by (Some kept) t = record t { plan = drop 1 t.plan; met = t.met + 1 }
+
+abbrev pub told_met : Told → Told
+told_met t = met_by (planned t.plan) t
+
+-- what is told after a call that left these files
+abbrev pub told_after : Told → List DeepPut → Told
+told_after t files = record (told_met t) { files = files }
+
+-- the call met this fault and left these files, as far as that is told
+abbrev pub Meets : Option Told → Option Told → Fault → List DeepPut → Type 0
+Meets None new fault files = new ≡ None
+Meets (Some t) new fault files = (fault ≡ fault_of t.plan) × (new ≡ Some (told_after t files))
+
+-- a fault raises the count, which never falls
+abbrev pub Counts : ℕ → ℕ → Fault → Type 0
+Counts before now Nothing = before ≤ now
+Counts before now Lost = before < now
+Counts before now Kept = before < now
+
+abbrev pub answer_under : {X : Type 0} → Fault → Result X DeepRefused → Result X DeepRefused
+answer_under Nothing answer = answer
+answer_under Lost answer = Err Failed
+answer_under Kept answer = Err Failed
+
+-- the files after a call that stands on `base`, and that would leave `after`
+abbrev pub files_under : Fault → List DeepPut → List DeepPut → List DeepPut
+files_under Nothing base after = after
+files_under Lost base after = base
+files_under Kept base after = after
+
+-- all files, where they are told
+abbrev pub AreAll : Option Told → List DeepPut → Type 0
+AreAll None base = ⊤
+AreAll (Some t) base = base ≡ t.files
+
+-- the files on which a call stands: they begin with what its caller has seen, they are all where these are told,
+-- and no path has two of them
+pub record Sees (old : Meaning) (base : List DeepPut) : Type 0 where
+  pub grows : Grows old.seen base
+  pub all : AreAll old.told base
+  pub once : AreOnce base
+
+-- a call that met a fault, or none, and that would give this answer and leave these files without it
+pub record Goes {X : Type 0} (old new : Meaning) (fault : Fault) (base after : List DeepPut) (answer result : Result X DeepRefused) : Type 0 where
+  pub meets : Meets old.told new.told fault new.seen
+  pub counts : Counts old.faults new.faults fault
+  pub answered : result ≡ answer_under fault answer
+  pub seen : new.seen ≡ files_under fault base after
+
+-- a call that ran out of memory: nothing is put, and no fault is met
+pub record Stays (old new : Meaning) (base : List DeepPut) : Type 0 where
+  pub told : new.told ≡ old.told
+  pub faults : new.faults ≡ old.faults
+  pub seen : new.seen ≡ base
+
+abbrev pub GoesBy : {X : Type 0} → Meaning → Meaning → Fault → List DeepPut → List DeepPut → Result X DeepRefused → Result X DeepRefused → Type 0
+GoesBy old new fault base after answer (Err Memory) = Stays old new base
+GoesBy old new fault base after answer (Err Absent) = Goes old new fault base after answer (Err Absent)
+GoesBy old new fault base after answer (Err (OtherBytes kept offered)) = Goes old new fault base after answer (Err (OtherBytes kept offered))
+GoesBy old new fault base after answer (Err Failed) = Goes old new fault base after answer (Err Failed)
+GoesBy old new fault base after answer (Ok x) = Goes old new fault base after answer (Ok x)
+
+-- a call: over the files on which it stands it gives this answer and leaves these files, but for a fault and for
+-- want of memory
+pub record Calls {X : Type 0} (old new : Meaning) (answer : List DeepPut → Result X DeepRefused) (after : List DeepPut → List DeepPut) (result : Result X DeepRefused) : Type 0 where
+  pub fault : Fault
+  pub base : List DeepPut
+  pub sees : Sees old base
+  pub goes : GoesBy old new fault base (after base) (answer base) result
+
+-- what a call answers over a deep store that tells everything, and what that tells after it
+abbrev pub answer_on : {X : Type 0} → Told → (List DeepPut → Result X DeepRefused) → Result X DeepRefused
+answer_on t answer = answer_under (fault_of t.plan) (answer t.files)
+
+abbrev pub told_on : Told → (List DeepPut → List DeepPut) → Told
+told_on t after = told_after t (files_under (fault_of t.plan) t.files (after t.files))
+
+-- the call has that one answer and leaves that, but that memory may run out, and then all is as before
+abbrev pub IsExact :
+    {X : Type 0} → Told → Told → (List DeepPut → Result X DeepRefused) → (List DeepPut → List DeepPut) → Result X DeepRefused → Type 0
+IsExact t new answer after result =
+    ((result ≡ Err Memory) × (new ≡ t)) ⊎ ((result ≡ answer_on t answer) × (new ≡ told_on t after))
+
+abbrev pub Gets : Meaning → Meaning → List ℕ → Result (List ℕ) DeepRefused → Type 0
+Gets old new path result = Calls old new (getting path) (λ base. base) result
+
+-- a put by the file that it offers
+abbrev pub PutsFile : Meaning → Meaning → DeepPut → Result (Unit {0}) DeepRefused → Type 0
+PutsFile old new put result = Calls old new (putting put) (after_put put) result
+
+abbrev pub Puts : Meaning → Meaning → List ℕ → List ℕ → Result (Unit {0}) DeepRefused → Type 0
+Puts old new path bytes result = PutsFile old new (record { path = path; bytes = bytes }) result
