@@ -1,18 +1,6 @@
-ghost use Rattle.std.specs.Prelude.{
-  ◌≡◌,
-  ◌++◌,
-  ◌∷◌,
-  [],
-  Some,
-  None,
-  OnOk,
-  OnErr,
-  IfOk,
-  option_copied,
-  string_bytes,
-};
+ghost use Rattle.std.specs.Prelude.{◌≡◌, ◌++◌, ◌∷◌, [], None, OnOk, OnErr, option_copied, string_bytes};
 ghost use Rattle.rt_deep.specs.Files.{file_of, AreOnce};
-ghost use Rattle.rt_deep.specs.Answers.{compared, compared_in, found_in};
+ghost use Rattle.rt_deep.specs.Answers.{compared, compared_in};
 ghost use Rattle.rt_deep.specs.Calls.{planned, told_met, fault_of, answer_under, Puts, Gets};
 ghost use Rattle.rt_deep.specs.Index.{IsPlaceIn};
 ghost use Rattle.rt_deep.specs.Memory.{means, with_file, PutsNew};
