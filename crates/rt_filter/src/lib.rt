@@ -7,4 +7,4 @@ mod matching;
 
 pub use checking::check;
 pub use filter_refused::FilterRefused;
-pub use matching::{compares, is_one_of, lies_between, matches};
+pub use matching::{compares, is_one_of, lies_between, matches, passes};

@@ -5,6 +5,7 @@ ghost use Rattle.rt_model.specs.Match.{
   is_one_of,
   lies_between,
   matches,
+  passes,
   value_at,
 };
 ghost use Rattle.rt_model.specs.Values.{against};
@@ -53,6 +54,16 @@ pub fn matches(predicate: &Predicate, row: &Row) -> bool
             }
             false
         }
+    }
+}
+
+/// Whether a row meets a query's filter. Every row meets one that is absent.
+pub fn passes(filter: &Option<Predicate>, row: &Row) -> bool
+    ensures { result ≡ passes filter.now row.now }
+{
+    match filter {
+        Some(predicate) => matches(predicate, row),
+        None => true,
     }
 }
 
