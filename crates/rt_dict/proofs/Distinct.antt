@@ -10,7 +10,7 @@ use Rattle.std.proofs.lemmas.List.Quantifiers.{all_pairs_push}
 use Rattle.std.proofs.lemmas.List.Sorted.{sorted_far, Contains-permutation, IsPermutation-sym}
 use Rattle.std.proofs.lemmas.Option.{slice_get-get_or, slice_get_within, get_or_from_slice_get, none-some}
 use Rattle.rt_dict.specs.Order.{IsStrictOrder}
-use Rattle.rt_dict.specs.Values.{AreDistinctValues, is_past, is_past_last}
+use Rattle.rt_dict.specs.Values.{IsAscending, AreDistinctValues, is_past, is_past_last}
 use Rattle.rt_dict.proofs.Ascending.{below_one_way}
 
 module _ {K : Type 0} {below : K → K → Bool} (order : IsStrictOrder below) where
@@ -110,3 +110,7 @@ distinct_from_permutation below xs ys distinct moved kept = record {
   each_stands = λ x at. kept.each_stands x (Contains-permutation xs ys x moved at);
   none_else = λ x at. Contains-permutation ys xs x (IsPermutation-sym xs ys moved) (kept.none_else x at);
 }
+
+-- an ascending list with a value past its last one
+pub ascending_push : {K : Type 0} {below : K → K → Bool} (order : IsStrictOrder below) (values : List K) (x : K) → IsAscending below values → is_past_last below values x ≡ true → IsAscending below (values ++ x ∷ [])
+ascending_push order values x up past = (distinct_past order values values x (record { ascending = up; each_stands = λ z at. at; none_else = λ z at. at }) past).ascending

@@ -1,4 +1,4 @@
-ghost use Rattle.std.specs.Prelude.{◌≡◌, ℕ, ◌+◌, ◌^◌, ◌<◌, ◌≤◌, ◌↔◌, true, false, not, length, IfOk, IsTrue, slice_get, map};
+ghost use Rattle.std.specs.Prelude.{◌≡◌, ℕ, ◌+◌, ◌^◌, ◌<◌, ◌≤◌, ◌↔◌, true, false, not, [], ◌∷◌, ◌++◌, length, IfOk, OnErr, IsTrue, if◌then◌else◌, slice_get, map};
 ghost use Rattle.std.specs.Ordering.{is_lt};
 ghost use Rattle.std.specs.List.Sorted.{IsPartitionPoint, IsPermutation, IsSortedBy};
 ghost use Rattle.rt_dict.specs.Values.{IsAscending, AreDistinctValues, is_past_last};
@@ -37,6 +37,31 @@ impl<K: Key> Dict<K> {
         sort(keys.as_mut_slice());
         let values = distinct_of(alloc, &keys)?;
         Ok(Dict { values })
+    }
+
+    /// The dictionary of no value. It takes no memory yet.
+    pub fn empty(alloc: Global) -> Self
+        ensures { result ≡ [] }
+    {
+        Dict {
+            values: Vec::new(alloc),
+        }
+    }
+
+    /// Adds a value that comes after the last one; one that doesn't is left out, and the answer is false.
+    /// Fails only where memory is refused.
+    #[tactic(auto, using(crate::proofs::Distinct::ascending_push))]
+    pub fn push(&mut self, value: K) -> Result<bool, AllocError>
+        requires { length self.old + 1 < 2 ^ 32 }
+        ensures added { IfOk result (λ added. added ≡ is_past_last K.below self.old value) }
+        ensures values { IfOk result (λ added. self.new ≡ (if added then self.old ++ value ∷ [] else self.old)) }
+        ensures err { OnErr result (self.new ≡ self.old) }
+    {
+        if !is_past(&self.values, &value) {
+            return Ok(false);
+        }
+        self.values.push(value)?;
+        Ok(true)
     }
 
     /// How many values there are. Ids are below it.
