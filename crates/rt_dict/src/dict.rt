@@ -64,6 +64,14 @@ impl<K: Key> Dict<K> {
         Ok(true)
     }
 
+    /// An equal dictionary of its own. Fails only where memory is refused.
+    pub fn copy(&self, alloc: Global) -> Result<Self, AllocError>
+        ensures { IfOk result (λ copy. copy ≡ self.now) }
+    {
+        let values = copies_of(alloc, &self.values)?;
+        Ok(Dict { values })
+    }
+
     /// How many values there are. Ids are below it.
     pub fn len(&self) -> u32
         ensures count { result ≡ length self.now }
@@ -180,6 +188,17 @@ fn compare<K: Key>(a: &K, b: &K) -> Ordering
     } else {
         Ordering::Equal
     }
+}
+
+// Each key copied.
+fn copies_of<K: Key>(alloc: Global, keys: &[K]) -> Result<Vec<K>, AllocError>
+    ensures { IfOk result (λ v. v.items ≡ keys.now) }
+{
+    let mut copies = Vec::with_capacity(alloc, keys.len())?;
+    for key in keys {
+        copies.push(key.copy(alloc)?)?;
+    }
+    Ok(copies)
 }
 
 // The distinct keys of a sorted list, each copied once.
