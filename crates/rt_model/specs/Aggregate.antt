@@ -2,7 +2,7 @@
 use Rattle.std.specs.Prelude.{ℤ, pos, ◌+ℤ◌, Bool, true, false, List, [], ◌∷◌, length, take, map, filter, Option, Some, None, ◌==◌, if◌then◌else◌}
 use Rattle.std.specs.declared.cmp.Ordering.{Ordering}
 use Rattle.std.specs.declared.cmp.Ordering.TheVariants.{Less, Equal, Greater}
-use Rattle.std.specs.Ordering.{is_eq, is_gt, ordering_reverse, ordering_then, match_ordering, int_cmp}
+use Rattle.std.specs.Ordering.{is_eq, is_gt, ordering_then, match_ordering, int_cmp}
 use Rattle.rt_schema.specs.declared.row.Row.{Row}
 use Rattle.rt_schema.specs.declared.value.Value.{Value}
 use Rattle.rt_schema.specs.declared.value.Value.TheVariants.{Bool as Truth}
@@ -123,15 +123,27 @@ cell_cmp (cell.Value v) cell.Null = Greater
 cell_cmp (cell.Value v) (cell.Whole n) = Greater
 cell_cmp (cell.Value v) (cell.Value w) = value_cmp v w
 
-abbrev pub turned : Bool → Ordering → Ordering
-turned true o = ordering_reverse o
-turned false o = o
+-- descending, the other way round
+abbrev pub directed_cmp : Bool → Cell → Cell → Ordering
+directed_cmp true c d = cell_cmp d c
+directed_cmp false c d = cell_cmp c d
 
+-- the first of some cells, and those after it; where there is none, it is nothing
+abbrev pub first_cell : List Cell → Cell
+first_cell [] = cell.Null
+first_cell (c ∷ cs) = c
+
+abbrev pub later_cells : List Cell → List Cell
+later_cells [] = []
+later_cells (c ∷ cs) = cs
+
+-- cells for the keys of ORDER BY: the first key decides, then the next
 abbrev pub order_cmp : List OrderKey → List Cell → List Cell → Ordering
 order_cmp [] cs ds = Equal
-order_cmp (k ∷ ks) [] ds = Equal
-order_cmp (k ∷ ks) (c ∷ cs) [] = Equal
-order_cmp (k ∷ ks) (c ∷ cs) (d ∷ ds) = ordering_then (turned k.descending (cell_cmp c d)) (order_cmp ks cs ds)
+order_cmp (k ∷ ks) cs ds =
+    ordering_then
+    (directed_cmp k.descending (first_cell cs) (first_cell ds))
+    (order_cmp ks (later_cells cs) (later_cells ds))
 
 -- results by ORDER BY, and where that ties by their keys
 abbrev pub result_cmp : List OrderKey → Result → Result → Ordering
