@@ -1,0 +1,10 @@
+mod Appends
+mod Finishing
+mod Fitting
+mod Holding
+mod Merges
+mod Orders
+mod Results
+mod Sorting
+mod Tables
+mod Walks

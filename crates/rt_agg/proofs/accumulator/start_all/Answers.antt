@@ -1,0 +1,8 @@
+use Rattle.std.proofs.Common.{[]}
+use Rattle.rt_agg.proofs.Walks.{known_parts}
+use Rattle.rt_agg.proofs.accumulator.start_all.Goals as goal
+
+pub returns : goal.returns
+returns c =
+    rw (c.in_ok-start_order.ensures, c.in_ok-start_items.ensures, c.new-all.ensures)
+    (known_parts c.args.columns.now c.args.items.now c.args.order.now c.args.key.now [])
