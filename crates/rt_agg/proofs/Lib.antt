@@ -1,6 +1,6 @@
 mod Appends
 mod Finishing
-mod Fitting
+pub mod Fitting
 mod Holding
 mod Merges
 mod Orders
