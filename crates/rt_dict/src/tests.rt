@@ -56,3 +56,17 @@ fn no_values(rt: HostRuntime) -> Result<(), Fail> {
     assert_eq!(rt; dict.range_ids(&Edge::Open, &Edge::Open), (0, 0));
     Ok(())
 }
+
+#[test]
+fn a_dictionary_grows_at_its_end(rt: HostRuntime) -> Result<(), Fail> {
+    let alloc = rt.alloc();
+    let mut dict = Dict::empty(alloc);
+    assert!(rt; dict.push(2)?);
+    assert!(rt; !dict.push(2)?);
+    assert!(rt; dict.push(5)?);
+    assert!(rt; !dict.push(4)?);
+    let copy = dict.copy(alloc)?;
+    assert_eq!(rt; copy.len(), 2);
+    assert_eq!(rt; *copy.value(1), 5);
+    Ok(())
+}

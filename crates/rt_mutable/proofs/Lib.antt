@@ -1,0 +1,11 @@
+pub mod Arriving
+pub mod Mapped
+pub mod RowNumbers
+pub mod Same
+pub mod Indexed
+pub mod Rows
+pub mod Held
+pub mod Below
+pub mod Steps
+pub mod Made
+pub mod ForCallers

@@ -1,0 +1,11 @@
+pub mod Faults
+pub mod Ids
+pub mod Loops
+pub mod Rows
+pub mod ColumnLoop
+pub mod Tables
+pub mod Fields
+pub mod DictionaryLaws
+pub mod ColumnLaws
+pub mod FileLaws
+pub mod OneTable

@@ -1,0 +1,143 @@
+ghost use Rattle.std.specs.Prelude.{◌≡◌, ◌<◌, ℕ, List, All, IfOk, Some, length, slice_get, slice_set};
+ghost use Rattle.sha2.specs.Sha256.{sha256};
+ghost use Rattle.rt_segment.specs.Column.{SealedColumn, IsColumn};
+ghost use Rattle.rt_segment.specs.Segment.{SealedSegment, IsSealable, IsSealed, rows_of, are_columns};
+ghost use Rattle.rt_segment.specs.Spelling.{body_of, header_of};
+
+use crate::body_writer::write_body;
+use crate::segment_column::SegmentColumn;
+use crate::table::{are_columns, copies_of, row_in};
+use rt_base::{Header, Partition, Range, Sequence};
+use rt_lists::Items;
+use rt_schema::{Row, Schema};
+use sha2::{Digest, Sha256};
+use std::alloc::{AllocError, Global};
+use std::marker::Model;
+
+/// A sealed segment: a format, a header and a table of columns.
+#[derive(Drop)]
+pub struct Sealed {
+    format: u8,
+    header: Header,
+    columns: Items<SegmentColumn>,
+}
+
+impl Model for Sealed {
+    ghost use Rattle.std.specs.Prelude.{◌≡◌};
+    ghost use Rattle.sha2.specs.Sha256.{sha256};
+    ghost use Rattle.rt_segment.specs.Segment.{SealedSegment, IsSealed};
+    ghost use Rattle.rt_segment.specs.Spelling.{body_of};
+
+    ghost Value = { SealedSegment };
+
+    ghost view = { λ a. record { format = a.format; partition = a.header.partition; sequence = a.header.sequence; range = a.header.range; rows = a.header.rows; columns = a.columns } };
+
+    ghost invariant = { λ a. IsSealed (record { format = a.format; partition = a.header.partition; sequence = a.header.sequence; range = a.header.range; rows = a.header.rows; columns = a.columns })
+        × (a.header.digest ≡ sha256 (body_of (record { format = a.format; partition = a.header.partition; sequence = a.header.sequence; range = a.header.range; rows = a.header.rows; columns = a.columns }))) };
+}
+
+impl Sealed {
+    /// The segment of a format, 1 or 2, a header and its columns.
+    pub fn make(
+        alloc: Global,
+        format: u8,
+        partition: Partition,
+        sequence: Sequence,
+        range: Range,
+        rows: u32,
+        columns: Items<SegmentColumn>,
+    ) -> Result<Self, AllocError>
+        requires { IsSealable (record { format = format; partition = partition; sequence = sequence; range = range; rows = rows; columns = columns }) }
+        ensures { IfOk result (λ made. made ≡ record { format = format; partition = partition; sequence = sequence; range = range; rows = rows; columns = columns }) }
+    {
+        let body = write_body(
+            alloc,
+            format,
+            partition,
+            sequence,
+            range,
+            rows,
+            columns.as_slice(),
+        )?;
+        let header = Header {
+            partition,
+            sequence,
+            range,
+            rows,
+            digest: Sha256::digest(body.as_slice()),
+        };
+        Ok(Sealed {
+            format,
+            header,
+            columns,
+        })
+    }
+
+    /// The segment of parts that were read, with the digest of its file.
+    pub(crate) fn of(format: u8, header: Header, columns: Items<SegmentColumn>) -> Self
+        requires is { IsSealed (record { format = format; partition = header.partition; sequence = header.sequence; range = header.range; rows = header.rows; columns = columns }) }
+        requires digest { header.digest ≡ sha256 (body_of (record { format = format; partition = header.partition; sequence = header.sequence; range = header.range; rows = header.rows; columns = columns })) }
+        ensures { result ≡ record { format = format; partition = header.partition; sequence = header.sequence; range = header.range; rows = header.rows; columns = columns } }
+    {
+        Sealed {
+            format,
+            header,
+            columns,
+        }
+    }
+
+    /// The format of the segment's file, 1 or 2.
+    pub fn format(&self) -> u8
+        ensures { result ≡ self.now.format }
+    {
+        self.format
+    }
+
+    /// What the segment's file says of itself, and the file's digest.
+    pub fn header(&self) -> Header
+        ensures header { result ≡ header_of self.now }
+        ensures right { IsSealed self.now }
+    {
+        self.header
+    }
+
+    /// The columns, in the order of the file.
+    pub fn columns(&self) -> &[SegmentColumn]
+        ensures { result.now ≡ self.now.columns }
+    {
+        self.columns.as_slice()
+    }
+
+    /// The row of a number, counted from 0. Fails only where memory is refused.
+    pub fn row(&self, alloc: Global, number: u32) -> Result<Row, AllocError>
+        requires { number < self.now.rows }
+        ensures { IfOk result (λ row. slice_get (rows_of self.now) number ≡ Some row) }
+    {
+        row_in(alloc, self.columns.as_slice(), number)
+    }
+
+    /// Whether the columns are the schema's by name and kind, in order.
+    pub fn fits(&self, schema: &Schema) -> bool
+        ensures { result ≡ are_columns self.now.columns schema.now.columns }
+    {
+        are_columns(self.columns.as_slice(), schema.columns.as_slice())
+    }
+
+    /// The same partition, sequence, range and table in format 2. Fails only where memory is refused.
+    pub fn upgrade(&self, alloc: Global) -> Result<Sealed, AllocError>
+        ensures { IfOk result (λ upgraded. upgraded ≡ record self.now { format = 2 }) }
+    {
+        let columns = copies_of(alloc, self.columns.as_slice())?;
+        let format = 2;
+        let header = self.header;
+        Sealed::make(
+            alloc,
+            format,
+            header.partition,
+            header.sequence,
+            header.range,
+            header.rows,
+            columns,
+        )
+    }
+}
