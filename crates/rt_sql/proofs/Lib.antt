@@ -1,0 +1,9 @@
+pub mod Places
+pub mod Nots
+pub mod Completing
+pub mod Sound
+pub mod Forward
+pub mod Viable
+pub mod Texts
+pub mod Cutting
+pub mod Parting

@@ -1,0 +1,12 @@
+ghost use Rattle.rt_sql.specs.Laws.{ReadIsDerived, FaultsAreFirst};
+
+/// Tokens are read as a query exactly where the grammar derives it, nesting at most 64 deep.
+pub fn what_is_read_is_derived()
+    ensures { ReadIsDerived }
+{}
+
+/// Where tokens aren't read, the byte of the refusal is that of the first token that no query has in
+/// its place, or the text's length.
+pub fn faults_are_first()
+    ensures { FaultsAreFirst }
+{}

@@ -1,0 +1,117 @@
+ghost use Rattle.std.specs.Prelude.{◌≡◌, map, IfOk};
+ghost use Rattle.rt_schema.specs.Schema.{IsSchema};
+ghost use Rattle.rt_sql.specs.Run.{Answers};
+ghost use Rattle.rt_sql.specs.Parsing.{is_table, query_with, query_of};
+ghost use Rattle.rt_sql.specs.Queries.{IsTextOf, IsReadAs, IfMisspelt};
+
+use crate::SqlRefused;
+use crate::before::{are_known, are_within};
+use crate::kinds::is_typed_query;
+use crate::lexer::tokens_of;
+use crate::parts::{GroupAt, ItemAt, KeyAt, Parts};
+use crate::reader::read;
+use crate::rules::breach;
+use rt_lists::Items;
+use rt_model::{ColumnAt, Item, OrderKey, Query};
+use rt_schema::Schema;
+use std::alloc::{AllocError, Global};
+
+/// The query that a text is, of a table with a schema: what the grammar of queries derives from the
+/// text's tokens, where the further rules of syntax hold, the name behind FROM is the table's, each
+/// other name is a column's, and kinds and numbers fit. A text of more than 65,536 bytes, or one that
+/// nests deeper than 64 before its first fault, is refused as `Limit`; else of the refusals the first
+/// that applies is answered, by their order.
+#[tactic(auto, using(crate::proofs::Texts::answered_text, crate::proofs::Texts::text_answered, crate::proofs::Texts::answered_syntax))]
+pub fn parse(alloc: Global, text: &str, schema: &Schema, table: &str) -> Result<Query, SqlRefused>
+    requires { IsSchema schema.now }
+    // Which refusal it is, and which query.
+    ensures exact { Answers (query_of schema.now table.now text.now) result }
+    // What is answered is derived by the grammar.
+    ensures derived { IfOk result (IsTextOf schema.now table.now text.now) }
+    // What the grammar derives is answered.
+    ensures only { (query : Query) → IsTextOf schema.now table.now text.now query → IsReadAs query result }
+    // A refusal by syntax is at the first token that no query has in its place, or at a breach of a rule.
+    ensures misspelt { IfMisspelt schema.now text.now result }
+{
+    read_text(alloc, text, schema, table)
+}
+
+fn read_text(alloc: Global, text: &str, schema: &Schema, table: &str) -> Result<Query, SqlRefused>
+    requires { IsSchema schema.now }
+    ensures { Answers (query_of schema.now table.now text.now) result }
+{
+    if text.len() > 65_536 {
+        return Err(SqlRefused::Limit);
+    }
+    let tokens = tokens_of(alloc, text)?;
+    let parts = read(alloc, schema, tokens.as_slice(), text.len() as u64)?;
+    if let Some(byte) = breach(&parts) {
+        return Err(SqlRefused::Syntax { byte });
+    }
+    if !is_table(alloc, parts.table.as_str(), table)? {
+        return Err(SqlRefused::NoTable);
+    }
+    if !are_known(schema, tokens.as_slice()) {
+        return Err(SqlRefused::NoColumn);
+    }
+    if !is_typed_query(schema, &parts) {
+        return Err(SqlRefused::WrongType);
+    }
+    if !are_within(tokens.as_slice()) {
+        return Err(SqlRefused::Limit);
+    }
+    Ok(query_with(alloc, parts)?)
+}
+
+// Whether a name is a table's, or that with `_REALTIME` behind it.
+fn is_table(alloc: Global, name: &str, table: &str) -> Result<bool, AllocError>
+    ensures { IfOk result (λ answer. answer ≡ is_table name.now table.now) }
+{
+    if name == table {
+        return Ok(true);
+    }
+    let realtime = format!(in alloc; "{table}_REALTIME")?;
+    Ok(name == realtime.as_str())
+}
+
+fn query_with(alloc: Global, parts: Parts) -> Result<Query, AllocError>
+    ensures { IfOk result (λ query. query ≡ query_with parts) }
+{
+    Ok(Query {
+        items: items_of(alloc, parts.items.into_vec())?,
+        filter: parts.filter,
+        groups: columns_of(alloc, parts.groups.into_vec())?,
+        order: keys_of(alloc, parts.order.into_vec())?,
+        limit: parts.limit,
+    })
+}
+
+fn items_of(alloc: Global, found: Vec<ItemAt>) -> Result<Items<Item>, AllocError>
+    ensures { IfOk result (λ items. items ≡ map (λ i. i.item) found.items) }
+{
+    let mut items = Items::new(alloc);
+    for found in found {
+        items.push(found.item)?;
+    }
+    Ok(items)
+}
+
+fn columns_of(alloc: Global, found: Vec<GroupAt>) -> Result<Items<ColumnAt>, AllocError>
+    ensures { IfOk result (λ columns. columns ≡ map (λ g. g.column) found.items) }
+{
+    let mut columns = Items::new(alloc);
+    for found in found {
+        columns.push(found.column)?;
+    }
+    Ok(columns)
+}
+
+fn keys_of(alloc: Global, found: Vec<KeyAt>) -> Result<Items<OrderKey>, AllocError>
+    ensures { IfOk result (λ keys. keys ≡ map (λ k. k.key) found.items) }
+{
+    let mut keys = Items::new(alloc);
+    for found in found {
+        keys.push(found.key)?;
+    }
+    Ok(keys)
+}
