@@ -1,7 +1,7 @@
 -- What completes a query that has been read so far, by the grammar.
-use Rattle.std.proofs.Common.{◌≡◌, ℕ, ◌-◌, Bool, true, false, List, [], ◌∷◌, ◌++◌, Option, Some, None, Result, Ok, Err}
+use Rattle.std.proofs.Common.{ℕ, ◌-◌, Bool, List, [], ◌∷◌, ◌++◌, Option, Some, None}
 use Rattle.rt_schema.specs.declared.schema.Schema.{Schema}
-use Rattle.rt_model.specs.Tree.{Tree, Compare, Between, OneOf, NoneOf, Not}
+use Rattle.rt_model.specs.Tree.{Tree, Compare, Between}
 use Rattle.rt_model.specs.declared.query_parts.ColumnAt.{ColumnAt}
 use Rattle.rt_model.specs.declared.query_parts.Literal.{Literal}
 use Rattle.rt_sql.specs.Nested.{all_of, any_of, with_term}
@@ -12,7 +12,6 @@ use Rattle.rt_sql.specs.declared.call.Call.{Call}
 use Rattle.rt_sql.specs.declared.call.Call.TheVariants as call
 use Rattle.rt_sql.specs.declared.call.Function.{Function}
 use Rattle.rt_sql.specs.declared.call.Function.TheVariants as function
-use Rattle.rt_sql.specs.declared.lexeme.Lexeme.{Lexeme}
 use Rattle.rt_sql.specs.declared.lexeme.Lexeme.TheVariants.{Word, Name}
 use Rattle.rt_sql.specs.declared.lexeme.Word.{Word as Fixed}
 use Rattle.rt_sql.specs.declared.lexeme.Word.TheVariants as word

@@ -1,5 +1,5 @@
 -- Where tokens begin and end.
-use Rattle.std.proofs.Common.{◌≡◌, ◌≢◌, ℕ, zero, suc, ◌+◌, ◌-◌, ◌<◌, ◌≤◌, ◌==◌, ◌&&◌, Bool, true, false, List, [], ◌∷◌, ◌++◌, length, take, drop, get_or, slice_index, slice_range, nat_le, nat_eq, Option, Some, None, IfSome, option_map, if◌then◌else◌, refl, ap, sym, ◌∙◌, subst, append_assoc, length-drop, add-one, arith, eq-eqb}
+use Rattle.std.proofs.Common.{◌≡◌, ℕ, zero, suc, ◌+◌, ◌-◌, ◌<◌, ◌≤◌, ◌==◌, ◌&&◌, Bool, true, false, List, [], ◌∷◌, ◌++◌, length, take, drop, get_or, slice_index, slice_range, nat_le, Option, Some, None, IfSome, if◌then◌else◌, refl, ap, sym, ◌∙◌, subst, append_assoc, length-drop, add-one, arith, eq-eqb}
 use Rattle.std.proofs.lemmas.Bool.{le-leb}
 use Rattle.std.proofs.lemmas.Bool.Decides.{nat_tests}
 use Rattle.std.proofs.lemmas.List.{get_or-drop, drop-drop}
@@ -14,7 +14,6 @@ use Rattle.rt_sql.specs.declared.content.Content.{Content}
 use Rattle.rt_sql.specs.declared.lexeme.Lexeme.{Lexeme}
 use Rattle.rt_sql.specs.declared.lexeme.Lexeme.TheVariants.{Name}
 use Rattle.rt_sql.specs.declared.lexer.Lexed.{Lexed}
-use Rattle.rt_sql.specs.declared.token.Token.{Token}
 
 -- behind an ASCII byte a text may be cut
 pub begins_after : (text : List ℕ) (at b : ℕ) → IsUtf8 text → 0 < at → at ≤ length text → get_or text (at - 1) 0 ≡ b → b < 128 → IsCharBoundary text at

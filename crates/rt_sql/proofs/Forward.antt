@@ -1,25 +1,20 @@
 -- What the grammar derives is read: each part leads from where it begins to where it ends.
-use Rattle.std.proofs.Common.{◌≡◌, ℕ, zero, suc, ◌+◌, ◌-◌, ◌<◌, ◌≤◌, Bool, true, false, List, [], ◌∷◌, ◌++◌, nat_lt, Option, Some, None, Result, Ok, Err, if◌then◌else◌, refl, ap, sym, ◌∙◌, subst, append_assoc, add-one, arith}
+use Rattle.std.proofs.Common.{◌≡◌, ℕ, ◌+◌, ◌-◌, ◌<◌, ◌≤◌, Bool, true, false, List, [], ◌∷◌, ◌++◌, Option, Some, None, Result, Ok, Err, if◌then◌else◌, refl, ap, sym, ◌∙◌, subst, append_assoc, add-one, arith}
 use Rattle.std.proofs.lemmas.Bool.{lt-ltb}
 use Rattle.std.proofs.lemmas.List.{append-nil}
 use Rattle.rt_schema.specs.declared.schema.Schema.{Schema}
-use Rattle.rt_model.specs.Tree.{Tree, Compare, Between, OneOf, NoneOf, Not}
+use Rattle.rt_model.specs.Tree.{Tree}
 use Rattle.rt_model.specs.declared.query_parts.ColumnAt.{ColumnAt}
 use Rattle.rt_model.specs.declared.query_parts.Literal.{Literal}
 use Rattle.rt_sql.specs.Columns.{column_at}
 use Rattle.rt_sql.specs.Literals.{rows, or_none}
-use Rattle.rt_sql.specs.Nested.{all_of, any_of, with_term, with_condition, predicate_of, new_level, inside, outside}
-use Rattle.rt_sql.specs.Testing.{among, with_literal, operator, after_not, list as list_step, literal, digits, upper, after_literal, tested}
-use Rattle.rt_sql.specs.Steps.{at, step, step_at, select, with_item, wanted, argument, closing, called, after_item, table, after_limit, after_order, after_groups, after_filter, after_table, deeper, term, after_test, after_predicate, after_term, group_by, group, after_group, order_by, with_key, after_direction, after_key, limit}
-use Rattle.rt_sql.specs.Run.{nothing, ended, predicate_ends, or_syntax, then_read, run}
+use Rattle.rt_sql.specs.Nested.{all_of, any_of, with_term, predicate_of, new_level, inside}
+use Rattle.rt_sql.specs.Testing.{among, with_literal}
+use Rattle.rt_sql.specs.Steps.{at, with_item, table, after_limit, after_order, after_groups, after_filter, after_table, deeper, after_test, after_group, with_key, after_direction, limit}
+use Rattle.rt_sql.specs.Run.{nothing, then_read, run}
 use Rattle.rt_sql.specs.Grammar.{tok, Repeats, no_more, comma, IsLiteral, number, minus, quoted, truth, untruth, IsList, list, IsTest, compares, between, one_of, none_of, IsTerm, negated, enclosed, test as tested_name, IsCondition, condition, MoreTerms, no_term, and, IsPredicate, predicate, MoreConditions, no_condition, or, IsItem, column, count, sum, min, max, IsDirection, unsaid, ascending, descending, IsKey, key, IsName, name, IsWhere, unfiltered, filtered, IsGroups, ungrouped, grouped, IsOrder, unordered, ordered, IsLimit, unlimited, limited, IsEnd, bare, semicolon, IsQuery, query, or_else}
-use Rattle.rt_sql.specs.declared.call.Call.{Call}
-use Rattle.rt_sql.specs.declared.call.Call.TheVariants as call
-use Rattle.rt_sql.specs.declared.call.Function.{Function}
-use Rattle.rt_sql.specs.declared.call.Function.TheVariants as function
 use Rattle.rt_sql.specs.declared.lexeme.Lexeme.{Lexeme}
-use Rattle.rt_sql.specs.declared.lexeme.Lexeme.TheVariants.{Word, Name, Number, Text, Comparison, Unread}
-use Rattle.rt_sql.specs.declared.lexeme.Word.{Word as Fixed}
+use Rattle.rt_sql.specs.declared.lexeme.Lexeme.TheVariants.{Word}
 use Rattle.rt_sql.specs.declared.lexeme.Word.TheVariants as word
 use Rattle.rt_sql.specs.declared.nesting.Level.{Level}
 use Rattle.rt_sql.specs.declared.nesting.Enclosing.{Enclosing}
@@ -36,7 +31,6 @@ use Rattle.rt_sql.specs.declared.state.Stage.TheVariants as stage
 use Rattle.rt_sql.specs.declared.state.State.{State}
 use Rattle.rt_sql.specs.declared.stop.Stop.{Stop}
 use Rattle.rt_sql.specs.declared.stop.Stop.TheVariants as stop
-use Rattle.rt_sql.specs.declared.test.Test.{Test}
 use Rattle.rt_sql.specs.declared.test.Test.TheVariants as test
 use Rattle.rt_sql.specs.declared.test.Asked.{Asked}
 use Rattle.rt_sql.specs.declared.test.Asked.TheVariants as asked

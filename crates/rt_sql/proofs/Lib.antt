@@ -7,3 +7,4 @@ pub mod Viable
 pub mod Texts
 pub mod Cutting
 pub mod Parting
+pub mod Fitting

@@ -1,5 +1,5 @@
 -- Terms behind NOTs.
-use Rattle.std.proofs.Common.{◌≡◌, ℕ, suc, ◌-◌, ◌+◌, ◌<◌, arith, refl, ap, subst, sym}
+use Rattle.std.proofs.Common.{◌≡◌, ℕ, suc, ◌-◌, ◌+◌, ◌<◌, arith, refl, subst, sym}
 use Rattle.rt_model.specs.Tree.{Tree, Not}
 use Rattle.rt_sql.specs.Nested.{under}
 

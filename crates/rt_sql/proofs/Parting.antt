@@ -1,6 +1,6 @@
 -- The parts of a predicate.
-use Rattle.std.proofs.Common.{◌≡◌, ℕ, zero, suc, ◌+◌, ◌<◌, ◌≤◌, List, [], ◌∷◌, length, get_or, arith}
-use Rattle.rt_model.specs.Tree.{Tree, Trees, trees, nodes, list_nodes}
+use Rattle.std.proofs.Common.{ℕ, zero, suc, ◌<◌, ◌≤◌, List, [], ◌∷◌, length, get_or, arith}
+use Rattle.rt_model.specs.Tree.{Tree, trees, nodes, list_nodes}
 
 -- a part has no more nodes than all parts
 pub nodes_of_part : (ts : List Tree) (i : ℕ) (d : Tree) → i < length ts → nodes (get_or ts i d) ≤ list_nodes (trees ts)

@@ -1,31 +1,29 @@
 -- What is read as a query is derived by the grammar: each step leads from what completes the query after it to what completes it before.
-use Rattle.std.proofs.Common.{◌≡◌, ℕ, zero, suc, ◌+◌, ◌-◌, ◌<◌, ◌≤◌, Bool, true, false, List, [], ◌∷◌, ◌++◌, nat_lt, Option, Some, None, Result, Ok, Err, if◌then◌else◌, refl, ap, sym, ◌∙◌, subst, append_assoc, add-one, arith}
+use Rattle.std.proofs.Common.{◌≡◌, ℕ, suc, ◌+◌, ◌-◌, ◌<◌, Bool, true, false, List, [], ◌∷◌, ◌++◌, nat_lt, Option, Some, None, Result, Ok, Err, if◌then◌else◌, refl, ap, sym, ◌∙◌, subst, append_assoc, add-one, arith}
 use Rattle.std.proofs.lemmas.Bool.{ltb-true}
 use Rattle.std.proofs.lemmas.List.{append-nil}
 use Rattle.rt_schema.specs.declared.schema.Schema.{Schema}
-use Rattle.rt_model.specs.Tree.{Tree, Compare, Between, OneOf, NoneOf, Not}
+use Rattle.rt_model.specs.Tree.{Tree, Not}
 use Rattle.rt_model.specs.declared.query_parts.ColumnAt.{ColumnAt}
 use Rattle.rt_model.specs.declared.query_parts.Literal.{Literal}
 use Rattle.rt_sql.specs.Columns.{column_at}
-use Rattle.rt_sql.specs.Nested.{all_of, any_of, with_term, with_condition, predicate_of, new_level, inside, outside}
+use Rattle.rt_sql.specs.Nested.{all_of, any_of, with_term, with_condition, predicate_of, new_level, inside}
 use Rattle.rt_sql.specs.Testing.{among, with_literal, operator, after_not, list as list_step, literal, digits, upper, after_literal, tested}
 use Rattle.rt_sql.specs.Steps.{at, step, step_at, select, with_item, wanted, argument, closing, called, after_item, table, after_limit, after_order, after_groups, after_filter, after_table, deeper, term, after_test, after_predicate, after_term, group_by, group, after_group, order_by, with_key, after_direction, after_key, limit}
 use Rattle.rt_sql.specs.Run.{nothing, ended, predicate_ends, or_syntax, then_read, run}
-use Rattle.rt_sql.specs.Grammar.{tok, Repeats, no_more, comma, IsLiteral, number, minus, quoted, truth, untruth, IsList, list, IsTest, compares, between, one_of, none_of, IsTerm, negated, enclosed, test as tested_name, IsCondition, condition, MoreTerms, no_term, and, IsPredicate, predicate, MoreConditions, no_condition, or, IsItem, column, count, sum, min, max, IsDirection, unsaid, ascending, descending, IsKey, key, IsName, name, IsWhere, unfiltered, filtered, IsGroups, ungrouped, grouped, IsOrder, unordered, ordered, IsLimit, unlimited, limited, IsEnd, bare, semicolon, IsQuery, query, or_else}
+use Rattle.rt_sql.specs.Grammar.{tok, no_more, comma, IsLiteral, number, minus, quoted, truth, untruth, IsList, list, IsTest, compares, between, one_of, none_of, IsTerm, negated, enclosed, test as tested_name, condition, no_term, and, predicate, no_condition, or, IsItem, column, count, sum, min, max, IsDirection, unsaid, ascending, descending, key, IsName, name, unfiltered, filtered, ungrouped, grouped, unordered, ordered, unlimited, limited, bare, semicolon, IsQuery, query}
 use Rattle.rt_sql.specs.declared.call.Call.{Call}
 use Rattle.rt_sql.specs.declared.call.Call.TheVariants as call
 use Rattle.rt_sql.specs.declared.call.Function.{Function}
 use Rattle.rt_sql.specs.declared.call.Function.TheVariants as function
 use Rattle.rt_sql.specs.declared.lexeme.Lexeme.{Lexeme}
-use Rattle.rt_sql.specs.declared.lexeme.Lexeme.TheVariants.{Word, Name, Number, Text, Comparison, Unread}
-use Rattle.rt_sql.specs.declared.lexeme.Word.{Word as Fixed}
+use Rattle.rt_sql.specs.declared.lexeme.Lexeme.TheVariants.{Word, Name, Number, Text, Comparison}
 use Rattle.rt_sql.specs.declared.lexeme.Word.TheVariants as word
 use Rattle.rt_sql.specs.declared.nesting.Level.{Level}
 use Rattle.rt_sql.specs.declared.nesting.Enclosing.{Enclosing}
 use Rattle.rt_sql.specs.declared.nesting.Nesting.{Nesting}
 use Rattle.rt_sql.specs.declared.parts.ItemAt.{ItemAt}
 use Rattle.rt_sql.specs.declared.parts.GroupAt.{GroupAt}
-use Rattle.rt_sql.specs.declared.parts.KeyAt.{KeyAt}
 use Rattle.rt_sql.specs.declared.parts.Parts.{Parts}
 use Rattle.rt_sql.specs.declared.sql_refused.SqlRefused.{SqlRefused}
 use Rattle.rt_sql.specs.declared.state.Side.{Side}
@@ -42,7 +40,7 @@ use Rattle.rt_sql.specs.declared.test.Asked.TheVariants as asked
 use Rattle.rt_sql.specs.declared.test.Tested.{Tested}
 use Rattle.rt_sql.specs.declared.test.Tested.TheVariants.{More, Whole}
 use Rattle.rt_sql.specs.declared.token.Token.{Token}
-use Rattle.rt_sql.proofs.Completing.{Then, reads, ListThen, list_then, UpperThen, upper_then, AskedThen, TestThen, EndThen, end_then, LimitThen, limit_then, OrderThen, order_then, KeysThen, keys_then, DirectionThen, direction_then, GroupsThen, groups_then, NamesThen, names_then, WhereThen, where_then, TableThen, table_then, ItemsThen, items_then, whole, TermsThen, outermost, within, TermThen, term_then, word_of, ItemThen, CloseThen, close_then, CallThen, SelectThen, select_then, NoneThen, none_then, Completes}
+use Rattle.rt_sql.proofs.Completing.{Then, reads, ListThen, list_then, UpperThen, upper_then, AskedThen, TestThen, EndThen, end_then, LimitThen, limit_then, OrderThen, order_then, KeysThen, keys_then, DirectionThen, direction_then, GroupsThen, groups_then, NamesThen, names_then, WhereThen, where_then, TableThen, table_then, ItemsThen, items_then, whole, TermsThen, outermost, within, TermThen, term_then, word_of, ItemThen, close_then, CallThen, SelectThen, select_then, NoneThen, none_then, Completes}
 
 -- Tests
 

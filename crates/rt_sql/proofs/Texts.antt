@@ -1,10 +1,9 @@
 -- The answer to a text, in the words of the grammar.
-use Rattle.std.proofs.Common.{◌≡◌, ℕ, ◌≤◌, Bool, true, false, List, length, nat_le, Option, Some, None, Result, Ok, Err, IfOk, if◌then◌else◌, refl, ap, sym, ◌∙◌, subst, arith}
+use Rattle.std.proofs.Common.{◌≡◌, ℕ, Bool, true, false, List, length, nat_le, Option, Some, None, Result, Ok, Err, IfOk, if◌then◌else◌, refl, ap, sym, ◌∙◌, arith}
 use Rattle.std.proofs.lemmas.Bool.{leb-true, le-leb}
 use Rattle.rt_schema.specs.declared.schema.Schema.{Schema}
 use Rattle.rt_model.specs.declared.query.Query.{Query}
 use Rattle.rt_sql.specs.Checks.{are_known, are_within}
-use Rattle.rt_sql.specs.Grammar.{IsQuery}
 use Rattle.rt_sql.specs.Kinds.{is_typed_query}
 use Rattle.rt_sql.specs.Parsing.{is_table, query_with, checked, query_from, query_of}
 use Rattle.rt_sql.specs.Queries.{IsOfTable, IsTextOf, IsMisspelt, by_grammar, by_rule, IsReadAs, IfMisspelt}

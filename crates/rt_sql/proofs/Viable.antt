@@ -1,32 +1,24 @@
 -- Whatever has been read of a query can be completed, and where a token is not read no query goes on with it.
-use Rattle.std.proofs.Common.{◌≡◌, ℕ, zero, suc, ◌+◌, ◌-◌, ◌<◌, ◌≤◌, Bool, true, false, List, [], ◌∷◌, ◌++◌, nat_lt, Option, Some, None, Result, Ok, Err, if◌then◌else◌, refl, ap, sym, ◌∙◌, subst, append_assoc, arith}
-use Rattle.std.proofs.lemmas.Bool.{lt-ltb}
+use Rattle.std.proofs.Common.{◌≡◌, ℕ, true, List, [], ◌∷◌, ◌++◌, Option, Some, None, Result, Ok, Err, refl, ap, sym, ◌∙◌, subst, append_assoc, arith}
 use Rattle.std.proofs.lemmas.List.{append-nil}
 use Rattle.rt_schema.specs.declared.schema.Schema.{Schema}
-use Rattle.rt_model.specs.Tree.{Tree, Compare, Between, OneOf, NoneOf, Not}
-use Rattle.rt_model.specs.declared.query_parts.ColumnAt.{ColumnAt}
-use Rattle.rt_model.specs.declared.query_parts.Literal.{Literal}
+use Rattle.rt_model.specs.Tree.{Tree}
 use Rattle.rt_sql.specs.Columns.{column_at}
-use Rattle.rt_sql.specs.Literals.{rows, or_none}
-use Rattle.rt_sql.specs.Nested.{all_of, any_of, with_term, with_condition, predicate_of, new_level, inside, outside}
-use Rattle.rt_sql.specs.Testing.{among, with_literal, operator, after_not, list as list_step, literal, digits, upper, after_literal, tested}
-use Rattle.rt_sql.specs.Steps.{at, step, step_at, select, with_item, wanted, argument, closing, called, after_item, table, after_limit, after_order, after_groups, after_filter, after_table, deeper, term, after_test, after_predicate, after_term, group_by, group, after_group, order_by, with_key, after_direction, after_key, limit}
-use Rattle.rt_sql.specs.Run.{nothing, ended, predicate_ends, or_syntax, then_read, run}
-use Rattle.rt_sql.specs.Grammar.{tok, Repeats, no_more, comma, IsLiteral, number, minus, quoted, truth, untruth, IsList, list, IsTest, compares, between, one_of, none_of, IsTerm, negated, enclosed, test as tested_name, IsCondition, condition, MoreTerms, no_term, and, IsPredicate, predicate, MoreConditions, no_condition, or, IsItem, column, count, sum, min, max, IsDirection, unsaid, ascending, descending, IsKey, key, IsName, name, IsWhere, unfiltered, filtered, IsGroups, ungrouped, grouped, IsOrder, unordered, ordered, IsLimit, unlimited, limited, IsEnd, bare, semicolon, IsQuery, query, or_else}
+use Rattle.rt_sql.specs.Nested.{with_term, predicate_of}
+use Rattle.rt_sql.specs.Steps.{at, step}
+use Rattle.rt_sql.specs.Run.{nothing, ended, or_syntax, then_read, run}
+use Rattle.rt_sql.specs.Grammar.{tok}
 use Rattle.rt_sql.specs.declared.call.Call.{Call}
 use Rattle.rt_sql.specs.declared.call.Call.TheVariants as call
 use Rattle.rt_sql.specs.declared.call.Function.{Function}
 use Rattle.rt_sql.specs.declared.call.Function.TheVariants as function
-use Rattle.rt_sql.specs.declared.lexeme.Lexeme.{Lexeme}
-use Rattle.rt_sql.specs.declared.lexeme.Lexeme.TheVariants.{Word, Name, Number, Text, Comparison, Unread}
+use Rattle.rt_sql.specs.declared.lexeme.Lexeme.TheVariants.{Word, Name, Number}
 use Rattle.rt_sql.specs.declared.lexeme.Word.{Word as Fixed}
 use Rattle.rt_sql.specs.declared.lexeme.Word.TheVariants as word
 use Rattle.rt_sql.specs.declared.nesting.Level.{Level}
 use Rattle.rt_sql.specs.declared.nesting.Enclosing.{Enclosing}
 use Rattle.rt_sql.specs.declared.nesting.Nesting.{Nesting}
 use Rattle.rt_sql.specs.declared.parts.ItemAt.{ItemAt}
-use Rattle.rt_sql.specs.declared.parts.GroupAt.{GroupAt}
-use Rattle.rt_sql.specs.declared.parts.KeyAt.{KeyAt}
 use Rattle.rt_sql.specs.declared.parts.Parts.{Parts}
 use Rattle.rt_sql.specs.declared.sql_refused.SqlRefused.{SqlRefused}
 use Rattle.rt_sql.specs.declared.sql_refused.SqlRefused.TheVariants.{Syntax}
@@ -41,8 +33,6 @@ use Rattle.rt_sql.specs.declared.test.Test.{Test}
 use Rattle.rt_sql.specs.declared.test.Test.TheVariants as test
 use Rattle.rt_sql.specs.declared.test.Asked.{Asked}
 use Rattle.rt_sql.specs.declared.test.Asked.TheVariants as asked
-use Rattle.rt_sql.specs.declared.test.Tested.{Tested}
-use Rattle.rt_sql.specs.declared.test.Tested.TheVariants.{More, Whole}
 use Rattle.rt_sql.specs.declared.token.Token.{Token}
 use Rattle.rt_sql.specs.Faults.{Begins, IsFault, at_the_end, at_a_token}
 use Rattle.rt_sql.proofs.Sound.{sound}

@@ -1,5 +1,5 @@
 -- What is asked of each token of a query, by the token before it.
-use Rattle.std.specs.Prelude.{ℕ, ◌&&◌, Bool, true, false, List, [], ◌∷◌, length, nat_lt, is_some, Option}
+use Rattle.std.specs.Prelude.{◌&&◌, Bool, true, false, List, [], ◌∷◌, length, nat_lt, is_some}
 use Rattle.rt_schema.specs.declared.schema.Schema.{Schema}
 use Rattle.rt_sql.specs.Columns.{place_of}
 use Rattle.rt_sql.specs.Literals.{whole, rows}

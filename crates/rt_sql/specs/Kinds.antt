@@ -1,5 +1,5 @@
 -- Which columns a query may use so, by their kinds.
-use Rattle.std.specs.Prelude.{ℕ, ◌&&◌, ◌||◌, Bool, true, false, not, List, [], ◌∷◌, slice_get, Option, Some, None, option_map}
+use Rattle.std.specs.Prelude.{◌&&◌, Bool, true, false, List, [], ◌∷◌, slice_get, Option, Some, None, option_map}
 use Rattle.rt_schema.specs.declared.column.Kind.{Kind}
 use Rattle.rt_schema.specs.declared.column.Kind.TheVariants.{Int, Long, Text, Bool as Truth, Time}
 use Rattle.rt_schema.specs.declared.schema.Schema.{Schema}

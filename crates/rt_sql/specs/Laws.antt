@@ -1,5 +1,5 @@
 -- What the reading of tokens keeps of the grammar.
-use Rattle.std.specs.Prelude.{◌≡◌, ℕ, ◌≤◌, List, Ok, Err, ◌↔◌}
+use Rattle.std.specs.Prelude.{◌≡◌, ℕ, List, Ok, Err, ◌↔◌}
 use Rattle.rt_schema.specs.declared.schema.Schema.{Schema}
 use Rattle.rt_sql.specs.Faults.{IsFault}
 use Rattle.rt_sql.specs.Grammar.{IsQuery}

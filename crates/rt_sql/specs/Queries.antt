@@ -1,5 +1,5 @@
 -- Which query a text is of, and where a text is of none.
-use Rattle.std.specs.Prelude.{◌≡◌, ℕ, ◌≤◌, true, List, length, Option, Some, None, Result, Ok, Err}
+use Rattle.std.specs.Prelude.{◌≡◌, ℕ, ◌≤◌, true, List, length, Some, None, Result, Ok, Err}
 use Rattle.rt_schema.specs.declared.schema.Schema.{Schema}
 use Rattle.rt_model.specs.declared.query.Query.{Query}
 use Rattle.rt_sql.specs.Checks.{are_known, are_within}

@@ -1,8 +1,7 @@
 -- How a query is read, token by token.
-use Rattle.std.specs.Prelude.{ℕ, ◌+◌, Bool, true, false, List, [], ◌∷◌, ◌++◌, nat_lt, Option, Some, None, Result, Ok, Err, if◌then◌else◌}
+use Rattle.std.specs.Prelude.{ℕ, ◌+◌, Bool, true, false, List, [], ◌∷◌, ◌++◌, nat_lt, Some, Result, Ok, Err, if◌then◌else◌}
 use Rattle.rt_schema.specs.declared.schema.Schema.{Schema}
 use Rattle.rt_model.specs.declared.query_parts.Aggregate.TheVariants as aggregate
-use Rattle.rt_model.specs.declared.query_parts.Item.{Item}
 use Rattle.rt_model.specs.declared.query_parts.Item.TheVariants as item
 use Rattle.rt_sql.specs.Columns.{column_at}
 use Rattle.rt_sql.specs.Literals.{rows, or_none}
@@ -13,7 +12,7 @@ use Rattle.rt_sql.specs.declared.call.Call.TheVariants as call
 use Rattle.rt_sql.specs.declared.call.Function.{Function}
 use Rattle.rt_sql.specs.declared.call.Function.TheVariants.{Count, Sum, Min, Max}
 use Rattle.rt_sql.specs.declared.lexeme.Lexeme.{Lexeme}
-use Rattle.rt_sql.specs.declared.lexeme.Lexeme.TheVariants.{Word, Name, Number, Text, Comparison, Unread}
+use Rattle.rt_sql.specs.declared.lexeme.Lexeme.TheVariants.{Word, Name, Number}
 use Rattle.rt_sql.specs.declared.lexeme.Word.TheVariants as word
 use Rattle.rt_sql.specs.declared.nesting.Level.{Level}
 use Rattle.rt_sql.specs.declared.nesting.Enclosing.{Enclosing}
@@ -27,7 +26,6 @@ use Rattle.rt_sql.specs.declared.state.Stage.TheVariants as stage
 use Rattle.rt_sql.specs.declared.state.State.{State}
 use Rattle.rt_sql.specs.declared.stop.Stop.{Stop}
 use Rattle.rt_sql.specs.declared.stop.Stop.TheVariants.{Stuck, Deep}
-use Rattle.rt_sql.specs.declared.test.Test.{Test}
 use Rattle.rt_sql.specs.declared.test.Test.TheVariants as test
 use Rattle.rt_sql.specs.declared.test.Tested.{Tested}
 use Rattle.rt_sql.specs.declared.test.Tested.TheVariants.{More, Whole}

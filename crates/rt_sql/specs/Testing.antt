@@ -1,12 +1,12 @@
 -- How a test of a column is read, token by token.
-use Rattle.std.specs.Prelude.{ℕ, Bool, true, false, List, [], ◌∷◌, ◌++◌, Result, Ok, Err}
+use Rattle.std.specs.Prelude.{Bool, true, false, List, [], ◌∷◌, ◌++◌, Result, Ok, Err}
 use Rattle.rt_model.specs.Tree.{Tree, Compare, Between, OneOf, NoneOf}
 use Rattle.rt_model.specs.declared.query_parts.ColumnAt.{ColumnAt}
 use Rattle.rt_model.specs.declared.query_parts.Literal.{Literal}
 use Rattle.rt_model.specs.declared.query_parts.Literal.TheVariants as value
 use Rattle.rt_sql.specs.Literals.{whole, or_zero}
 use Rattle.rt_sql.specs.declared.lexeme.Lexeme.{Lexeme}
-use Rattle.rt_sql.specs.declared.lexeme.Lexeme.TheVariants.{Word, Name, Number, Text, Comparison, Unread}
+use Rattle.rt_sql.specs.declared.lexeme.Lexeme.TheVariants.{Word, Number, Text, Comparison}
 use Rattle.rt_sql.specs.declared.lexeme.Word.TheVariants as word
 use Rattle.rt_sql.specs.declared.stop.Stop.{Stop}
 use Rattle.rt_sql.specs.declared.stop.Stop.TheVariants.{Stuck}

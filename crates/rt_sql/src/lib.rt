@@ -26,6 +26,8 @@ mod stop;
 mod terms;
 mod test;
 mod testing;
+#[cfg(test)]
+mod tests;
 mod token;
 mod words;
 

@@ -1,5 +1,6 @@
 ghost use Rattle.std.specs.Prelude.{◌≡◌, map, IfOk};
 ghost use Rattle.rt_schema.specs.Schema.{IsSchema};
+ghost use Rattle.rt_model.specs.Checked.{IsQuery};
 ghost use Rattle.rt_sql.specs.Run.{Answers};
 ghost use Rattle.rt_sql.specs.Parsing.{is_table, query_with, query_of};
 ghost use Rattle.rt_sql.specs.Queries.{IsTextOf, IsReadAs, IfMisspelt};
@@ -21,13 +22,15 @@ use std::alloc::{AllocError, Global};
 /// other name is a column's, and kinds and numbers fit. A text of more than 65,536 bytes, or one that
 /// nests deeper than 64 before its first fault, is refused as `Limit`; else of the refusals the first
 /// that applies is answered, by their order.
-#[tactic(auto, using(crate::proofs::Texts::answered_text, crate::proofs::Texts::text_answered, crate::proofs::Texts::answered_syntax))]
+#[tactic(auto, using(crate::proofs::Texts::answered_text, crate::proofs::Texts::text_answered, crate::proofs::Texts::answered_syntax, crate::proofs::Fitting::answered_fits))]
 pub fn parse(alloc: Global, text: &str, schema: &Schema, table: &str) -> Result<Query, SqlRefused>
     requires { IsSchema schema.now }
     // Which refusal it is, and which query.
     ensures exact { Answers (query_of schema.now table.now text.now) result }
     // What is answered is derived by the grammar.
     ensures derived { IfOk result (IsTextOf schema.now table.now text.now) }
+    // What is answered is a query over the schema.
+    ensures fits { IfOk result (IsQuery schema.now) }
     // What the grammar derives is answered.
     ensures only { (query : Query) → IsTextOf schema.now table.now text.now query → IsReadAs query result }
     // A refusal by syntax is at the first token that no query has in its place, or at a breach of a rule.

@@ -1,4 +1,4 @@
-use Rattle.std.proofs.Common.{◌≡◌, ◌+◌, ◌-◌, ◌≤◌, ◌<◌, ◌++◌, length, take, drop, get_or}
+use Rattle.std.proofs.Common.{◌≡◌, ◌-◌, ◌≤◌, ◌++◌, length, take, drop, get_or}
 use Rattle.rt_sql.specs.Tokens.{content, behind}
 use Rattle.rt_sql.proofs.content.content_at.Given as goal
 

@@ -1,4 +1,4 @@
-use Rattle.std.proofs.Common.{◌<◌, ◌≤◌, ◌+◌, length, arith, ap, sym, ◌∙◌, get_or}
+use Rattle.std.proofs.Common.{length, arith, ap, sym, ◌∙◌, get_or}
 use Rattle.std.proofs.lemmas.Result.{IfOk-weaker}
 use Rattle.rt_sql.specs.Tokens.{sign, first_token}
 use Rattle.rt_sql.proofs.Cutting.{first_quoted, first_text, first_sign, sign_within}
