@@ -1,5 +1,6 @@
 pub mod Completes
 pub mod Headers
 pub mod Limits
+pub mod Queries
 pub mod Tellings
 pub mod Writes

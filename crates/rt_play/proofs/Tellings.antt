@@ -10,7 +10,7 @@ use Rattle.rt_lines.specs.declared.play_fault.PlayFault.TheVariants.{Usage, Refu
 use Rattle.rt_world.specs.Kept.{Kept}
 use Rattle.rt_world.specs.declared.state.State.{State}
 use Rattle.rt_play.specs.declared.play_end.PlayEnd.{PlayEnd}
-use Rattle.rt_play.specs.Line.{event_of}
+use Rattle.rt_play.specs.Line.{line_in}
 use Rattle.rt_play.specs.Plays.{Puts, Stops, FailsWithin, PutsLines, Tells, PlaysLine, WritesAll}
 use Rattle.rt_play.specs.Report.{Report, ended, stopped, told, report_line, report_from}
 use Rattle.rt_play.proofs.Writes.{added_more}
@@ -63,7 +63,7 @@ runs_out_there report rest texts old now same puts =
 
 -- a line that stops the run
 pub tells_stop : (fault : PlayFault) (number : ℕ) (line text : List ℕ) (w v : Kept) (rest : State → Report) (report : Report) (texts : List (List ℕ)) (old now : SinkMeaning) →
-    PlaysLine number line w v text (Err fault) → report ≡ told_all texts (report_line number (event_of w.state.setup.table.name line) w.state rest) → Puts old now (concat texts) → Tells report old now (Err fault)
+    PlaysLine number line w v text (Err fault) → report ≡ told_all texts (report_line number (line_in w.state.setup line) w.state rest) → Puts old now (concat texts) → Tells report old now (Err fault)
 tells_stop (Refused at reason) number line text w v rest report texts old now plays same puts = stops_there report texts old now _ (same ∙ ap (told_all texts) (plays rest)) puts
 tells_stop (Limit which) number line text w v rest report texts old now plays same puts = stops_there report texts old now _ (same ∙ ap (told_all texts) (plays rest)) puts
 tells_stop Memory number line text w v rest report texts old now plays same puts = runs_out_there report _ texts old now same puts

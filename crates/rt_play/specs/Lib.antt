@@ -1,3 +1,4 @@
+pub mod Fits
 pub mod Line
 pub mod Outcome
 pub mod Plays

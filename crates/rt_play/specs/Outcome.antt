@@ -4,7 +4,7 @@ use Rattle.rt_model.specs.declared.replica_state.ReplicaState.{ReplicaState}
 use Rattle.rt_model.specs.declared.replica_state.ReplicaState.TheVariants.{InitialConsuming, CatchingUp, Holding, ConsumingToOnline, Retaining, Retained, Committing, Committed, Discarded}
 use Rattle.rt_lines.specs.Answer.{answer_bytes}
 use Rattle.rt_world.specs.declared.event.Event.{Event}
-use Rattle.rt_world.specs.declared.event.Event.TheVariants.{Produce, Consume, Query}
+use Rattle.rt_world.specs.declared.event.Event.TheVariants as event
 use Rattle.rt_world.specs.declared.outcome.Outcome.{Outcome}
 use Rattle.rt_world.specs.declared.outcome.Outcome.TheVariants.{Produced, Consumed, Answered}
 
@@ -21,10 +21,10 @@ state_text Discarded = codes "DISCARDED"
 
 -- what an event is about, as its line names it
 abbrev pub subject_text : Event → List ℕ
-subject_text (Produce partition message) = decimal partition.0
-subject_text (Consume instance partition sequence max) =
+subject_text (event.Produce partition message) = decimal partition.0
+subject_text (event.Consume instance partition sequence max) =
     codes "s" ++ (decimal instance.0 ++ (codes " " ++ (decimal partition.0 ++ (codes "/" ++ decimal sequence.0))))
-subject_text Query = []
+subject_text (event.Query query) = []
 
 -- what came of it: `@OFFSET`, or how far the replica is, what it holds and its state, or the answer
 abbrev pub outcome_text : List ℕ → Outcome → List ℕ
@@ -32,3 +32,7 @@ outcome_text subject (Produced offset) = codes "produced " ++ (subject ++ (codes
 outcome_text subject (Consumed cur rows state) =
     codes "consumed " ++ (subject ++ (codes " cur=" ++ (decimal cur.0 ++ (codes " rows=" ++ (decimal rows ++ (codes " " ++ (state_text state ++ codes "\n")))))))
 outcome_text subject (Answered answer) = codes "answer " ++ (answer_bytes answer ++ codes "\n")
+
+-- the line that is reported of a text that is no query, by the number of its refusal
+abbrev pub noquery_text : ℕ → List ℕ
+noquery_text number = codes "noquery " ++ (decimal number ++ codes "\n")

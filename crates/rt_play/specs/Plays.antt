@@ -13,7 +13,8 @@ use Rattle.rt_world.specs.Kept.{Kept}
 use Rattle.rt_world.specs.declared.state.State.{State}
 use Rattle.rt_play.specs.declared.reading.ReadStop.{ReadStop}
 use Rattle.rt_play.specs.declared.reading.ReadStop.TheVariants as stop
-use Rattle.rt_play.specs.Line.{event_of}
+use Rattle.rt_play.specs.declared.line.Line.{Line}
+use Rattle.rt_play.specs.Line.{line_in}
 use Rattle.rt_play.specs.Report.{Report, report_of, report_line, told, stopped}
 
 -- the most bytes of a script
@@ -147,13 +148,18 @@ ReadsAll from to (Err stop.Failed) = TakesSome from to × Rises from.faults to.f
 ReadsAll from to (Err stop.TooLong) = (some : TakesSome from to) × (input_limit < length some.input)
 ReadsAll from to (Err stop.Memory) = TakesSome from to
 
--- what is reported of a line, from a world on
+-- what is reported of what a line says, from a world on
+abbrev pub PlaysSaid : ℕ → Option Line → Kept → Kept → List ℕ → Result Unit PlayFault → Type 0
+PlaysSaid number said old new text (Ok done) =
+    (new.spent ≡ false) × ((rest : State → Report) → report_line number said old.state rest ≡ told text (rest new.state))
+PlaysSaid number said old new text (Err Memory) = Unit {0}
+PlaysSaid number said old new text (Err (Refused at reason)) =
+    (rest : State → Report) → report_line number said old.state rest ≡ stopped (Refused at reason)
+PlaysSaid number said old new text (Err (Limit which)) =
+    (rest : State → Report) → report_line number said old.state rest ≡ stopped (Limit which)
+PlaysSaid number said old new text (Err Usage) = ⊥
+PlaysSaid number said old new text (Err ReadFault) = ⊥
+PlaysSaid number said old new text (Err WriteFault) = ⊥
+
 abbrev pub PlaysLine : ℕ → List ℕ → Kept → Kept → List ℕ → Result Unit PlayFault → Type 0
-PlaysLine number line old new text (Ok done) =
-    (new.spent ≡ false) × ((rest : State → Report) → report_line number (event_of old.state.setup.table.name line) old.state rest ≡ told text (rest new.state))
-PlaysLine number line old new text (Err Memory) = Unit {0}
-PlaysLine number line old new text (Err (Refused at reason)) = (rest : State → Report) → report_line number (event_of old.state.setup.table.name line) old.state rest ≡ stopped (Refused at reason)
-PlaysLine number line old new text (Err (Limit which)) = (rest : State → Report) → report_line number (event_of old.state.setup.table.name line) old.state rest ≡ stopped (Limit which)
-PlaysLine number line old new text (Err Usage) = ⊥
-PlaysLine number line old new text (Err ReadFault) = ⊥
-PlaysLine number line old new text (Err WriteFault) = ⊥
+PlaysLine number line old new text result = PlaysSaid number (line_in old.state.setup line) old new text result

@@ -11,9 +11,12 @@ use Rattle.rt_world.specs.declared.outcome.Outcome.{Outcome}
 use Rattle.rt_world.specs.declared.refusal.Refusal.{Refusal}
 use Rattle.rt_world.specs.declared.refusal.Refusal.TheVariants.{NoSuchMessage, NoSuchNode, NodeDown, NothingToDo, Limit, Memory}
 use Rattle.rt_world.specs.declared.state.State.{State}
-use Rattle.rt_world.specs.Step.{Given, step, start}
-use Rattle.rt_play.specs.Line.{event_of}
-use Rattle.rt_play.specs.Outcome.{outcome_text, subject_text}
+use Rattle.rt_world.specs.Due.{Due, pass_due}
+use Rattle.rt_world.specs.Step.{Given, passed, step, start}
+use Rattle.rt_play.specs.declared.line.Line.{Line}
+use Rattle.rt_play.specs.declared.line.Line.TheVariants as said
+use Rattle.rt_play.specs.Line.{line_in}
+use Rattle.rt_play.specs.Outcome.{noquery_text, outcome_text, subject_text}
 
 pub record Report : Type 0 where
   pub texts : List (List ℕ)
@@ -43,14 +46,20 @@ abbrev pub report_step : ℕ → Event → Given → (State → Report) → Repo
 report_step line event (Ok x) rest = told (outcome_text (subject_text event) x.1) (rest x.0)
 report_step line event (Err refusal) rest = stopped (fault_at line refusal)
 
-abbrev pub report_line : ℕ → Option Event → State → (State → Report) → Report
+-- a text that is no query counts as an event, and changes nothing else
+abbrev pub report_pass : ℕ → ℕ → Due → State → (State → Report) → Report
+report_pass line number (Ok u) w rest = told (noquery_text number) (rest (passed w))
+report_pass line number (Err refusal) w rest = stopped (fault_at line refusal)
+
+abbrev pub report_line : ℕ → Option Line → State → (State → Report) → Report
 report_line line None w rest = stopped (fault.Refused line reason.BadLine)
-report_line line (Some event) w rest = report_step line event (step w event) rest
+report_line line (Some (said.Event event)) w rest = report_step line event (step w event) rest
+report_line line (Some (said.NoQuery number)) w rest = report_pass line number (pass_due w) w rest
 
 -- the report of lines from a world on
 abbrev pub report_from : List (ℕ × List ℕ) → State → Report
 report_from [] w = ended
-report_from (line ∷ lines) w = report_line line.0 (event_of w.setup.table.name line.1) w (report_from lines)
+report_from (line ∷ lines) w = report_line line.0 (line_in w.setup line.1) w (report_from lines)
 
 abbrev pub report_behind : Result (Setup × List (ℕ × List ℕ)) PlayFault → Report
 report_behind (Ok x) = report_from x.1 (start x.0)

@@ -1,25 +1,36 @@
--- The events of a script, and the run of them.
-use Rattle.std.specs.Prelude.{◌≡◌, ℕ, List, [], ◌∷◌, Option, None, Some, Result, Ok, Err}
+-- The run of a script: its worlds, line by line.
+use Rattle.std.specs.Prelude.{ℕ, List, [], ◌∷◌, Option, None, Some, Result, Ok, Err}
 use Rattle.rt_model.specs.declared.setup.Setup.{Setup}
 use Rattle.rt_lines.specs.declared.play_fault.PlayFault.{PlayFault}
 use Rattle.rt_lines.specs.Header.{header_of}
 use Rattle.rt_lines.specs.Lines.{script_lines}
-use Rattle.rt_world.specs.declared.event.Event.{Event}
-use Rattle.rt_world.specs.Run.{IsSafeRun}
-use Rattle.rt_world.specs.Step.{start}
-use Rattle.rt_play.specs.Line.{event_of}
+use Rattle.rt_world.specs.declared.state.State.{State}
+use Rattle.rt_world.specs.Due.{Due, pass_due}
+use Rattle.rt_world.specs.RightAnswer.{IsRightAfter}
+use Rattle.rt_world.specs.Run.{then_all}
+use Rattle.rt_world.specs.Safe.{IsSafe}
+use Rattle.rt_world.specs.Step.{passed, start, step}
+use Rattle.rt_play.specs.declared.line.Line.{Line}
+use Rattle.rt_play.specs.declared.line.Line.TheVariants as said
+use Rattle.rt_play.specs.Line.{line_in}
 
-abbrev pub event_before : Option Event → List Event → List Event
-event_before None events = []
-event_before (Some event) events = event ∷ events
+abbrev pub IsSafePass : Due → State → (State → Type 0) → Type 0
+IsSafePass (Ok u) w rest = rest (passed w)
+IsSafePass (Err refusal) w rest = Unit {0}
 
--- the events of lines in the script of a table, up to the first line that is outside the grammar
-abbrev pub events_of : List ℕ → List (ℕ × List ℕ) → List Event
-events_of table [] = []
-events_of table (line ∷ lines) = event_before (event_of table line.1) (events_of table lines)
+-- what comes of a line is right, and so are the lines behind it
+abbrev pub IsSafeLine : Option Line → State → (State → Type 0) → Type 0
+IsSafeLine None w rest = Unit {0}
+IsSafeLine (Some (said.Event event)) w rest = IsRightAfter event (step w event) × then_all (step w event) rest
+IsSafeLine (Some (said.NoQuery number)) w rest = IsSafePass (pass_due w) w rest
+
+-- every world of the run of lines is safe, and every answer in it is right
+abbrev pub IsSafeFrom : List (ℕ × List ℕ) → State → Type 0
+IsSafeFrom [] w = IsSafe w
+IsSafeFrom (line ∷ lines) w = IsSafe w × IsSafeLine (line_in w.setup line.1) w (IsSafeFrom lines)
 
 abbrev pub IsSafeBehind : Result (Setup × List (ℕ × List ℕ)) PlayFault → Type 0
-IsSafeBehind (Ok x) = IsSafeRun (events_of x.0.table.name x.1) (start x.0)
+IsSafeBehind (Ok x) = IsSafeFrom x.1 (start x.0)
 IsSafeBehind (Err fault) = Unit {0}
 
 -- every world of a script's run is safe, and every answer in it is right

@@ -1,12 +1,15 @@
-ghost use Rattle.std.specs.Prelude.{◌≡◌, IfOk};
-ghost use Rattle.rt_lines.specs.Words.{number_of};
+ghost use Rattle.std.specs.Str.{is_utf8};
+ghost use Rattle.std.specs.Prelude.{◌≡◌, true, false, IfOk, IfSome, IfNone};
+ghost use Rattle.rt_lines.specs.Words.{number_of as decimal_of};
+ghost use Rattle.rt_play.specs.Fits.{FitsLine};
+ghost use Rattle.rt_schema.specs.Schema.{IsSchema};
+ghost use Rattle.rt_sql.specs.Parsing.{query_of as query_in};
 ghost use Rattle.rt_play.specs.Line.{
+  asked,
   batch_of,
   consume_of,
-  event_of,
   index_of,
-  is_count,
-  is_table,
+  line_of,
   produce_of,
   query_of,
   segment_of,
@@ -14,26 +17,44 @@ ghost use Rattle.rt_play.specs.Line.{
 };
 
 use rt_base::{Instance, Partition, Sequence};
-use rt_lines::{after_prefix, number_up_to, part_at};
+use rt_lines::{number_up_to, part_at};
 use rt_lists::{Bytes, Text};
+use rt_schema::Schema;
+use rt_sql::{SqlRefused, parse};
 use rt_world::Event;
 use std::alloc::{AllocError, Global};
 
-/// The event of a line behind the header, or none where the line is outside the grammar.
-pub(crate) fn event(alloc: Global, table: &Text, line: &[u8]) -> Result<Option<Event>, AllocError>
-    ensures { IfOk result (λ event. event ≡ event_of table.now line.now) }
+/// What a line says behind the header.
+#[derive(Drop)]
+pub(crate) enum Line {
+    /// It is an event.
+    Event(Event),
+    /// It asks for a query by a text that is none, which is refused by this number.
+    NoQuery(u32),
+}
+
+/// What a line says in the script of a table, or none where the line is outside the grammar.
+pub(crate) fn read_line(
+    alloc: Global,
+    schema: &Schema,
+    table: &Text,
+    line: &[u8],
+) -> Result<Option<Line>, AllocError>
+    requires { IsSchema schema.now }
+    ensures line { IfOk result (λ said. said ≡ line_of schema.now table.now line.now) }
+    ensures fits { IfOk result (λ said. IfSome said (FitsLine schema.now)) }
 {
     let Some((word, text)) = part_at(line, b' ') else {
         return Ok(None);
     };
     if word == b"produce".as_slice() {
-        return produce(alloc, text);
+        return Ok(produce(alloc, text)?.map(Line::Event));
     }
     if word == b"consume".as_slice() {
-        return Ok(consume(text));
+        return Ok(consume(text).map(Line::Event));
     }
     if word == b"query".as_slice() {
-        return Ok(query(table, text));
+        return query(alloc, schema, table, text);
     }
     Ok(None)
 }
@@ -113,32 +134,49 @@ fn batch(count: u64) -> u32
     }
 }
 
-// The one query that is taken so far: the count of the table's rows.
-fn query(table: &Text, text: &[u8]) -> Option<Event>
-    ensures { result ≡ query_of table.now text.now }
+// A query of the table, where the text is one.
+#[tactic(auto, using(crate::proofs::Queries::text_asked, crate::proofs::Queries::bytes_refused))]
+fn query(
+    alloc: Global,
+    schema: &Schema,
+    table: &Text,
+    text: &[u8],
+) -> Result<Option<Line>, AllocError>
+    requires { IsSchema schema.now }
+    ensures line { IfOk result (λ line. line ≡ query_of schema.now table.now text.now) }
+    ensures fits { IfOk result (λ line. IfSome line (FitsLine schema.now)) }
 {
-    if is_count(table, text) {
-        Some(Event::Query)
-    } else {
-        None
+    match utf8(text) {
+        Some(text) => Ok(Some(ask(alloc, schema, table, text)?)),
+        None => Ok(None),
     }
 }
 
-fn is_count(table: &Text, text: &[u8]) -> bool
-    ensures { result ≡ is_count table.now text.now }
+#[tactic(auto, using(crate::proofs::Queries::is_text, crate::proofs::Queries::is_no_text))]
+fn utf8(text: &[u8]) -> Option<&str>
+    ensures some { IfSome result (λ found. (found.now ≡ text.now) × (is_utf8 text.now ≡ true)) }
+    ensures none { IfNone result (is_utf8 text.now ≡ false) }
 {
-    match after_prefix(text, b"SELECT COUNT(*) FROM ".as_slice()) {
-        Some(name) => is_table(table, name),
-        None => false,
+    match str::from_utf8(text) {
+        Ok(text) => Some(text),
+        Err(_) => None,
     }
 }
 
-// Whether a name is the table's, with or without the suffix of its kind.
-fn is_table(table: &Text, name: &[u8]) -> bool
-    ensures { result ≡ is_table table.now name.now }
+// What a text behind `query` says.
+#[tactic(auto, using(crate::proofs::Queries::asked_by))]
+fn ask(alloc: Global, schema: &Schema, table: &Text, text: &str) -> Result<Line, AllocError>
+    requires { IsSchema schema.now }
+    ensures line { IfOk result (λ line. line ≡ asked (query_in schema.now table.now text.now)) }
+    ensures fits { IfOk result (FitsLine schema.now) }
 {
-    match after_prefix(name, table.as_bytes()) {
-        Some(suffix) => suffix.is_empty() || suffix == b"_REALTIME".as_slice(),
-        None => false,
+    match parse(alloc, text, schema, table.as_str()) {
+        Ok(query) => Ok(Line::Event(Event::Query { query })),
+        Err(SqlRefused::Syntax { byte: _ }) => Ok(Line::NoQuery(1)),
+        Err(SqlRefused::NoTable) => Ok(Line::NoQuery(2)),
+        Err(SqlRefused::NoColumn) => Ok(Line::NoQuery(3)),
+        Err(SqlRefused::WrongType) => Ok(Line::NoQuery(4)),
+        Err(SqlRefused::Limit) => Ok(Line::NoQuery(5)),
+        Err(SqlRefused::Memory) => Err(AllocError),
     }
 }

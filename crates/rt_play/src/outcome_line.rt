@@ -1,6 +1,6 @@
 ghost use Rattle.std.specs.Prelude.{◌≡◌, ◌++◌, OnOk, codes, string_bytes};
 ghost use Rattle.rt_lines.specs.Answer.{answer_bytes};
-ghost use Rattle.rt_play.specs.Outcome.{outcome_text, state_text, subject_text};
+ghost use Rattle.rt_play.specs.Outcome.{noquery_text, outcome_text, state_text, subject_text};
 
 use rt_base::Offset;
 use rt_lines::write_answer;
@@ -21,6 +21,14 @@ pub(crate) fn write_outcome(
         Outcome::Consumed { cur, rows, state } => write_consumed(out, event, *cur, *rows, *state),
         Outcome::Answered(answer) => write_answered(out, answer),
     }
+}
+
+/// Adds the line that is reported of a text that is no query, by the number of its refusal.
+pub(crate) fn write_noquery(out: &mut String, number: u32) -> Result<(), AllocError>
+    ensures { OnOk result (string_bytes out.new ≡ string_bytes out.old ++ noquery_text number) }
+{
+    write!(out, "noquery {number}\n")?;
+    Ok(())
 }
 
 fn write_produced(out: &mut String, event: &Event, offset: Offset) -> Result<(), AllocError>
@@ -69,7 +77,7 @@ fn write_subject(out: &mut String, event: &Event) -> Result<(), AllocError>
             sequence,
             ..
         } => write!(out, "s{} {}/{}", instance.0, partition.0, sequence.0),
-        Event::Query => Ok(()),
+        Event::Query { query: _ } => Ok(()),
     }
 }
 

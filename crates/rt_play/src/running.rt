@@ -1,17 +1,19 @@
-ghost use Rattle.std.specs.Prelude.{◌≡◌, ◌<◌, ◌^◌, false, length, string_bytes};
+ghost use Rattle.std.specs.Prelude.{◌≡◌, ◌<◌, ◌^◌, [], false, Some, length, string_bytes};
 ghost use Rattle.rt_world.specs.Safe.{IsSetup};
 ghost use Rattle.rt_world.specs.Step.{start};
-ghost use Rattle.rt_play.specs.Plays.{PlaysLine, Tells};
+ghost use Rattle.rt_play.specs.Plays.{PlaysLine, PlaysSaid, Tells};
+ghost use Rattle.rt_play.specs.declared.line.Line.TheVariants as Line;
+ghost use Rattle.rt_world.specs.Fits.{Fits};
 ghost use Rattle.rt_play.specs.Report.{fault_at, report_from, report_of};
 
 use crate::PlayEnd;
-use crate::line::event;
-use crate::outcome_line::write_outcome;
+use crate::line::{Line, read_line};
+use crate::outcome_line::{write_noquery, write_outcome};
 use crate::writing::write_all;
 use rt_base::Sink;
 use rt_lines::{LineReason, Lines, PlayFault, read_header};
 use rt_model::Setup;
-use rt_world::{Refusal, World};
+use rt_world::{Event, Refusal, World};
 use std::alloc::Global;
 
 /// Runs a script, and writes its report.
@@ -86,15 +88,49 @@ fn play_line(
     ensures { PlaysLine number line.now world.old world.new (string_bytes text.new) result }
 {
     text.clear();
-    let Some(event) = event(alloc, world.table_name(), line)? else {
-        return Err(PlayFault::Refused {
-            line: number,
-            reason: LineReason::BadLine,
-        });
-    };
-    match world.apply(alloc, &event) {
+    match read_line(alloc, world.schema(), world.table_name(), line)? {
+        Some(Line::Event(event)) => play_event(alloc, world, number, &event, text),
+        Some(Line::NoQuery(refused)) => pass_line(world, number, refused, text),
+        None => Err(refused(number, LineReason::BadLine)),
+    }
+}
+
+// Has an event happen, and makes the text that is reported of it.
+fn play_event(
+    alloc: Global,
+    world: &mut World,
+    number: u64,
+    event: &Event,
+    text: &mut String,
+) -> Result<(), PlayFault>
+    requires unspent { world.old.spent ≡ false }
+    requires fits { Fits world.old.state.setup.schema event.now }
+    requires empty { string_bytes text.old ≡ [] }
+    ensures { PlaysSaid number (Some (Line.Event event.now)) world.old world.new (string_bytes text.new) result }
+{
+    match world.apply(alloc, event) {
         Ok(outcome) => {
-            write_outcome(text, &event, &outcome)?;
+            write_outcome(text, event, &outcome)?;
+            Ok(())
+        }
+        Err(refusal) => Err(fault(number, refusal)),
+    }
+}
+
+// Passes over a text that is no query, and makes the text that is reported of it.
+fn pass_line(
+    world: &mut World,
+    number: u64,
+    refused: u32,
+    text: &mut String,
+) -> Result<(), PlayFault>
+    requires unspent { world.old.spent ≡ false }
+    requires empty { string_bytes text.old ≡ [] }
+    ensures { PlaysSaid number (Some (Line.NoQuery refused)) world.old world.new (string_bytes text.new) result }
+{
+    match world.pass() {
+        Ok(()) => {
+            write_noquery(text, refused)?;
             Ok(())
         }
         Err(refusal) => Err(fault(number, refusal)),

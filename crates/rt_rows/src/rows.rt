@@ -18,7 +18,7 @@ struct Row {
     fault: &'static str,
 }
 
-const ROWS: [Row; 16] = [
+const ROWS: [Row; 20] = [
     Row {
         name: "the header alone",
         lines: "",
@@ -32,9 +32,33 @@ const ROWS: [Row; 16] = [
         fault: "",
     },
     Row {
-        name: "a query over nothing",
-        lines: "query SELECT COUNT(*) FROM t",
-        report: "answer {\"ranges\":[],\"missing\":[],\"rows\":[[0]]}\n",
+        name: "three queries over nothing",
+        lines: "query SELECT COUNT(*) FROM t\nquery SELECT MIN(v) FROM t\nquery SELECT k, COUNT(*) FROM t GROUP BY k",
+        report: "answer {\"ranges\":[],\"missing\":[],\"rows\":[[0]]}\nanswer {\"ranges\":[],\"missing\":[],\"rows\":[[null]]}\nanswer {\"ranges\":[],\"missing\":[],\"rows\":[]}\n",
+        fault: "",
+    },
+    Row {
+        name: "three refused queries",
+        lines: "query SELECT COUNT(*) FROM t WHERE z = 1\nquery SELECT COUNT(* FROM t\nquery SELECT SUM(k) FROM t\n",
+        report: "noquery 3\nnoquery 1\nnoquery 4\n",
+        fault: "",
+    },
+    Row {
+        name: "a grouped and ordered sum",
+        lines: "produce 0 {\"k\":\"a\",\"v\":1}\nproduce 0 {\"k\":\"b\",\"v\":2}\nproduce 0 {\"k\":\"a\",\"v\":3}\nconsume s0 0/0 3\nquery SELECT k, SUM(v) FROM t WHERE v >= 1 GROUP BY k ORDER BY SUM(v) DESC\n",
+        report: "produced 0@0\nproduced 0@1\nproduced 0@2\nconsumed s0 0/0 cur=3 rows=3 INITIAL_CONSUMING\nanswer {\"ranges\":[[0,0,3]],\"missing\":[],\"rows\":[[\"a\",4],[\"b\",2]]}\n",
+        fault: "",
+    },
+    Row {
+        name: "a query of no text, and none",
+        lines: "query \nquery\n",
+        report: "noquery 1\n",
+        fault: "line 5: BadLine",
+    },
+    Row {
+        name: "a query of another table, and a limit too large",
+        lines: "query SELECT COUNT(*) FROM u\nquery SELECT COUNT(*) FROM t LIMIT 1000001\n",
+        report: "noquery 2\nnoquery 5\n",
         fault: "",
     },
     Row {

@@ -1,18 +1,20 @@
 -- What tests tell.
-use Rattle.std.proofs.Common.{◌≡◌, ◌+◌, ◌<◌, ◌≤◌, ℕ, Bool, true, false, ◌&&◌, if◌then◌else◌, List, [], length, get_or, Ok, Err, refl, sym, ap, subst, arith, rules}
+use Rattle.std.proofs.Common.{◌≡◌, ◌+◌, ◌<◌, ◌≤◌, ℕ, Bool, true, false, ◌&&◌, if◌then◌else◌, All, List, [], length, get_or, Ok, Err, refl, sym, ap, subst, arith, rules}
 use Rattle.std.proofs.lemmas.Bool.{ltb-true, leb-true, eqb-true}
 use Rattle.rt_base.specs.declared.numbers.Instance.{Instance}
 use Rattle.rt_base.specs.declared.numbers.Partition.{Partition}
 use Rattle.rt_base.specs.declared.numbers.Sequence.{Sequence}
 use Rattle.rt_world.specs.declared.event.Event.{Event}
-use Rattle.rt_world.specs.declared.event.Event.TheVariants.{Produce, Consume, Query}
+use Rattle.rt_world.specs.declared.event.Event.TheVariants as event
 use Rattle.rt_world.specs.declared.refusal.Refusal.{Refusal}
 use Rattle.rt_world.specs.declared.refusal.Refusal.TheVariants.{NoSuchMessage, NoSuchNode, NodeDown, NothingToDo, Limit, Memory}
 use Rattle.rt_world.specs.declared.state.State.{State}
 use Rattle.rt_world.specs.Due.{Due, room_for, produce_due, consume_due, due_of, events_limit, message_limit}
 use Rattle.rt_schema.specs.Schema.{IsSchema}
 use Rattle.rt_stream.specs.Log.{messages_of}
+use Rattle.rt_world.specs.Held.{messages_between}
 use Rattle.rt_world.specs.Kept.{Kept}
+use Rattle.rt_world.proofs.Places.{FitsPlaced, all_fitting}
 use Rattle.rt_world.specs.Safe.{IsSafe}
 use Rattle.rt_world.specs.Step.{Steps, step, given_by, after}
 
@@ -63,9 +65,9 @@ named_if true x y p q = p
 named_if false x y p q = q
 
 pub due_named : (w : State) (event : Event) → IsNamed (due_of w event)
-due_named w (Produce p m) = search (named_if, rules)
-due_named w (Consume i p q max) = search (named_if, rules)
-due_named w Query = search (named_if, rules)
+due_named w (event.Produce p m) = search (named_if, rules)
+due_named w (event.Consume i p q max) = search (named_if, rules)
+due_named w (event.Query query) = search (named_if, rules)
 
 pub refused_step : (w : State) (event : Event) (e : Refusal) → due_of w event ≡ Err e → step w event ≡ Err e
 refused_step w event e h = ap (λ due. given_by due (after w event)) h
@@ -102,3 +104,9 @@ consume_room w i p q max s due =
       subst (λ n. w.replica.cur.0 ≤ length (get_or w.log n [])) within.1 s.held.within,
       s.limited,
     )
+
+-- what a query needs of a safe world
+pub held_fits : (w : State) → IsSafe w → All (FitsPlaced w.setup.schema) w.replica.held
+held_fits w s =
+    subst (All (FitsPlaced w.setup.schema)) (sym s.held.rows)
+    (all_fitting w.setup.schema w.replica.start.0 (messages_between (messages_of w.log w.replica.partition) w.replica.start.0 w.replica.cur.0))

@@ -1,5 +1,5 @@
 -- Each event keeps a world safe, and its answer is right.
-use Rattle.std.proofs.Common.{◌≡◌, ◌+◌, ◌-◌, ◌<◌, ◌≤◌, ◌==◌, ℕ, Bool, true, false, if◌then◌else◌, List, [], ◌∷◌, ◌++◌, length, take, drop, get_or, pos, Ok, refl, sym, ◌∙◌, ap, subst, arith}
+use Rattle.std.proofs.Common.{◌≡◌, ◌+◌, ◌-◌, ◌<◌, ◌≤◌, ◌==◌, ℕ, Bool, true, false, if◌then◌else◌, List, [], ◌∷◌, ◌++◌, length, take, drop, get_or, map, All, Some, Ok, refl, sym, ◌∙◌, ap, subst, arith}
 use Rattle.std.proofs.lemmas.Bool.{eqb-true, eqb-false}
 use Rattle.std.proofs.lemmas.List.{length-replicate, length-append, length-drop, length-set, take-append-le, drop-append-le, get_or-set_same, get_or-set_other}
 use Rattle.std.proofs.lemmas.List.{append-nil}
@@ -9,25 +9,26 @@ use Rattle.rt_base.specs.declared.numbers.Moment.{Moment}
 use Rattle.rt_base.specs.declared.numbers.Partition.{Partition}
 use Rattle.rt_base.specs.declared.numbers.Sequence.{Sequence}
 use Rattle.rt_base.specs.declared.range.Range.{Range}
-use Rattle.rt_model.specs.declared.answer.Answer.{Answer}
-use Rattle.rt_model.specs.declared.answer.Cell.TheVariants.{Whole}
+use Rattle.rt_model.specs.Aggregate.{aggregate}
+use Rattle.rt_model.specs.RightAnswer.{IsRightAnswer, IsServed, named_ranges, rows_of}
+use Rattle.rt_model.specs.declared.query.Query.{Query}
 use Rattle.rt_model.specs.declared.setup.Setup.{Setup}
 use Rattle.std.specs.List.{filter_map}
 use Rattle.rt_schema.specs.declared.schema.Schema.{Schema}
 use Rattle.rt_schema.specs.Row.{row_of, rows_between}
 use Rattle.rt_stream.specs.Log.{messages_of, with_message}
 use Rattle.rt_world.specs.declared.event.Event.{Event}
-use Rattle.rt_world.specs.declared.event.Event.TheVariants.{Produce, Consume, Query}
+use Rattle.rt_world.specs.declared.event.Event.TheVariants as event
 use Rattle.rt_world.specs.declared.outcome.Outcome.{Outcome}
 use Rattle.rt_world.specs.declared.replica.Replica.{Replica}
 use Rattle.rt_world.specs.declared.state.State.{State}
-use Rattle.rt_world.specs.Due.{due_of, produce_due, consume_due}
+use Rattle.rt_world.specs.Due.{due_of, produce_due, consume_due, pass_due}
 use Rattle.rt_world.specs.Held.{IsHeld, messages_between, placed_from}
-use Rattle.rt_world.specs.RightAnswer.{IsRightCount, IsRightOutcome, IsNamed}
+use Rattle.rt_world.specs.RightAnswer.{IsRightOutcome}
 use Rattle.rt_world.specs.Safe.{IsSafe, IsSetup}
-use Rattle.rt_world.specs.Step.{start, after, produced, consumed, advanced, took, batch, count_of}
+use Rattle.rt_world.specs.Step.{start, after, produced, consumed, advanced, took, batch, answer_of, passed, piece_of, routed_of, rows_held}
 use Rattle.rt_world.proofs.Filling.{batch_fits, limited_batch}
-use Rattle.rt_world.proofs.Places.{between_append, length_between, placed_append, length_placed}
+use Rattle.rt_world.proofs.Places.{between_append, length_between, placed_append, rows_placed}
 use Rattle.rt_world.proofs.Conditions.{produce_within, consume_within, room_true}
 
 -- what is held stays held as the log grows
@@ -45,16 +46,6 @@ held_grows schema ms more r k =
           ∙ take-append-le (r.cur.0 - r.start.0) (drop r.start.0 ms) more
           (omega (arith, k.ordered, k.within, length-drop r.start.0 ms))));
     }
-
--- a replica holds as many rows as its messages have
-pub length_held :
-    (schema : Schema) (log : List (List (List ℕ))) (p : Partition) (r : Replica) → IsHeld schema (messages_of log p) r →
-    length r.held ≡ length (rows_between schema log p.0 r.start.0 r.cur.0)
-length_held schema log p r k =
-    ap length k.rows ∙ length_placed schema r.start.0 (messages_between (messages_of log p) r.start.0 r.cur.0)
-
-pub lt_from_ne : (a b : ℕ) → a ≤ b → (a ≡ b → ⊥) → a < b
-lt_from_ne a b h n = omega (arith, h, n)
 
 -- a replica that advances holds the messages of more offsets
 pub held_advanced :
@@ -137,68 +128,87 @@ Safe_consumed w i p q max s due =
       counted = within.2;
     }
 
+-- a line that is no event
+pub Safe_passed : (w : State) → IsSafe w → pass_due w ≡ Ok tt → IsSafe (passed w)
+Safe_passed w s due =
+    record { partitions = s.partitions; logged = s.logged; held = s.held; limited = s.limited; schema = s.schema; counted = room_true 1 w due }
+
 pub Safe_after : (w : State) (event : Event) → IsSafe w → due_of w event ≡ Ok tt → IsSafe (after w event).0
-Safe_after w (Produce p m) s due = Safe_produced w p m s due
-Safe_after w (Consume i p q max) s due = Safe_consumed w i p q max s due
-Safe_after w Query s due =
+Safe_after w (event.Produce p m) s due = Safe_produced w p m s due
+Safe_after w (event.Consume i p q max) s due = Safe_consumed w i p q max s due
+Safe_after w (event.Query query) s due =
     record { partitions = s.partitions; logged = s.logged; held = s.held; limited = s.limited; schema = s.schema; counted = room_true 4 w due }
 
--- the count of a replica counts the rows of the range that it names
-abbrev pub counted_as : List (Partition × Range) → ℕ → Answer
-counted_as ranges n =
-    record { ranges = ranges; missing = []; rows = record { cells = Whole (pos n) ∷ [] } ∷ [] }
-
-pub right_none : (schema : Schema) (log : List (List (List ℕ))) (n : ℕ) → n ≡ 0 → IsRightCount schema log (counted_as [] n)
-right_none schema log n e =
-    record {
-      named = All-nil (IsNamed log);
-      apart = tt;
-      missing = refl;
-      rows = ap (λ k. record { cells = Whole (pos k) ∷ [] } ∷ []) e;
-    }
-
-pub right_one :
-    (schema : Schema) (log : List (List (List ℕ))) (r : Partition × Range) (n : ℕ) →
-    IsNamed log r → n ≡ length (rows_between schema log r.0.0 r.1.start.0 r.1.end.0) →
-    IsRightCount schema log (counted_as (r ∷ []) n)
-right_one schema log r n named e =
-    record {
-      named = All-cons (IsNamed log) r [] named (All-nil (IsNamed log));
-      apart = (tt, tt);
-      missing = refl;
-      rows =
-          ap (λ k. record { cells = Whole (pos k) ∷ [] } ∷ [])
-          (e ∙ ap length (sym (append-nil (rows_between schema log r.0.0 r.1.start.0 r.1.end.0))));
-    }
+-- the rows that a replica holds are those of its range
+pub rows_of_held :
+    (schema : Schema) (log : List (List (List ℕ))) (p : Partition) (r : Replica) → IsHeld schema (messages_of log p) r →
+    rows_held r ≡ rows_between schema log p.0 r.start.0 r.cur.0
+rows_of_held schema log p r k =
+    ap (map (λ p. p.row)) k.rows ∙ rows_placed schema r.start.0 (messages_between (messages_of log p) r.start.0 r.cur.0)
 
 -- an empty range has no rows
 pub rows_none :
-    (schema : Schema) (log : List (List (List ℕ))) (p a b : ℕ) → a ≡ b → length (rows_between schema log p a b) ≡ 0
+    (schema : Schema) (log : List (List (List ℕ))) (p a b : ℕ) → a ≡ b → rows_between schema log p a b ≡ []
 rows_none schema log p a b e =
     let none : b - a ≡ 0 = omega (arith, e) in
-    ap (λ n. length (filter_map (row_of schema) (take n (drop a (get_or log p []))))) none
+    ap (λ n. filter_map (row_of schema) (take n (drop a (get_or log p [])))) none
 
-pub right_count_at :
-    (schema : Schema) (log : List (List (List ℕ))) (r : Replica) (b : Bool) →
-    (r.start.0 == r.cur.0) ≡ b → r.partition.0 < length log → IsHeld schema (messages_of log r.partition) r →
-    IsRightCount schema log (counted_as (if b then [] else (r.partition, record { start = r.start; end = r.cur }) ∷ []) (length r.held))
-right_count_at schema log r true e h k =
-    right_none schema log (length r.held)
-    (length_held schema log r.partition r k ∙ rows_none schema log r.partition.0 r.start.0 r.cur.0 (eqb-true r.start.0 r.cur.0 e))
-right_count_at schema log r false e h k =
-    right_one schema log (r.partition, record { start = r.start; end = r.cur }) (length r.held)
-    (h, lt_from_ne r.start.0 r.cur.0 k.ordered (eqb-false r.start.0 r.cur.0 e), k.within)
-    (length_held schema log r.partition r k)
+abbrev pub ranges_by : Bool → Replica → List (Partition × Range)
+ranges_by true r = []
+ranges_by false r = (r.partition, record { start = r.start; end = r.cur }) ∷ []
 
-pub right_count :
-    (w : State) → IsSafe w → IsRightCount w.setup.schema w.log (count_of w.replica)
-right_count w s = right_count_at w.setup.schema w.log w.replica (w.replica.start.0 == w.replica.cur.0) refl s.logged s.held
+pub ranges_named : (r : Replica) (b : Bool) → (r.start.0 == r.cur.0) ≡ b → named_ranges (routed_of r) ≡ ranges_by b r
+ranges_named r true e = ap (λ t. map (λ x. (r.partition, x)) (if t then [] else (record { start = r.start; end = r.cur } ∷ [])) ++ []) e
+ranges_named r false e = ap (λ t. map (λ x. (r.partition, x)) (if t then [] else (record { start = r.start; end = r.cur } ∷ [])) ++ []) e
+
+pub ranges_none : (r : Replica) → (r.start.0 == r.cur.0) ≡ true → named_ranges (routed_of r) ≡ []
+ranges_none r e = ranges_named r true e
+
+pub ranges_one :
+    (r : Replica) → (r.start.0 == r.cur.0) ≡ false →
+    named_ranges (routed_of r) ≡ (r.partition, record { start = r.start; end = r.cur }) ∷ []
+ranges_one r e = ranges_named r false e
+
+pub rows_named :
+    (schema : Schema) (log : List (List (List ℕ))) (r : Replica) (b : Bool) → (r.start.0 == r.cur.0) ≡ b →
+    IsHeld schema (messages_of log r.partition) r → rows_held r ≡ rows_of schema log (ranges_by b r)
+rows_named schema log r true e k =
+    rows_of_held schema log r.partition r k ∙ rows_none schema log r.partition.0 r.start.0 r.cur.0 (eqb-true r.start.0 r.cur.0 e)
+rows_named schema log r false e k =
+    rows_of_held schema log r.partition r k ∙ sym (append-nil (rows_between schema log r.partition.0 r.start.0 r.cur.0))
+
+abbrev IsWithin : List (List (List ℕ)) → Partition → Range → Type 0
+IsWithin log p r = r.end.0 ≤ length (messages_of log p)
+
+pub served_held :
+    (schema : Schema) (log : List (List (List ℕ))) (r : Replica) →
+    IsHeld schema (messages_of log r.partition) r → All (IsServed log) (routed_of r)
+served_held schema log r k =
+    let within = IsWithin log r.partition in
+    All-cons (IsServed log) (record { partition = r.partition; pieces = Some (piece_of r ∷ []) }) [] (record {
+      in_order = (omega arith, k.ordered, tt);
+      within = All-cons within (record { start = r.start; end = r.cur }) [] k.within (All-nil within);
+    }) (All-nil (IsServed log))
+
+-- the answer from what a replica holds is right
+pub right_answer : (w : State) (query : Query) → IsSafe w → IsRightAnswer w.setup.schema w.log query (routed_of w.replica) (answer_of query w.replica)
+right_answer w query s =
+    let b = w.replica.start.0 == w.replica.cur.0 in
+    record {
+      served = served_held w.setup.schema w.log w.replica s.held;
+      ranges = refl;
+      missing = refl;
+      rows =
+          ap (aggregate query)
+          (rows_named w.setup.schema w.log w.replica b refl s.held
+          ∙ ap (rows_of w.setup.schema w.log) (sym (ranges_named w.replica b refl)));
+    }
 
 pub right_after :
-    (w : State) (event : Event) → IsSafe w → IsRightOutcome (after w event).0 (after w event).1
-right_after w (Produce p m) s = tt
-right_after w (Consume i p q max) s = tt
-right_after w Query s = right_count w s
+    (w : State) (event : Event) → IsSafe w → IsRightOutcome (after w event).0 event (after w event).1
+right_after w (event.Produce p m) s = tt
+right_after w (event.Consume i p q max) s = tt
+right_after w (event.Query query) s = right_answer w query s
 
 -- the first world is safe
 pub Safe_start : (setup : Setup) → IsSetup setup → IsSafe (start setup)
@@ -221,6 +231,6 @@ kept_after old new event outcome s due e = subst IsSafe (sym (ap (λ x. x.0) e))
 
 pub right_outcome :
     (old new : State) (event : Event) (outcome : Outcome) →
-    IsSafe old → (new, outcome) ≡ after old event → IsRightOutcome new outcome
+    IsSafe old → (new, outcome) ≡ after old event → IsRightOutcome new event outcome
 right_outcome old new event outcome s e =
-    subst (λ x. IsRightOutcome x.0 x.1) (sym e) (right_after old event s)
+    subst (λ x. IsRightOutcome x.0 event x.1) (sym e) (right_after old event s)

@@ -1,12 +1,14 @@
 -- The messages of a range, and their rows with their offsets.
-use Rattle.std.proofs.Common.{◌≡◌, ◌+◌, ◌-◌, ◌≤◌, ℕ, List, [], ◌∷◌, ◌++◌, length, take, drop, get_or, slice_get, Option, Some, None, refl, ap, sym, ◌∙◌, add-zero, suc, arith}
+use Rattle.std.proofs.Common.{◌≡◌, ◌+◌, ◌-◌, ◌≤◌, ℕ, List, [], ◌∷◌, ◌++◌, length, map, take, drop, get_or, slice_get, Option, Some, None, All, IfSome, refl, ap, sym, ◌∙◌, add-zero, arith}
 use Rattle.std.specs.List.{filter_map, cons_option}
 use Rattle.std.proofs.lemmas.Option.{get_or_from_slice_get, slice_get_within}
 use Rattle.std.proofs.lemmas.List.{get_or-drop, length-drop, length-take-le, take_more, append_assoc, append-nil, drop-drop}
+use Rattle.std.proofs.lemmas.List.Elements.{All-nil, All-cons}
 use Rattle.std.proofs.Math.Seq.{take-add}
 use Rattle.rt_schema.specs.declared.row.Row.{Row}
 use Rattle.rt_schema.specs.declared.schema.Schema.{Schema}
-use Rattle.rt_schema.specs.Row.{row_of}
+use Rattle.rt_schema.specs.Row.{row_of, IsRowOf}
+use Rattle.rt_schema.proofs.Rows.{row_of_kinds}
 use Rattle.rt_world.specs.declared.replica.Placed.{Placed}
 use Rattle.rt_world.specs.Held.{placed_from, placed_row, messages_between}
 use Rattle.rt_world.specs.Step.{room_of}
@@ -72,17 +74,34 @@ pub length_placed_row : (offset : ℕ) (row : Option Row) → length (placed_row
 length_placed_row offset None = refl
 length_placed_row offset (Some row) = refl
 
--- a row of each decodable message
-pub length_cons_option :
-    (o : Option Row) (placed : List Placed) (rows : List Row) (offset : ℕ) →
-    length placed ≡ length rows → length (placed_row offset o ++ placed) ≡ length (cons_option o rows)
-length_cons_option None placed rows offset e = e
-length_cons_option (Some row) placed rows offset e = ap suc e
+-- the rows of messages, without their offsets
+pub rows_placed_at :
+    (o : Option Row) (offset : ℕ) (placed : List Placed) (rows : List Row) → map (λ p. p.row) placed ≡ rows →
+    map (λ p. p.row) (placed_row offset o ++ placed) ≡ cons_option o rows
+rows_placed_at None offset placed rows e = e
+rows_placed_at (Some row) offset placed rows e = ap (λ rs. row ∷ rs) e
 
-pub length_placed :
+pub rows_placed :
     (schema : Schema) (offset : ℕ) (ms : List (List ℕ)) →
-    length (placed_from schema offset ms) ≡ length (filter_map (row_of schema) ms)
-length_placed schema offset [] = refl
-length_placed schema offset (m ∷ ms) =
-    length_cons_option (row_of schema m) (placed_from schema (offset + 1) ms) (filter_map (row_of schema) ms) offset
-    (length_placed schema (offset + 1) ms)
+    map (λ p. p.row) (placed_from schema offset ms) ≡ filter_map (row_of schema) ms
+rows_placed schema offset [] = refl
+rows_placed schema offset (m ∷ ms) =
+    rows_placed_at (row_of schema m) offset (placed_from schema (offset + 1) ms) (filter_map (row_of schema) ms)
+    (rows_placed schema (offset + 1) ms)
+
+-- the rows of messages are rows of the schema
+abbrev pub FitsPlaced : Schema → Placed → Type 0
+FitsPlaced schema p = IsRowOf schema p.row
+
+pub fitting_at :
+    (schema : Schema) (offset : ℕ) (o : Option Row) (placed : List Placed) → IfSome o (IsRowOf schema) →
+    All (FitsPlaced schema) placed → All (FitsPlaced schema) (placed_row offset o ++ placed)
+fitting_at schema offset None placed fits rest = rest
+fitting_at schema offset (Some row) placed fits rest =
+    All-cons (FitsPlaced schema) (record { offset = record { 0 = offset }; row = row }) placed fits rest
+
+pub all_fitting : (schema : Schema) (offset : ℕ) (ms : List (List ℕ)) → All (FitsPlaced schema) (placed_from schema offset ms)
+all_fitting schema offset [] = All-nil (FitsPlaced schema)
+all_fitting schema offset (m ∷ ms) =
+    fitting_at schema offset (row_of schema m) (placed_from schema (offset + 1) ms) (row_of_kinds schema m)
+    (all_fitting schema (offset + 1) ms)

@@ -10,7 +10,7 @@ use Rattle.rt_world.specs.Safe.{IsSafe, IsSetup}
 use Rattle.rt_world.specs.Step.{given_by, after, start}
 use Rattle.rt_world.proofs.Keeps.{Safe_after, Safe_start, right_after}
 
-pub right_given : (w : State) (event : Event) (due : Due) → IsSafe w → IsRightAfter (given_by due (after w event))
+pub right_given : (w : State) (event : Event) (due : Due) → IsSafe w → IsRightAfter event (given_by due (after w event))
 right_given w event (Ok u) s = right_after w event s
 right_given w event (Err e) s = tt
 

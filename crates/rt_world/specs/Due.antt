@@ -89,4 +89,8 @@ consume_due w instance partition sequence max =
 abbrev pub due_of : State → Event → Due
 due_of w (Produce partition message) = produce_due w partition message
 due_of w (Consume instance partition sequence max) = consume_due w instance partition sequence max
-due_of w Query = room_for 4 w
+due_of w (Query query) = room_for 4 w
+
+-- so can a line that is no event, which counts as one
+abbrev pub pass_due : State → Due
+pass_due w = room_for 1 w

@@ -1,4 +1,6 @@
 pub mod Due
+pub mod Fits
+pub mod Grouping
 pub mod Held
 pub mod Kept
 pub mod RightAnswer

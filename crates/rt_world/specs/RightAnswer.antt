@@ -1,49 +1,26 @@
--- When an answer is right: it counts each row of the ranges that it names once, and misses nothing that it could have.
-use Rattle.std.specs.Prelude.{◌≡◌, ◌<◌, ◌≤◌, ℕ, List, [], ◌∷◌, ◌++◌, length, pos, All, Ok, Err}
-use Rattle.rt_base.specs.declared.numbers.Partition.{Partition}
-use Rattle.rt_base.specs.declared.range.Range.{Range}
-use Rattle.rt_model.specs.declared.answer.Answer.{Answer}
-use Rattle.rt_model.specs.declared.answer.Cell.TheVariants.{Whole}
+-- When what comes of an event is right: the answer to a query is right over the log as it then is.
+use Rattle.std.specs.Prelude.{Ok, Err}
+use Rattle.rt_model.specs.RightAnswer.{IsRightAnswer}
+use Rattle.rt_model.specs.declared.query.Query.{Query}
+use Rattle.rt_world.specs.declared.event.Event.{Event}
+use Rattle.rt_world.specs.declared.event.Event.TheVariants as event
 use Rattle.rt_world.specs.declared.outcome.Outcome.{Outcome}
 use Rattle.rt_world.specs.declared.outcome.Outcome.TheVariants.{Produced, Consumed, Answered}
 use Rattle.rt_world.specs.declared.state.State.{State}
-use Rattle.rt_schema.specs.declared.row.Row.{Row}
-use Rattle.rt_schema.specs.declared.schema.Schema.{Schema}
-use Rattle.rt_schema.specs.Row.{rows_between}
-use Rattle.rt_stream.specs.Log.{messages_of}
-use Rattle.rt_world.specs.Step.{Given}
+use Rattle.rt_world.specs.Step.{Given, routed_of}
 
--- a named range isn't empty and lies within its partition's log
-abbrev pub IsNamed : List (List (List ℕ)) → Partition × Range → Type 0
-IsNamed log r =
-    (r.0.0 < length log) × (r.1.start.0 < r.1.end.0) × (r.1.end.0 ≤ length (messages_of log r.0))
+-- a query has an answer, which is right for what the replica serves
+abbrev pub IsRightFor : State → Query → Outcome → Type 0
+IsRightFor w query (Produced offset) = ⊥
+IsRightFor w query (Consumed cur rows state) = ⊥
+IsRightFor w query (Answered answer) = IsRightAnswer w.setup.schema w.log query (routed_of w.replica) answer
 
--- ranges ascend and leave a gap between any two of one partition, so that no offset lies in two
-abbrev pub IsBefore : Partition × Range → List (Partition × Range) → Type 0
-IsBefore r [] = Unit {0}
-IsBefore r (s ∷ rest) = r.0.0 ≤ s.0.0 × (r.0.0 ≡ s.0.0 → r.1.end.0 < s.1.start.0)
+-- what came of an event, in the world after it
+abbrev pub IsRightOutcome : State → Event → Outcome → Type 0
+IsRightOutcome w (event.Produce partition message) outcome = Unit {0}
+IsRightOutcome w (event.Consume instance partition sequence max) outcome = Unit {0}
+IsRightOutcome w (event.Query query) outcome = IsRightFor w query outcome
 
-abbrev pub AreApart : List (Partition × Range) → Type 0
-AreApart [] = Unit {0}
-AreApart (r ∷ rest) = IsBefore r rest × AreApart rest
-
--- the rows of the named ranges, in order
-abbrev pub rows_of : Schema → List (List (List ℕ)) → List (Partition × Range) → List Row
-rows_of schema log [] = []
-rows_of schema log (r ∷ rest) = rows_between schema log r.0.0 r.1.start.0 r.1.end.0 ++ rows_of schema log rest
-
-pub record IsRightCount (schema : Schema) (log : List (List (List ℕ))) (answer : Answer) : Type 0 where
-  pub named : All (IsNamed log) answer.ranges
-  pub apart : AreApart answer.ranges
-  pub missing : answer.missing ≡ []
-  pub rows : answer.rows ≡ record { cells = Whole (pos (length (rows_of schema log answer.ranges))) ∷ [] } ∷ []
-
--- every answer is right over the log as it then is
-abbrev pub IsRightOutcome : State → Outcome → Type 0
-IsRightOutcome w (Produced offset) = Unit {0}
-IsRightOutcome w (Consumed cur rows state) = Unit {0}
-IsRightOutcome w (Answered answer) = IsRightCount w.setup.schema w.log answer
-
-abbrev pub IsRightAfter : Given → Type 0
-IsRightAfter (Ok x) = IsRightOutcome x.0 x.1
-IsRightAfter (Err refusal) = Unit {0}
+abbrev pub IsRightAfter : Event → Given → Type 0
+IsRightAfter event (Ok x) = IsRightOutcome x.0 event x.1
+IsRightAfter event (Err refusal) = Unit {0}

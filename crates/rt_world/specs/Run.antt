@@ -24,4 +24,4 @@ then_all (Err refusal) rest = Unit {0}
 abbrev pub IsSafeRun : List Event → State → Type 0
 IsSafeRun [] w = IsSafe w
 IsSafeRun (event ∷ events) w =
-    IsSafe w × IsRightAfter (step w event) × then_all (step w event) (IsSafeRun events)
+    IsSafe w × IsRightAfter event (step w event) × then_all (step w event) (IsSafeRun events)

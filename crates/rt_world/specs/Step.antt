@@ -1,22 +1,23 @@
 -- What each event makes of a world, and what comes of it.
-use Rattle.std.specs.Prelude.{◌≡◌, ◌+◌, ◌-◌, ℕ, Bool, true, false, if◌then◌else◌, ◌==◌, ◌&&◌, ◌||◌, nat_le, nat_lt, List, [], ◌∷◌, ◌++◌, length, take, drop, replicate, Option, Some, None, Result, Ok, Err, pos}
+use Rattle.std.specs.Prelude.{◌≡◌, ◌+◌, ◌-◌, ℕ, Bool, true, false, if◌then◌else◌, ◌==◌, ◌&&◌, ◌||◌, nat_le, nat_lt, List, [], ◌∷◌, ◌++◌, length, map, take, drop, replicate, Option, Some, None, Result, Ok, Err}
 use Rattle.rt_base.specs.declared.numbers.Moment.{Moment}
 use Rattle.rt_base.specs.declared.numbers.Partition.{Partition}
-use Rattle.rt_base.specs.declared.range.Range.{Range}
 use Rattle.rt_model.specs.declared.answer.Answer.{Answer}
-use Rattle.rt_model.specs.declared.answer.Cell.TheVariants.{Whole}
+use Rattle.rt_model.specs.declared.query.Query.{Query}
+use Rattle.rt_model.specs.Aggregate.{aggregate}
+use Rattle.rt_model.specs.RightAnswer.{Asked, Routed, named_ranges, missing_of}
 use Rattle.rt_model.specs.declared.replica_state.ReplicaState.{ReplicaState}
 use Rattle.rt_model.specs.declared.replica_state.ReplicaState.TheVariants.{InitialConsuming, Holding}
 use Rattle.rt_model.specs.declared.setup.Setup.{Setup}
 use Rattle.rt_world.specs.declared.event.Event.{Event}
-use Rattle.rt_world.specs.declared.event.Event.TheVariants.{Produce, Consume, Query}
+use Rattle.rt_world.specs.declared.event.Event.TheVariants as event
 use Rattle.rt_world.specs.declared.outcome.Outcome.{Outcome}
 use Rattle.rt_world.specs.declared.outcome.Outcome.TheVariants.{Produced, Consumed, Answered}
 use Rattle.rt_world.specs.declared.refusal.Refusal.{Refusal}
 use Rattle.rt_world.specs.declared.refusal.Refusal.TheVariants.{NoSuchMessage, NoSuchNode, NodeDown, NothingToDo, Limit, Memory}
 use Rattle.rt_world.specs.declared.replica.Replica.{Replica}
 use Rattle.rt_world.specs.declared.state.State.{State}
-use Rattle.rt_world.specs.Due.{Due, due_of}
+use Rattle.rt_world.specs.Due.{Due, due_of, pass_due}
 use Rattle.rt_schema.specs.declared.row.Row.{Row}
 use Rattle.rt_schema.specs.declared.schema.Schema.{Schema}
 use Rattle.rt_schema.specs.Row.{row_of}
@@ -102,28 +103,41 @@ consumed_by w r =
 abbrev pub consumed : State → Partition → ℕ → State × Outcome
 consumed w partition max = consumed_by w (took w.setup w.moment max w.replica (messages_of w.log partition))
 
--- the range of the messages that a replica holds, where it holds one
-abbrev pub ranges_of : Replica → List (Partition × Range)
-ranges_of r =
-    if r.start.0 == r.cur.0 then [] else (r.partition, record { start = r.start; end = r.cur }) ∷ []
-
--- the count of the rows that a replica holds
-abbrev pub count_of : Replica → Answer
-count_of r =
+-- the one piece of the plan, which a replica serves over what it holds
+abbrev pub piece_of : Replica → Asked
+piece_of r =
     record {
-      ranges = ranges_of r;
-      missing = [];
-      rows = record { cells = Whole (pos (length r.held)) ∷ [] } ∷ [];
+      piece = record { partition = r.partition; sequence = r.sequence; start = r.start; end = None };
+      served = Some (record { start = r.start; end = r.cur });
     }
 
-abbrev pub counted : State → State × Outcome
-counted w = (record w { events = w.events + 4 }, Answered (count_of w.replica))
+abbrev pub routed_of : Replica → List Routed
+routed_of r = record { partition = r.partition; pieces = Some (piece_of r ∷ []) } ∷ []
+
+abbrev pub rows_held : Replica → List Row
+rows_held r = map (λ p. p.row) r.held
+
+-- the answer to a query from what a replica holds
+abbrev pub answer_of : Query → Replica → Answer
+answer_of query r =
+    record {
+      ranges = named_ranges (routed_of r);
+      missing = missing_of (routed_of r);
+      rows = aggregate query (rows_held r);
+    }
+
+abbrev pub answered : State → Query → State × Outcome
+answered w query = (record w { events = w.events + 4 }, Answered (answer_of query w.replica))
+
+-- a line that is no event counts as one
+abbrev pub passed : State → State
+passed w = record w { events = w.events + 1 }
 
 -- the world after an event that is due, and what comes of it
 abbrev pub after : State → Event → State × Outcome
-after w (Produce partition message) = produced w partition message
-after w (Consume instance partition sequence max) = consumed w partition max
-after w Query = counted w
+after w (event.Produce partition message) = produced w partition message
+after w (event.Consume instance partition sequence max) = consumed w partition max
+after w (event.Query query) = answered w query
 
 -- the world after an event and what came of it, or why it did not happen
 abbrev pub Given : Type 0
@@ -156,3 +170,14 @@ Steps old event new (Err NoSuchNode) = (old.spent ≡ false) × (step old.state 
 Steps old event new (Err NodeDown) = (old.spent ≡ false) × (step old.state event ≡ Err NodeDown) × (new ≡ old)
 Steps old event new (Err NothingToDo) = (old.spent ≡ false) × (step old.state event ≡ Err NothingToDo) × (new ≡ old)
 Steps old event new (Err (Limit which)) = (old.spent ≡ false) × (step old.state event ≡ Err (Limit which)) × (new ≡ old)
+
+-- a line that is no event is passed over, or refused
+abbrev pub Passes : Kept → Kept → Result Unit Refusal → Type 0
+Passes old new (Ok u) =
+    (old.spent ≡ false) × (new.spent ≡ false) × (pass_due old.state ≡ Ok tt) × (new.state ≡ passed old.state)
+Passes old new (Err Memory) = (old.spent ≡ true) × (new ≡ old)
+Passes old new (Err NoSuchMessage) = (old.spent ≡ false) × (pass_due old.state ≡ Err NoSuchMessage) × (new ≡ old)
+Passes old new (Err NoSuchNode) = (old.spent ≡ false) × (pass_due old.state ≡ Err NoSuchNode) × (new ≡ old)
+Passes old new (Err NodeDown) = (old.spent ≡ false) × (pass_due old.state ≡ Err NodeDown) × (new ≡ old)
+Passes old new (Err NothingToDo) = (old.spent ≡ false) × (pass_due old.state ≡ Err NothingToDo) × (new ≡ old)
+Passes old new (Err (Limit which)) = (old.spent ≡ false) × (pass_due old.state ≡ Err (Limit which)) × (new ≡ old)

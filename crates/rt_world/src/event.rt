@@ -1,8 +1,9 @@
 use rt_base::{Instance, Partition, Sequence};
 use rt_lists::Bytes;
+use rt_model::Query;
 
 /// What can happen to a cluster.
-#[derive(Drop, PartialEq, Eq)]
+#[derive(Drop)]
 pub enum Event {
     /// A message comes to the end of a partition.
     Produce {
@@ -16,6 +17,8 @@ pub enum Event {
         sequence: Sequence,
         max: u32,
     },
-    /// The rows of the table are counted. It stands for the four events that ask, route, read and answer.
-    Query,
+    /// A query of the table's rows. It stands for the four events that ask, route, read and answer.
+    Query {
+        query: Query,
+    },
 }

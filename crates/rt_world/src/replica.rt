@@ -1,14 +1,20 @@
-ghost use Rattle.std.specs.Prelude.{◌≡◌, ◌+◌, ◌-◌, ◌^◌, ◌<◌, ◌++◌, ◌≤◌, IfOk, OnOk, length};
+ghost use Rattle.std.specs.Prelude.{◌≡◌, ◌+◌, ◌-◌, ◌^◌, ◌<◌, ◌++◌, ◌≤◌, All, IfOk, OnOk, length, map};
 ghost use Rattle.rt_world.specs.Due.{is_of, is_consuming};
 ghost use Rattle.rt_stream.specs.Log.{messages_of};
 ghost use Rattle.rt_schema.specs.Row.{row_of};
 ghost use Rattle.rt_schema.specs.Schema.{IsSchema};
+ghost use Rattle.rt_model.specs.Aggregate.{taken};
+ghost use Rattle.rt_model.specs.RightAnswer.{named_ranges};
+ghost use Rattle.rt_agg.specs.Grouped.{Fits, Holds};
+ghost use Rattle.rt_world.specs.Grouping.{AddsTaken};
 ghost use Rattle.rt_world.specs.Held.{messages_between, placed_from, placed_row};
-ghost use Rattle.rt_world.specs.Step.{filling, took, state_at, is_timed_out, count_of, first_replica};
+ghost use Rattle.rt_world.specs.Step.{filling, took, state_at, is_timed_out, answer_of, first_replica, routed_of};
 
+use rt_agg::Groups;
 use rt_base::{Instance, Moment, Offset, Partition, Range, Sequence};
+use rt_filter::passes;
 use rt_lists::Items;
-use rt_model::{Answer, Cell, ReplicaState, ResultRow, Setup};
+use rt_model::{Answer, Query, ReplicaState, Setup};
 use rt_schema::{Row, Schema, read_row};
 use rt_stream::StreamLog;
 use std::alloc::{AllocError, Global};
@@ -121,9 +127,25 @@ impl Replica {
         now.0.saturating_sub(self.started.0) >= setup.table.millis && self.start < self.cur
     }
 
-    /// The count of the rows that it holds, with their range.
-    pub fn count(&self, alloc: Global) -> Result<Answer, AllocError>
-        ensures { IfOk result (λ answer. answer ≡ count_of self.now) }
+    /// The answer to a query from what it holds, which is within the row limit, with the range of that.
+    pub fn answer(&self, alloc: Global, query: &Query, limit: u32) -> Result<Answer, AllocError>
+        requires fit { All (λ p. Fits query.now p.row) self.now.held }
+        requires limited { length self.now.held ≤ limit }
+        ensures { IfOk result (λ answer. answer ≡ answer_of query.now self.now) }
+    {
+        let ranges = self.ranges(alloc)?;
+        let groups = grouped(alloc, query, self.held.as_slice())?;
+        Ok(Answer {
+            ranges,
+            missing: Items::new(alloc),
+            rows: groups.finish(alloc)?,
+        })
+    }
+
+    /// The range of what it holds, where that isn't empty.
+    #[tactic(auto, using(crate::proofs::Keeps::ranges_none, crate::proofs::Keeps::ranges_one))]
+    fn ranges(&self, alloc: Global) -> Result<Items<(Partition, Range)>, AllocError>
+        ensures { IfOk result (λ ranges. ranges ≡ named_ranges (routed_of self.now)) }
     {
         let mut ranges = Items::new(alloc);
         if self.start != self.cur {
@@ -135,16 +157,34 @@ impl Replica {
                 },
             ))?;
         }
-        let mut cells = Items::new(alloc);
-        cells.push(Cell::Whole(self.held.len() as i128))?;
-        let mut rows = Items::new(alloc);
-        rows.push(ResultRow { cells })?;
-        Ok(Answer {
-            ranges,
-            missing: Items::new(alloc),
-            rows,
-        })
+        Ok(ranges)
     }
+}
+
+/// The groups of the held rows that a query's filter takes.
+#[tactic(auto, using(crate::proofs::Grouping::taken_next, crate::proofs::Grouping::taken_all, crate::proofs::Grouping::taken_few))]
+fn grouped(alloc: Global, query: &Query, held: &[Placed]) -> Result<Groups, AllocError>
+    requires fit { All (λ p. Fits query.now p.row) held.now }
+    requires few { length held.now < 2 ^ 32 }
+    ensures { IfOk result (Holds query.now (taken query.now (map (λ p. p.row) held.now))) }
+{
+    let mut groups = Groups::make(alloc, query)?;
+    for placed in held {
+        add_taken(alloc, &mut groups, query, &placed.row)?;
+    }
+    Ok(groups)
+}
+
+/// Adds a row to groups, where the query's filter takes it.
+#[tactic(auto, using(crate::proofs::Grouping::added_taken, crate::proofs::Grouping::added_none))]
+fn add_taken(alloc: Global, groups: &mut Groups, query: &Query, row: &Row) -> Result<(), AllocError>
+    requires { Fits query.now row.now }
+    ensures { OnOk result (AddsTaken query.now row.now groups.old groups.new) }
+{
+    if passes(&query.filter, row) {
+        groups.add_row(alloc, row)?;
+    }
+    Ok(())
 }
 
 /// Adds the rows of messages from an offset on, until another offset or the row limit, and answers where it ended.

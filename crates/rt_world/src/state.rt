@@ -1,14 +1,17 @@
-ghost use Rattle.std.specs.Prelude.{◌≡◌, ◌+◌, ◌≤◌, ◌<◌, IfOk, length};
-ghost use Rattle.rt_world.specs.Due.{due_of, produce_due, consume_due, room_for, events_limit};
+ghost use Rattle.std.specs.Prelude.{◌≡◌, ◌+◌, ◌≤◌, ◌<◌, All, IfOk, length};
+ghost use Rattle.rt_world.specs.Due.{due_of, produce_due, consume_due, pass_due, room_for, events_limit};
+ghost use Rattle.rt_model.specs.Checked.{IsQuery};
+ghost use Rattle.rt_schema.specs.Row.{IsRowOf};
 ghost use Rattle.rt_schema.specs.Schema.{IsSchema};
 ghost use Rattle.rt_stream.specs.Log.{messages_of};
+ghost use Rattle.rt_world.specs.Fits.{Fits};
 ghost use Rattle.rt_world.specs.Safe.{IsSafe};
-ghost use Rattle.rt_world.specs.Step.{after, start, produced, consumed, counted};
+ghost use Rattle.rt_world.specs.Step.{after, answered, consumed, passed, produced, start};
 
 use crate::{Event, Outcome, Refusal, Replica};
 use rt_base::{Instance, Moment, Partition, Sequence, Which};
 use rt_lists::Bytes;
-use rt_model::Setup;
+use rt_model::{Query, Setup};
 use rt_stream::{MESSAGE_LIMIT, StreamLog};
 use std::alloc::{AllocError, Global};
 
@@ -61,7 +64,7 @@ impl State {
                 sequence,
                 max,
             } => { self.consume_due(*instance, *partition, *sequence, *max) }
-            Event::Query => self.room_for(QUERY_EVENTS),
+            Event::Query { query: _ } => self.room_for(QUERY_EVENTS),
         }
     }
 
@@ -113,10 +116,11 @@ impl State {
     }
 
     /// Has an event happen that is due, and says what comes of it.
-    #[tactic(auto, using(crate::proofs::Conditions::produce_room, crate::proofs::Conditions::consume_room, crate::proofs::Conditions::room_true))]
+    #[tactic(auto, using(crate::proofs::Conditions::produce_room, crate::proofs::Conditions::consume_room, crate::proofs::Conditions::held_fits, crate::proofs::Conditions::room_true))]
     pub fn happen(&mut self, alloc: Global, event: &Event) -> Result<Outcome, AllocError>
         requires safe { IsSafe self.old }
         requires due { due_of self.old event.now ≡ Ok tt }
+        requires fits { Fits self.old.setup.schema event.now }
         ensures { IfOk result (λ outcome. (self.new, outcome) ≡ after self.old event.now) }
     {
         match event {
@@ -127,7 +131,7 @@ impl State {
                 sequence: _,
                 max,
             } => self.consume(alloc, *partition, *max),
-            Event::Query => self.query(alloc),
+            Event::Query { query } => self.query(alloc, query),
         }
     }
 
@@ -176,12 +180,31 @@ impl State {
         })
     }
 
-    /// Counts the rows of the table.
-    fn query(&mut self, alloc: Global) -> Result<Outcome, AllocError>
-        requires { self.old.events ≤ events_limit }
-        ensures { IfOk result (λ outcome. (self.new, outcome) ≡ counted self.old) }
+    /// Why a line that is no event can't be passed over now, if it can't.
+    pub fn pass_due(&self) -> Result<(), Refusal>
+        requires { self.now.events ≤ events_limit }
+        ensures { result ≡ pass_due self.now }
     {
-        let answer = self.replica.count(alloc)?;
+        self.room_for(1)
+    }
+
+    /// Passes over a line that is no event; it counts as one.
+    pub fn pass(&mut self)
+        requires { pass_due self.old ≡ Ok tt }
+        ensures { self.new ≡ passed self.old }
+    {
+        self.events += 1;
+    }
+
+    /// Answers a query from what the replica holds.
+    fn query(&mut self, alloc: Global, query: &Query) -> Result<Outcome, AllocError>
+        requires counted { self.old.events ≤ events_limit }
+        requires fits { IsQuery self.old.setup.schema query.now }
+        requires held { All (λ p. IsRowOf self.old.setup.schema p.row) self.old.replica.held }
+        requires limited { length self.old.replica.held ≤ self.old.setup.table.rows }
+        ensures { IfOk result (λ outcome. (self.new, outcome) ≡ answered self.old query.now) }
+    {
+        let answer = self.replica.answer(alloc, query, self.setup.table.rows)?;
         self.events += QUERY_EVENTS;
         Ok(Outcome::Answered(answer))
     }

@@ -103,7 +103,6 @@ fn an_event_is_refused_by_its_node_first(rt: HostRuntime) -> Result<(), Fail> {
     assert!(rt; world.due(&consume(0, 1, 0, 0)) == Err(Refusal::NoSuchNode));
     assert!(rt; world.due(&consume(0, 0, 1, 1)) == Err(Refusal::NothingToDo));
     assert!(rt; world.due(&consume(0, 0, 0, 0)) == Err(Refusal::NothingToDo));
-    assert!(rt; world.due(&Event::Query) == Ok(()));
     let mut long = Vec::new(alloc);
     long.resize(65_537, 0)?;
     let event = Event::Produce {

@@ -1,12 +1,15 @@
 ghost use Rattle.std.specs.Prelude.{◌≡◌, false, IfOk, IsTrue, IsFalse};
+ghost use Rattle.rt_schema.specs.Schema.{IsSchema};
 ghost use Rattle.rt_world.specs.Due.{due_of};
 ghost use Rattle.rt_world.specs.RightAnswer.{IsRightOutcome};
+ghost use Rattle.rt_world.specs.Fits.{Fits};
 ghost use Rattle.rt_world.specs.Safe.{IsSetup};
-ghost use Rattle.rt_world.specs.Step.{Steps, start};
+ghost use Rattle.rt_world.specs.Step.{Passes, Steps, start};
 
 use crate::{Event, Outcome, Refusal, State};
 use rt_lists::Text;
 use rt_model::Setup;
+use rt_schema::Schema;
 use std::alloc::{AllocError, Global};
 use std::marker::Model;
 
@@ -42,6 +45,14 @@ impl World {
         })
     }
 
+    /// The columns of the cluster's table.
+    pub fn schema(&self) -> &Schema
+        ensures schema { result.now ≡ self.now.state.setup.schema }
+        ensures read { IsFalse self.now.spent → IsSchema result.now }
+    {
+        &self.state.setup.schema
+    }
+
     /// The name of the cluster's table.
     pub fn table_name(&self) -> &Text
         ensures { result.now ≡ self.now.state.setup.table.name }
@@ -61,11 +72,25 @@ impl World {
         }
     }
 
+    /// Passes over a line that is no event; it counts as one. A refused one changes nothing.
+    #[tactic(auto, using(crate::proofs::Keeps::Safe_passed))]
+    pub fn pass(&mut self) -> Result<(), Refusal>
+        ensures { Passes self.old self.new result }
+    {
+        if self.spent {
+            return Err(Refusal::Memory);
+        }
+        self.state.pass_due()?;
+        self.state.pass();
+        Ok(())
+    }
+
     /// Has an event happen, and says what came of it. A refused event changes nothing.
     #[tactic(auto, using(crate::proofs::Conditions::steps_refused, crate::proofs::Keeps::kept_after, crate::proofs::Keeps::right_outcome))]
     pub fn apply(&mut self, alloc: Global, event: &Event) -> Result<Outcome, Refusal>
+        requires fits { Fits self.old.state.setup.schema event.now }
         ensures step { Steps self.old event.now self.new result }
-        ensures right { IfOk result (IsRightOutcome self.new.state) }
+        ensures right { IfOk result (IsRightOutcome self.new.state event.now) }
     {
         if self.spent {
             return Err(Refusal::Memory);
