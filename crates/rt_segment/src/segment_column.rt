@@ -1,6 +1,7 @@
 ghost use Rattle.std.specs.Prelude.{◌≡◌, ◌<◌, ◌≤◌, ◌^◌, ◌+◌, ◌++◌, ℕ, List, All, Contains, IfOk, IfSome, IfNone, OnOk, Some, None, true, false, length, slice_get};
 ghost use Rattle.std.specs.Option.{is_some};
 ghost use Rattle.rt_postings.specs.Postings.{postings_of, rows_of};
+ghost use Rattle.rt_segment.specs.Segment.{is_column};
 ghost use Rattle.rt_segment.specs.Column.{SealedColumn, kind_in, count_in, IsColumn};
 ghost use Rattle.rt_segment.specs.Cursor.{Gives};
 ghost use Rattle.rt_segment.specs.Reading.{postings_at};
@@ -11,9 +12,10 @@ use crate::dictionary::Dictionary;
 use crate::postings_reader::check_postings;
 use crate::postings_writer::write_postings;
 use crate::segment_refused::SegmentRefused;
+use crate::table::is_column;
 use rt_lists::{Items, Text};
 use rt_postings::Postings;
-use rt_schema::Kind;
+use rt_schema::{Column, Kind};
 use std::alloc::{AllocError, Global};
 use std::marker::Model;
 
@@ -83,6 +85,13 @@ impl SegmentColumn {
         ensures { result ≡ kind_in self.now.dictionary }
     {
         self.dictionary.kind()
+    }
+
+    /// Whether it is a schema's column, by name and kind.
+    pub fn is_of(&self, column: &Column) -> bool
+        ensures { result ≡ is_column self.now column.now }
+    {
+        is_column(self, column)
     }
 
     /// Whether the column has an inverted index.

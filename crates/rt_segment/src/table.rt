@@ -24,7 +24,7 @@ pub(crate) fn are_columns(stored: &[SegmentColumn], columns: &[Column]) -> bool
 }
 
 // Whether a column is that of a schema.
-fn is_column(stored: &SegmentColumn, column: &Column) -> bool
+pub(crate) fn is_column(stored: &SegmentColumn, column: &Column) -> bool
     ensures { result ≡ is_column stored.now column.now }
 {
     stored.name().as_bytes() == column.name.as_bytes() && is_kind(stored.kind(), column.kind)

@@ -1,0 +1,14 @@
+pub mod Sets
+pub mod Keys
+pub mod Rows
+pub mod Filters
+pub mod Posted
+pub mod Held
+pub mod Noted
+pub mod Leading
+pub mod Walked
+pub mod Fitting
+pub mod SealedRows
+pub mod Arrived
+pub mod ConsumingRows
+pub mod FilledRows

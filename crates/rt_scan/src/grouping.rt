@@ -1,0 +1,144 @@
+//! The groups of the rows of a set.
+ghost use Rattle.std.specs.Prelude.{◌≡◌, ◌<◌, ◌^◌, ℕ, All, length, map, IfOk, OnOk};
+ghost use Rattle.rt_schema.specs.declared.row.Row.{Row as AnyRow};
+ghost use Rattle.rt_model.specs.Aggregate.{key_of, taken};
+ghost use Rattle.rt_model.specs.Match.{passes, value_in};
+ghost use Rattle.rt_agg.specs.Grouped.{AddsUnder, Fits, Holds};
+ghost use Rattle.rt_scan.specs.Table.{row_at, rows_by};
+ghost use Rattle.rt_scan.specs.Grouping.{key_by, value_by, Leads};
+
+use crate::group_ids::GroupIds;
+use crate::row_reader::RowReader;
+use crate::scan_column::ScanColumn;
+use rt_agg::Groups;
+use rt_lists::Items;
+use rt_model::{ColumnAt, Query};
+use rt_postings::DocSet;
+use rt_schema::Value;
+use std::alloc::{AllocError, Global};
+
+/// The groups of the rows of a set. Fails only where memory is refused.
+pub(crate) fn groups_of<C: ScanColumn>(
+    alloc: Global,
+    query: &Query,
+    columns: &[C],
+    set: &DocSet,
+) -> Result<Groups, AllocError>
+    requires full { All (λ column. length (C.values column) ≡ length set.now) columns.now }
+    requires few { length set.now < 2 ^ 32 }
+    requires taken { set.now ≡ map (passes query.now.filter) (rows_by C.values columns.now (length set.now)) }
+    requires fits { (row : ℕ) → row < length set.now → Fits query.now (row_at C.values columns.now row) }
+    ensures { IfOk result (Holds query.now (taken query.now (rows_by C.values columns.now (length set.now)))) }
+{
+    let mut groups = Groups::make(alloc, query)?;
+    let mut met = GroupIds::new(alloc);
+    let mut ids = Items::new(alloc);
+    let mut from = 0;
+    while let Some(row) = set.next_from(from) {
+        let by = query.groups.as_slice();
+        add_row(alloc, by, columns, row, &mut ids, &mut met, &mut groups)?;
+        from = row + 1;
+    }
+    Ok(groups)
+}
+
+// Adds a row to its group, which is found by the ids of the row.
+fn add_row<C: ScanColumn>(
+    alloc: Global,
+    by: &[ColumnAt],
+    columns: &[C],
+    row: u32,
+    ids: &mut Items<u32>,
+    met: &mut GroupIds,
+    groups: &mut Groups,
+) -> Result<(), AllocError>
+    requires row { All (λ column. row < length (C.values column)) columns.now }
+    requires met { Leads C.value_of columns.now by.now groups.old met.old }
+    ensures adds { OnOk result (AddsUnder (key_of by.now (row_at C.values columns.now row)) (row_at C.values columns.now row) groups.old groups.new) }
+    ensures met { OnOk result (Leads C.value_of columns.now by.now groups.new met.new) }
+{
+    read_ids(by, columns, row, ids)?;
+    let reader = RowReader { columns, row };
+    match met.find(ids) {
+        Some(index) => {
+            groups.add_at(index, &reader);
+            Ok(())
+        }
+        None => {
+            let key = read_key(alloc, by, columns, row)?;
+            let index = groups.add(alloc, key, &reader)?;
+            met.note(copy_of(alloc, ids)?, index)
+        }
+    }
+}
+
+fn copy_of(alloc: Global, ids: &Items<u32>) -> Result<Items<u32>, AllocError>
+    ensures { IfOk result (λ copy. copy ≡ ids.now) }
+{
+    let mut copy = Vec::new(alloc);
+    copy.extend_from_slice(ids.as_slice())?;
+    Ok(Items::of(copy))
+}
+
+// The ids of a row in the columns of GROUP BY.
+fn read_ids<C: ScanColumn>(
+    by: &[ColumnAt],
+    columns: &[C],
+    row: u32,
+    ids: &mut Items<u32>,
+) -> Result<(), AllocError>
+    requires { All (λ column. row < length (C.values column)) columns.now }
+    ensures { OnOk result (key_by C.value_of columns.now by.now ids.new ≡ key_of by.now (row_at C.values columns.now row)) }
+{
+    ids.clear();
+    for column in by {
+        ids.push(id_in(columns, row, column))?;
+    }
+    Ok(())
+}
+
+fn id_in<C: ScanColumn>(columns: &[C], row: u32, column: &ColumnAt) -> u32
+    requires { All (λ column. row < length (C.values column)) columns.now }
+    ensures { value_by C.value_of columns.now column.now result ≡ value_in (row_at C.values columns.now row) column.now }
+{
+    let place = column.place as usize;
+    if place < columns.len() {
+        columns[place].id(row)
+    } else {
+        0
+    }
+}
+
+// The key of a row's group.
+fn read_key<C: ScanColumn>(
+    alloc: Global,
+    by: &[ColumnAt],
+    columns: &[C],
+    row: u32,
+) -> Result<Items<Value>, AllocError>
+    requires { All (λ column. row < length (C.values column)) columns.now }
+    ensures { IfOk result (λ key. key ≡ key_of by.now (row_at C.values columns.now row)) }
+{
+    let mut key = Items::new(alloc);
+    for column in by {
+        key.push(value_in(alloc, columns, row, column)?)?;
+    }
+    Ok(key)
+}
+
+fn value_in<C: ScanColumn>(
+    alloc: Global,
+    columns: &[C],
+    row: u32,
+    column: &ColumnAt,
+) -> Result<Value, AllocError>
+    requires { All (λ column. row < length (C.values column)) columns.now }
+    ensures { IfOk result (λ value. value ≡ value_in (row_at C.values columns.now row) column.now) }
+{
+    let place = column.place as usize;
+    if place < columns.len() {
+        columns[place].value(alloc, row)
+    } else {
+        Ok(Value::Bool(false))
+    }
+}
