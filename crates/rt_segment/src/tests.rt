@@ -124,16 +124,21 @@ fn values_out_of_order(rt: HostRuntime) -> Result<(), Fail> {
     Ok(())
 }
 
-#[test]
-fn no_cut_file_is_decoded(rt: HostRuntime) -> Result<(), Fail> {
-    let alloc = rt.alloc();
-    for end in 0..FIRST.len() {
+/// Cuts a file at each length: none of these is decoded.
+fn cut(rt: &impl Abort, alloc: Global, file: &[u8]) -> Result<(), Fail> {
+    for end in 0..file.len() {
         assert_eq!(rt;
-            decode(alloc, &FIRST[..end]).err(),
+            decode(alloc, &file[..end]).err(),
             Some(SegmentRefused::Truncated)
         );
     }
     Ok(())
+}
+
+#[test]
+fn no_cut_file_is_decoded(rt: HostRuntime) -> Result<(), Fail> {
+    cut(&rt, rt.alloc(), &FIRST)?;
+    cut(&rt, rt.alloc(), &SECOND)
 }
 
 #[test]
