@@ -12,3 +12,5 @@ pub mod SealedRows
 pub mod Arrived
 pub mod ConsumingRows
 pub mod FilledRows
+pub mod Edges
+pub mod Skipped

@@ -9,3 +9,4 @@ pub mod Grouping
 pub mod Scanned
 pub mod ConsumingColumn
 pub mod Filled
+pub mod Skips

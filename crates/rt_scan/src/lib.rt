@@ -12,12 +12,17 @@ mod filling;
 mod group_ids;
 mod grouping;
 mod key_test;
+mod laws;
 mod matching;
 mod row_reader;
 mod row_sets;
 mod scan_column;
 mod scanning;
+mod skipping;
+mod standing;
 mod truths;
 
 pub use filling::scan_as;
+pub use laws::skipped_rows_fail;
 pub use scanning::{scan, scan_below};
+pub use skipping::skips;

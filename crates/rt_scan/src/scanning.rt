@@ -15,6 +15,7 @@ use crate::file_column::FileColumn;
 use crate::grouping::groups_of;
 use crate::matching::rows_that_pass;
 use crate::scan_column::ScanColumn;
+use crate::skipping::skips;
 use rt_agg::Groups;
 use rt_base::Offset;
 use rt_model::Query;
@@ -23,12 +24,15 @@ use rt_segment::{Sealed, SegmentColumn};
 use std::alloc::{AllocError, Global};
 
 /// The groups of the rows of a sealed segment that a query takes. The query's columns are the segment's by name, place and
-/// kind. Fails only where memory is refused.
+/// kind. A segment that [`skips`] rules out isn't read. Fails only where memory is refused.
 pub fn scan(alloc: Global, query: &Query, sealed: &Sealed) -> Result<Groups, AllocError>
     requires { FitsSealed query.now sealed.now }
     ensures { IfOk result (Holds query.now (taken query.now (rows_of sealed.now))) }
 {
     let header = sealed.header();
+    if skips(query, sealed) {
+        return Groups::make(alloc, query);
+    }
     let columns = held_columns(alloc, sealed.columns())?;
     groups_taken(alloc, query, &columns, header.rows)
 }

@@ -10,6 +10,7 @@ use Rattle.rt_scan.specs.FileColumn.{file_values}
 use Rattle.rt_scan.specs.Table.{row_at, rows_by}
 use Rattle.rt_scan.proofs.Fitting.{HasKinds, query_fits}
 use Rattle.rt_scan.proofs.SealedRows.{same_row, same_rows, unmapped, has_kinds, full_columns}
+use Rattle.rt_scan.proofs.Skipped.{none_taken}
 use Rattle.rt_scan.proofs.scanning.scan.Goals as goal
 use Rattle.rt_scan.proofs.scanning.scan.Goals.{After-deref}
 
@@ -33,6 +34,10 @@ groups_taken-requires-clause-fits c row h =
     let this = same_row file_values values_of c.deref.result.now c.args.sealed.now.columns (held at) row in
     query_fits c.requires.schema c.args.query.now (row_at file_values c.deref.result.now row) c.requires.parsed
     (subst (HasKinds c.requires.schema) (sym this) (has_kinds c.requires.schema c.args.sealed.now c.header-header.ensures.right c.requires.columns row (omega (arith, h, count at))))
+
+pub returns-then-skips : goal.returns-then-skips
+returns-then-skips c =
+    subst (λ (rs : List Row). IfOk c.make.result (Holds c.args.query.now rs)) (sym (none_taken c.args.query.now c.args.sealed.now c.header-header.ensures.right c.requires (sym c.skips.ensures ∙ c.if-skips.true))) c.make.ensures
 
 pub returns : goal.returns
 returns c =
