@@ -1,4 +1,5 @@
-ghost use Rattle.std.specs.Prelude.{IfOk};
+ghost use Rattle.std.specs.Prelude.{◌≡◌, IfOk};
+ghost use Rattle.rt_world.specs.declared.event.Event.TheVariants as Event;
 ghost use Rattle.rt_world.specs.Safe.{IsSetup};
 
 use super::*;
@@ -37,7 +38,9 @@ fn small(alloc: Global, millis: u64) -> Result<Setup, SchemaRefused>
     })
 }
 
-fn consume(instance: u32, partition: u32, sequence: u32, max: u32) -> Event {
+fn consume(instance: u32, partition: u32, sequence: u32, max: u32) -> Event
+    ensures { result ≡ Event.Consume (record { 0 = instance }) (record { 0 = partition }) (record { 0 = sequence }) max }
+{
     Event::Consume {
         instance: Instance(instance),
         partition: Partition(partition),
@@ -46,7 +49,9 @@ fn consume(instance: u32, partition: u32, sequence: u32, max: u32) -> Event {
     }
 }
 
-fn produce(alloc: Global, message: &[u8]) -> Result<Event, AllocError> {
+fn produce(alloc: Global, message: &[u8]) -> Result<Event, AllocError>
+    ensures { IfOk result (λ event. event ≡ Event.Produce (record { 0 = 0 }) message.now) }
+{
     Ok(Event::Produce {
         partition: Partition(0),
         message: Bytes::copied_from(alloc, message)?,
