@@ -3,9 +3,6 @@
 
 usage: tools/row_speed.py
 """
-import subprocess
-import sys
-import tempfile
 
 import throwaway
 
@@ -61,13 +58,5 @@ fn main(rt: HostRuntime) -> io::Result<()> {
 '''
 
 
-def main():
-    if len(sys.argv) != 1:
-        sys.exit(__doc__)
-    with tempfile.TemporaryDirectory() as folder:
-        home = throwaway.make(folder, PROGRAM, ["rt_lists", "rt_schema"], ["serde_json"])
-        sys.exit(subprocess.run(["rt", "run"], cwd=home).returncode)
-
-
 if __name__ == "__main__":
-    main()
+    throwaway.run(__doc__, PROGRAM, ["rt_lists", "rt_schema"], ["serde_json"])

@@ -3,9 +3,6 @@
 
 usage: tools/store_random.py
 """
-import subprocess
-import sys
-import tempfile
 
 import store_speed
 import throwaway
@@ -55,13 +52,5 @@ PROGRAM = HEAD + r'''    let mut writes = [0u64; 16];
 '''
 
 
-def main():
-    if len(sys.argv) != 1:
-        sys.exit(__doc__)
-    with tempfile.TemporaryDirectory() as folder:
-        home = throwaway.make(folder, PROGRAM, store_speed.LIBRARIES)
-        sys.exit(subprocess.run(["rt", "try"], cwd=home).returncode)
-
-
 if __name__ == "__main__":
-    main()
+    throwaway.run(__doc__, PROGRAM, store_speed.LIBRARIES, command="try")

@@ -3,9 +3,6 @@
 
 usage: tools/store_speed.py
 """
-import subprocess
-import sys
-import tempfile
 
 import throwaway
 
@@ -63,13 +60,5 @@ fn main(rt: HostRuntime) -> io::Result<()> {
 LIBRARIES = ["rt_lists", "rt_base", "rt_names", "rt_schema", "rt_model", "rt_assign", "rt_ideal", "rt_store"]
 
 
-def main():
-    if len(sys.argv) != 1:
-        sys.exit(__doc__)
-    with tempfile.TemporaryDirectory() as folder:
-        home = throwaway.make(folder, PROGRAM, LIBRARIES)
-        sys.exit(subprocess.run(["rt", "run"], cwd=home).returncode)
-
-
 if __name__ == "__main__":
-    main()
+    throwaway.run(__doc__, PROGRAM, LIBRARIES)

@@ -2,6 +2,8 @@
 import os
 import shutil
 import subprocess
+import sys
+import tempfile
 
 ROOT = os.path.dirname(os.path.dirname(os.path.abspath(__file__)))
 
@@ -25,3 +27,12 @@ def make(folder, program, libraries, kit_libraries=()):
         out.write(program)
     subprocess.run(["git", "init", "-q"], cwd=folder, check=True)
     return home
+
+
+def run(usage, program, libraries, kit_libraries=(), command="run"):
+    """Ends with the status of `rt COMMAND` on such a program. A script that takes no words shows its usage where there are some."""
+    if len(sys.argv) != 1:
+        sys.exit(usage)
+    with tempfile.TemporaryDirectory() as folder:
+        home = make(folder, program, libraries, kit_libraries)
+        sys.exit(subprocess.run(["rt", command], cwd=home).returncode)
