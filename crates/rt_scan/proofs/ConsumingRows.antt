@@ -1,22 +1,20 @@
 -- The first rows of a consuming segment.
-use Rattle.std.proofs.Common.{◌≡◌, ℕ, zero, suc, ◌+◌, ◌<◌, ◌≤◌, false, List, [], ◌∷◌, ◌++◌, length, map, take, get_or, slice_get, Some, refl, ap, sym, subst, ◌∙◌, arith, All}
-use Rattle.std.specs.Prelude.{option_map}
+use Rattle.std.proofs.Common.{◌≡◌, ℕ, ◌+◌, ◌<◌, ◌≤◌, false, List, [], ◌∷◌, ◌++◌, length, map, take, get_or, slice_get, Some, refl, ap, sym, subst, ◌∙◌, arith, All}
 use Rattle.std.specs.List.{range_with_len}
 use Rattle.std.proofs.Math.ListN.{get_or-map}
 use Rattle.std.proofs.lemmas.List.{length-map, length-take-le, get_or_default, get_or-take, map-append}
 use Rattle.std.proofs.lemmas.List.Elements.{All-map}
 use Rattle.std.proofs.lemmas.List.FromFn.{fill_by_all}
-use Rattle.std.proofs.lemmas.Option.{slice_get-map, get_or_from_slice_get, none-some, same_Some}
-use Rattle.rt_schema.specs.declared.column.Kind.{Kind}
+use Rattle.std.proofs.lemmas.Option.{get_or_from_slice_get}
 use Rattle.rt_schema.specs.declared.row.Row.{Row}
 use Rattle.rt_schema.specs.declared.schema.Schema.{Schema}
 use Rattle.rt_schema.specs.declared.value.Value.{Value}
 use Rattle.rt_schema.specs.declared.value.Value.TheVariants as value
+use Rattle.rt_schema.specs.Row.{IsRowOf}
 use Rattle.rt_schema.specs.Value.{kind_of}
 use Rattle.rt_mutable.specs.Consuming.{Consuming, Placed, IsConsuming, FitsColumns, value_at, values_at}
 use Rattle.rt_scan.specs.Scanned.{first_at}
 use Rattle.rt_scan.specs.Table.{item_at, cell_at, row_at, rows_by}
-use Rattle.rt_scan.proofs.Fitting.{HasKinds}
 use Rattle.rt_scan.proofs.Keys.{item}
 use Rattle.rt_scan.proofs.Sets.{map_agree, map_map, map_range_more}
 
@@ -24,11 +22,6 @@ use Rattle.rt_scan.proofs.Sets.{map_agree, map_map, map_range_more}
 pub pushed_more : {X Y : Type 0} (f : X → Y) (g : ℕ → Y) (xs us : List X) (x : X) (n : ℕ) → us ≡ xs ++ x ∷ [] → map f xs ≡ map g (range_with_len 0 n) → f x ≡ g n → map f us ≡ map g (range_with_len 0 (n + 1))
 pushed_more f g xs us x n pushed before here =
     ap (map f) pushed ∙ map-append f xs (x ∷ []) ∙ ap (λ ys. ys ++ f x ∷ []) before ∙ ap (λ y. map g (range_with_len 0 n) ++ y ∷ []) here ∙ sym (map_range_more g n)
-
-kinds_at : (kind : Kind) (vs : List Value) (place : ℕ) → slice_get (map kind_of vs) place ≡ Some kind → (v : Value) × (slice_get vs place ≡ Some v) × (kind_of v ≡ kind)
-kinds_at kind [] place e = absurd (none-some _ e)
-kinds_at kind (v ∷ vs) zero e = (v, refl, same_Some _ _ e)
-kinds_at kind (v ∷ vs) (suc place) e = kinds_at kind vs place e
 
 module _ (segment : Consuming) (right : IsConsuming segment) where
   width : (k : ℕ) (p : Placed) → slice_get segment.rows k ≡ Some p → k < length segment.rows → FitsColumns segment.columns p.row
@@ -68,9 +61,7 @@ module _ (segment : Consuming) (right : IsConsuming segment) where
     first_full = subst (All (λ (vs : List Value). length vs ≡ n)) (sym is) (All-map (λ vs. length vs ≡ n) (first_at n segment.rows) (range_with_len 0 (length segment.columns)) (λ k d h.
         length-take-le n (values_at (get_or (range_with_len 0 (length segment.columns)) k d) segment.rows) (omega (arith, within, length-map segment.rows (λ (q : Placed). value_at (get_or (range_with_len 0 (length segment.columns)) k d) q.row)))))
 
-    pub first_kinds : (schema : Schema) → map (λ shape. shape.kind) segment.columns ≡ map (λ column. column.kind) schema.columns → (k : ℕ) → k < n → HasKinds schema (row_at f cs k)
+    pub first_kinds : (schema : Schema) → map (λ shape. shape.kind) segment.columns ≡ map (λ column. column.kind) schema.columns → (k : ℕ) → k < n → IsRowOf schema (row_at f cs k)
     first_kinds schema kinds k below =
         let p = item segment.rows k (omega (arith, below, within)) in
-        subst (HasKinds schema) (sym (row_is k p.0 p.1 below)) (λ place column at.
-        kinds_at column.kind p.0.row.values place
-        (ap (λ ks. slice_get ks place) (width k p.0 p.1 (omega (arith, below, within)) ∙ kinds) ∙ slice_get-map (λ c. c.kind) schema.columns place ∙ ap (option_map (λ c. c.kind)) at))
+        subst (IsRowOf schema) (sym (row_is k p.0 p.1 below)) (width k p.0 p.1 (omega (arith, below, within)) ∙ kinds)

@@ -1,9 +1,8 @@
 -- The rows of a file as rows of a schema have the schema's kinds.
-use Rattle.std.proofs.Common.{◌≡◌, ℕ, zero, suc, ◌<◌, Bool, true, false, List, [], ◌∷◌, length, map, replicate, get_or, slice_get, Option, Some, None, refl, ap, sym, subst, ◌∙◌, arith, All}
-use Rattle.std.specs.Prelude.{option_map, if◌then◌else◌}
+use Rattle.std.proofs.Common.{◌≡◌, ℕ, zero, suc, ◌<◌, Bool, true, false, List, [], ◌∷◌, length, replicate, get_or, Option, Some, refl, ap, ◌∙◌, arith, All}
+use Rattle.std.specs.Prelude.{if◌then◌else◌}
 use Rattle.std.proofs.lemmas.Bool.{and_parts}
 use Rattle.std.proofs.lemmas.List.{length-map, length-replicate}
-use Rattle.std.proofs.lemmas.Option.{slice_get-map}
 use Rattle.rt_schema.specs.declared.column.Column.{Column}
 use Rattle.rt_schema.specs.declared.column.Kind.{Kind}
 use Rattle.rt_schema.specs.declared.column.Kind.TheVariants as kinds
@@ -11,13 +10,14 @@ use Rattle.rt_schema.specs.declared.column.Role.{Role}
 use Rattle.rt_schema.specs.declared.column.Role.TheVariants.{Dimension, Metric, Moment}
 use Rattle.rt_schema.specs.declared.schema.Schema.{Schema}
 use Rattle.rt_schema.specs.declared.value.Value.{Value}
+use Rattle.rt_schema.specs.Row.{IsRowOf}
 use Rattle.rt_schema.specs.Value.{kind_of, missing_of}
-use Rattle.rt_segment.specs.Column.{SealedColumn, IsColumn, kind_in, values_in, values_of}
-use Rattle.rt_segment.specs.Segment.{SealedSegment, IsSealed, IsColumnOf, is_column}
+use Rattle.rt_segment.specs.Column.{SealedColumn, IsColumn, values_in}
+use Rattle.rt_segment.specs.Segment.{SealedSegment, IsSealed, is_column}
 use Rattle.rt_scan.specs.Filled.{stored_as, values_or, values_as}
 use Rattle.rt_scan.specs.Table.{item_at, cell_at, row_at}
-use Rattle.rt_scan.proofs.Fitting.{HasKinds}
 use Rattle.rt_scan.proofs.SealedRows.{kind_same, kind_of_cell}
+use Rattle.rt_scan.proofs.Sets.{map_agree, map_map}
 
 missing_kind : (kind : Kind) (role : Role) → kind_of (missing_of kind role) ≡ kind
 missing_kind kinds.Int Dimension = refl
@@ -68,10 +68,7 @@ module _ (schema : Schema) (sealed : SealedSegment) (is : IsSealed sealed) where
   pub full_columns_as : (columns : List Column) → All (λ column. length (values_as sealed.columns sealed.rows column) ≡ sealed.rows) columns
   full_columns_as columns k d h = (full_stored sealed.rows (get_or columns k d) sealed.columns (stored_all sealed is)).count
 
-  pub has_kinds_as : (r : ℕ) → r < sealed.rows → HasKinds schema (row_at (values_as sealed.columns sealed.rows) schema.columns r)
-  has_kinds_as r h place column at =
-      let values = values_as sealed.columns sealed.rows in (
-        cell_at values r column,
-        slice_get-map (cell_at values r) schema.columns place ∙ ap (option_map (cell_at values r)) at,
-        (full_stored sealed.rows column sealed.columns (stored_all sealed is)).kinds r h,
-      )
+  pub row_of_schema_as : (r : ℕ) → r < sealed.rows → IsRowOf schema (row_at (values_as sealed.columns sealed.rows) schema.columns r)
+  row_of_schema_as r h =
+      map_map kind_of (cell_at (values_as sealed.columns sealed.rows) r) schema.columns
+      ∙ map_agree _ _ (λ column. (full_stored sealed.rows column sealed.columns (stored_all sealed is)).kinds r h) schema.columns

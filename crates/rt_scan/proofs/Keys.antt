@@ -89,14 +89,15 @@ module _ {K : Type 0} (below : K → K → Bool) (low high : Edge K) (xs : List 
       ∙ at_value k v.0 (exact k v.0 v.1)
       ∙ sym (mapped_at (is_within below low high) xs k d v.0 v.1))
 
--- the value of an id is marked
-module _ {K : Type 0} {below : K → K → Bool} (order : IsStrictOrder below) (xs : List K) (ts : List Bool) (key : K) where
-  same_itself : same_key below key key ≡ true
+module _ {K : Type 0} {below : K → K → Bool} (order : IsStrictOrder below) (key : K) where
+  pub same_itself : same_key below key key ≡ true
   same_itself = ap (λ b. not b && not b) (order.irreflexive key)
 
-  same_is : (v : K) → same_key below v key ≡ true → v ≡ key
+  pub same_is : (v : K) → same_key below v key ≡ true → v ≡ key
   same_is v t = let p = and_parts _ _ t in order.total v key (not-true _ p.0) (not-true _ p.1)
 
+-- the value of an id is marked
+module _ {K : Type 0} {below : K → K → Bool} (order : IsStrictOrder below) (xs : List K) (ts : List Bool) (key : K) where
   pub marked_id : (id : ℕ) → length ts ≡ length xs → ((i : ℕ) → (Some id ≡ Some i) ↔ (slice_get xs i ≡ Some key)) →
       set ts id true ≡ either ts (map (λ v. same_key below v key) xs)
   marked_id id len exact =
@@ -110,10 +111,10 @@ module _ {K : Type 0} {below : K → K → Bool} (order : IsStrictOrder below) (
         | inl here ↦
             let found : v.0 ≡ key = same_Some _ _ (sym v.1 ∙ ap (slice_get xs) here ∙ (exact id).0 refl) in
             ap (λ j. get_or (set ts id true) j d) here ∙ get_or-set_same ts id true d (omega (arith, inside, here))
-            ∙ sym (or_right (get_or ts k d) (same_key below v.0 key) (ap f found ∙ same_itself)) ∙ sym right
+            ∙ sym (or_right (get_or ts k d) (same_key below v.0 key) (ap f found ∙ same_itself order key)) ∙ sym right
         | inr apart ↦
             get_or-set_other ts id k true d apart
-            ∙ sym (or_none (get_or ts k d) (same_key below v.0 key) (false_from_ne_true _ (λ t. apart (sym (same_Some _ _ ((exact k).1 (v.1 ∙ ap Some (same_is v.0 t))))))))
+            ∙ sym (or_none (get_or ts k d) (same_key below v.0 key) (false_from_ne_true _ (λ t. apart (sym (same_Some _ _ ((exact k).1 (v.1 ∙ ap Some (same_is order key v.0 t))))))))
             ∙ sym right
       ])
 
@@ -124,7 +125,7 @@ module _ {K : Type 0} {below : K → K → Bool} (order : IsStrictOrder below) (
       let same_len : length ts ≡ length (map f xs) = len ∙ sym (length-map xs f) in
       same_lists _ _ (sym (length_either ts (map f xs) same_len)) (λ k d inside.
       let v = item xs k (omega (arith, inside, len)) in
-      sym (or_none (get_or ts k d) (same_key below v.0 key) (false_from_ne_true _ (λ t. none-some _ ((exact k).1 (v.1 ∙ ap Some (same_is v.0 t))))))
+      sym (or_none (get_or ts k d) (same_key below v.0 key) (false_from_ne_true _ (λ t. none-some _ ((exact k).1 (v.1 ∙ ap Some (same_is order key v.0 t))))))
       ∙ ap (λ b. get_or ts k d || b) (sym (mapped_at f xs k d v.0 v.1))
       ∙ sym (get_or_either ts (map f xs) k d same_len inside))
 

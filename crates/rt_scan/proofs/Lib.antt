@@ -7,10 +7,10 @@ pub mod Held
 pub mod Noted
 pub mod Leading
 pub mod Walked
-pub mod Fitting
 pub mod SealedRows
 pub mod Arrived
 pub mod ConsumingRows
 pub mod FilledRows
 pub mod Edges
 pub mod Skipped
+pub mod Sought

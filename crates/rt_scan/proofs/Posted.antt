@@ -31,15 +31,15 @@ get_with_rows s (x ∷ rs) r h =
     ∙ ap (λ b. b || among r rs) (set_bit s x r h)
     ∙ or_assoc (get_or s r false) (x == r) (among r rs)
 
-kept_below : (b : Bool) (a : ℕ) (rest : List ℕ) (r : ℕ) → r < a → among r rest ≡ false → among r (cond b (a ∷ rest) rest) ≡ false
+pub kept_below : (b : Bool) (a : ℕ) (rest : List ℕ) (r : ℕ) → r < a → among r rest ≡ false → among r (cond b (a ∷ rest) rest) ≡ false
 kept_below true a rest r h none = ap (λ b. b || among r rest) (ne_eqb a r (λ e. omega arith)) ∙ none
 kept_below false a rest r h none = none
 
-kept_first : (q : ℕ → Bool) (b : Bool) (a : ℕ) (rest : List ℕ) (r : ℕ) → q a ≡ b → a ≡ r → among r rest ≡ false → among r (cond b (a ∷ rest) rest) ≡ q r
+pub kept_first : (q : ℕ → Bool) (b : Bool) (a : ℕ) (rest : List ℕ) (r : ℕ) → q a ≡ b → a ≡ r → among r rest ≡ false → among r (cond b (a ∷ rest) rest) ≡ q r
 kept_first q true a rest r e same none = or_left (a == r) (among r rest) (eq-eqb a r same) ∙ sym e ∙ ap q same
 kept_first q false a rest r e same none = none ∙ sym e ∙ ap q same
 
-kept_later : (q : ℕ → Bool) (b : Bool) (a : ℕ) (rest : List ℕ) (r : ℕ) → (a ≡ r → ⊥) → among r rest ≡ q r → among r (cond b (a ∷ rest) rest) ≡ q r
+pub kept_later : (q : ℕ → Bool) (b : Bool) (a : ℕ) (rest : List ℕ) (r : ℕ) → (a ≡ r → ⊥) → among r rest ≡ q r → among r (cond b (a ∷ rest) rest) ≡ q r
 kept_later q true a rest r apart is = ap (λ b. b || among r rest) (ne_eqb a r apart) ∙ is
 kept_later q false a rest r apart is = is
 

@@ -1,25 +1,25 @@
 -- The rows of a sealed segment, and the kinds of their values.
 use Rattle.std.proofs.Common.{◌≡◌, ℕ, zero, suc, ◌<◌, true, false, List, [], ◌∷◌, length, map, get_or, slice_get, Some, refl, ap, sym, subst, ◌∙◌, arith, All}
-use Rattle.std.specs.Prelude.{bytes_eq, option_map}
+use Rattle.std.specs.Prelude.{bytes_eq}
 use Rattle.std.specs.List.{range_with_len}
 use Rattle.std.proofs.Math.ListN.{get_or-map}
 use Rattle.std.proofs.lemmas.Bool.{and_parts, false≢true}
 use Rattle.std.proofs.lemmas.List.{length-map, get_or_default}
-use Rattle.std.proofs.lemmas.List.Elements.{All-weaker}
-use Rattle.std.proofs.lemmas.Option.{slice_get-map, slice_get_within, get_or_from_slice_get, none-some, same_Some}
+use Rattle.std.proofs.lemmas.List.Elements.{All-weaker, All-head, All-tail}
+use Rattle.std.proofs.lemmas.Option.{none-some, same_Some}
 use Rattle.rt_schema.specs.declared.column.Column.{Column}
 use Rattle.rt_schema.specs.declared.column.Kind.{Kind}
 use Rattle.rt_schema.specs.declared.column.Kind.TheVariants as kinds
 use Rattle.rt_schema.specs.declared.schema.Schema.{Schema}
 use Rattle.rt_schema.specs.declared.value.Value.{Value}
 use Rattle.rt_schema.specs.declared.value.Value.TheVariants as value
+use Rattle.rt_schema.specs.Row.{IsRowOf}
 use Rattle.rt_schema.specs.Value.{kind_of}
 use Rattle.rt_segment.specs.declared.dictionary.Dictionary.{Dictionary}
 use Rattle.rt_segment.specs.declared.dictionary.Dictionary.TheVariants.{Int, Long, Text, Bool as Truth, Time}
 use Rattle.rt_segment.specs.Column.{SealedColumn, IsColumn, kind_in, count_in, values_in, values_of}
 use Rattle.rt_segment.specs.Segment.{SealedSegment, IsSealed, IsColumnOf, cell_in, row_in, kind_eq, are_columns}
 use Rattle.rt_scan.specs.Table.{item_at, cell_at, row_at, rows_by}
-use Rattle.rt_scan.proofs.Fitting.{HasKinds}
 use Rattle.rt_scan.proofs.Sets.{map_agree, map_map}
 
 -- rows come from the values of the columns alone
@@ -92,15 +92,22 @@ column_at_place (s ∷ stored) (c ∷ cs) e zero column at =
     (s, refl, kind_same _ _ q.1 ∙ ap (λ x. x.kind) same, subst (λ (x : Column). bytes_eq s.name x.name ≡ true) same q.0)
 column_at_place (s ∷ stored) (c ∷ cs) e (suc place) column at = column_at_place stored cs (and_parts _ _ e).1 place column at
 
+-- columns that are a schema's have cells of the schema's kinds
+kinds_of_cells : (r : ℕ) (stored : List SealedColumn) (cs : List Column) → are_columns stored cs ≡ true → All (λ s. kind_of (cell_in r s) ≡ kind_in s.dictionary) stored →
+    map kind_of (map (cell_in r) stored) ≡ map (λ column. column.kind) cs
+kinds_of_cells r [] [] e all = refl
+kinds_of_cells r [] (c ∷ cs) e all = absurd (false≢true e)
+kinds_of_cells r (s ∷ stored) [] e all = absurd (false≢true e)
+kinds_of_cells r (s ∷ stored) (c ∷ cs) e all =
+    let P = λ (x : SealedColumn). kind_of (cell_in r x) ≡ kind_in x.dictionary in
+    let p = and_parts _ _ e in
+    ap (λ k. k ∷ map kind_of (map (cell_in r) stored)) (All-head P s stored all ∙ kind_same _ _ (and_parts _ _ p.0).1)
+    ∙ ap (λ ks. c.kind ∷ ks) (kinds_of_cells r stored cs p.1 (All-tail P s stored all))
+
 module _ (schema : Schema) (sealed : SealedSegment) (is : IsSealed sealed) (columns : are_columns sealed.columns schema.columns ≡ true) where
-  pub has_kinds : (r : ℕ) → r < sealed.rows → HasKinds schema (row_in sealed.columns r)
-  has_kinds r h place column at =
-      let s = column_at_place sealed.columns schema.columns columns place column at in
-      let inside : place < length sealed.columns = slice_get_within sealed.columns place s.0 s.1 in
-      let here : get_or sealed.columns place s.0 ≡ s.0 = get_or_from_slice_get sealed.columns place s.0 s.0 s.1 in
-      let right : IsColumn s.0 = subst IsColumn here (is.columns place s.0 inside) in
-      let rows : length s.0.ids ≡ sealed.rows = ap (λ (c : SealedColumn). length c.ids) (sym here) ∙ (is.sealable.columns place s.0 inside).rows in
-      (cell_in r s.0, slice_get-map (cell_in r) sealed.columns place ∙ ap (option_map (cell_in r)) s.1, kind_of_cell s.0 r right (omega (arith, h, rows)) ∙ s.2)
+  pub row_of_schema : (r : ℕ) → r < sealed.rows → IsRowOf schema (row_in sealed.columns r)
+  row_of_schema r h = kinds_of_cells r sealed.columns schema.columns columns (λ k d inside.
+      kind_of_cell (get_or sealed.columns k d) r (is.columns k d inside) (omega (arith, h, (is.sealable.columns k d inside).rows)))
 
 pub full_columns : (sealed : SealedSegment) → IsSealed sealed → All (λ column. length (values_of column) ≡ sealed.rows) sealed.columns
 full_columns sealed is = All-weaker (IsColumnOf sealed.rows) (λ column. length (values_of column) ≡ sealed.rows) (λ column c. length-map column.ids (λ id. item_at (values_in column.dictionary) id) ∙ c.rows) sealed.columns is.sealable.columns

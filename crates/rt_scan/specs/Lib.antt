@@ -10,3 +10,4 @@ pub mod Scanned
 pub mod ConsumingColumn
 pub mod Filled
 pub mod Skips
+pub mod Sought

@@ -10,6 +10,7 @@ ghost use Rattle.rt_scan.specs.Table.{item_at};
 use crate::column_test::ColumnTest;
 use crate::row_sets::rows_with;
 use crate::scan_column::ScanColumn;
+use crate::seeking::rows_sought;
 use rt_agg::Scalar;
 use rt_mutable::{ColumnValues, MutableColumn};
 use rt_postings::DocSet;
@@ -48,6 +49,24 @@ impl<'a> ScanColumn for ConsumingColumn<'a> {
 
 // Which of the first rows pass a test.
 fn first_rows(
+    alloc: Global,
+    column: &MutableColumn,
+    rows: u32,
+    test: &ColumnTest<'_>,
+) -> Result<DocSet, AllocError>
+    requires { length column.now.values ≤ 1000000 }
+    ensures { IfOk result (λ set. set ≡ map (passes_test test.now) (first_values column.now rows)) }
+{
+    if column.is_indexed() {
+        if let Some(set) = rows_sought(alloc, column, rows, test)? {
+            return Ok(set);
+        }
+    }
+    rows_by_ids(alloc, column, rows, test)
+}
+
+// Which of the first rows pass a test, by the test of each distinct value.
+fn rows_by_ids(
     alloc: Global,
     column: &MutableColumn,
     rows: u32,

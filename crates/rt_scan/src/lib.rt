@@ -18,6 +18,7 @@ mod row_reader;
 mod row_sets;
 mod scan_column;
 mod scanning;
+mod seeking;
 mod skipping;
 mod standing;
 mod truths;

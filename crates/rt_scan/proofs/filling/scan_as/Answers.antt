@@ -3,14 +3,15 @@ use Rattle.std.specs.Prelude.{IfOk}
 use Rattle.std.proofs.lemmas.List.Elements.{All-map}
 use Rattle.rt_schema.specs.declared.row.Row.{Row}
 use Rattle.rt_schema.specs.declared.value.Value.{Value}
+use Rattle.rt_schema.specs.Row.{IsRowOf}
 use Rattle.rt_model.specs.Aggregate.{taken}
 use Rattle.rt_agg.specs.Grouped.{Holds}
+use Rattle.rt_agg.proofs.Fitting.{rows_fit}
 use Rattle.rt_segment.specs.Column.{SealedColumn}
 use Rattle.rt_scan.specs.FileColumn.{file_values}
 use Rattle.rt_scan.specs.Filled.{values_as}
 use Rattle.rt_scan.specs.Table.{row_at, rows_by}
-use Rattle.rt_scan.proofs.Fitting.{HasKinds, query_fits}
-use Rattle.rt_scan.proofs.FilledRows.{full_columns_as, has_kinds_as}
+use Rattle.rt_scan.proofs.FilledRows.{full_columns_as, row_of_schema_as}
 use Rattle.rt_scan.proofs.SealedRows.{same_row, same_rows, unmapped}
 use Rattle.rt_scan.proofs.filling.scan_as.Goals as goal
 use Rattle.rt_scan.proofs.filling.scan_as.Goals.{After-deref}
@@ -42,8 +43,9 @@ groups_taken-requires-clause-fits c row h =
     let sealed = c.args.sealed.now in
     let schema = c.args.schema.now in
     let this = same_row file_values (values_as sealed.columns sealed.rows) c.deref.result.now schema.columns (found at) row in
-    query_fits schema c.args.query.now (row_at file_values c.deref.result.now row) c.requires
-    (subst (HasKinds schema) (sym this) (has_kinds_as schema sealed c.header-header.ensures.right row (omega (arith, h, count at))))
+    rows_fit schema (row_at file_values c.deref.result.now row)
+    (subst (IsRowOf schema) (sym this) (row_of_schema_as schema sealed c.header-header.ensures.right row (omega (arith, h, count at))))
+    c.args.query.now c.requires
 
 pub returns : goal.returns
 returns c =

@@ -3,13 +3,14 @@ use Rattle.std.specs.Prelude.{IfOk}
 use Rattle.std.proofs.lemmas.List.Elements.{All-map}
 use Rattle.rt_schema.specs.declared.row.Row.{Row}
 use Rattle.rt_schema.specs.declared.value.Value.{Value}
+use Rattle.rt_schema.specs.Row.{IsRowOf}
 use Rattle.rt_model.specs.Aggregate.{taken}
 use Rattle.rt_segment.specs.Column.{values_of}
 use Rattle.rt_agg.specs.Grouped.{Holds}
+use Rattle.rt_agg.proofs.Fitting.{rows_fit}
 use Rattle.rt_scan.specs.FileColumn.{file_values}
 use Rattle.rt_scan.specs.Table.{row_at, rows_by}
-use Rattle.rt_scan.proofs.Fitting.{HasKinds, query_fits}
-use Rattle.rt_scan.proofs.SealedRows.{same_row, same_rows, unmapped, has_kinds, full_columns}
+use Rattle.rt_scan.proofs.SealedRows.{same_row, same_rows, unmapped, row_of_schema, full_columns}
 use Rattle.rt_scan.proofs.Skipped.{none_taken}
 use Rattle.rt_scan.proofs.scanning.scan.Goals as goal
 use Rattle.rt_scan.proofs.scanning.scan.Goals.{After-deref}
@@ -32,8 +33,9 @@ pub groups_taken-requires-clause-fits : goal.groups_taken-requires-clause-fits
 groups_taken-requires-clause-fits c row h =
     let at = (goal.at.groups_taken-requires-clause-fits c).After-deref in
     let this = same_row file_values values_of c.deref.result.now c.args.sealed.now.columns (held at) row in
-    query_fits c.requires.schema c.args.query.now (row_at file_values c.deref.result.now row) c.requires.parsed
-    (subst (HasKinds c.requires.schema) (sym this) (has_kinds c.requires.schema c.args.sealed.now c.header-header.ensures.right c.requires.columns row (omega (arith, h, count at))))
+    rows_fit c.requires.schema (row_at file_values c.deref.result.now row)
+    (subst (IsRowOf c.requires.schema) (sym this) (row_of_schema c.requires.schema c.args.sealed.now c.header-header.ensures.right c.requires.columns row (omega (arith, h, count at))))
+    c.args.query.now c.requires.parsed
 
 pub returns-then-skips : goal.returns-then-skips
 returns-then-skips c =

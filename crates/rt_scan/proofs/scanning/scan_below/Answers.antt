@@ -7,10 +7,10 @@ use Rattle.rt_schema.specs.declared.value.Value.{Value}
 use Rattle.rt_model.specs.Aggregate.{taken}
 use Rattle.rt_mutable.specs.Consuming.{Placed, is_before}
 use Rattle.rt_agg.specs.Grouped.{Holds}
+use Rattle.rt_agg.proofs.Fitting.{rows_fit}
 use Rattle.rt_scan.specs.Scanned.{first_at, consuming_values}
 use Rattle.rt_scan.specs.Table.{row_at}
 use Rattle.rt_scan.proofs.ConsumingRows.{first_rows_are, first_full, first_kinds}
-use Rattle.rt_scan.proofs.Fitting.{query_fits}
 use Rattle.rt_scan.proofs.SealedRows.{unmapped}
 use Rattle.rt_scan.proofs.scanning.scan_below.Goals as goal
 use Rattle.rt_scan.proofs.scanning.scan_below.Goals.{After-deref}
@@ -32,8 +32,9 @@ groups_taken-requires-clause-full c =
 pub groups_taken-requires-clause-fits : goal.groups_taken-requires-clause-fits
 groups_taken-requires-clause-fits c row h =
     let at = (goal.at.groups_taken-requires-clause-fits c).After-deref in
-    query_fits c.requires.schema c.args.query.now (row_at consuming_values c.deref.result.now row) c.requires.parsed
+    rows_fit c.requires.schema (row_at consuming_values c.deref.result.now row)
     (first_kinds c.args.rows.now c.column_count-width.ensures.right consuming_values c.deref.result.now c.rows_below-count.result (within at) (columns at) c.requires.schema c.requires.kinds row h)
+    c.args.query.now c.requires.parsed
 
 pub returns : goal.returns
 returns c =

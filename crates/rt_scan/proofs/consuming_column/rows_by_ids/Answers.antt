@@ -6,8 +6,8 @@ use Rattle.rt_scan.specs.ColumnTest.{passes_test}
 use Rattle.rt_scan.specs.RowSets.{truth_at}
 use Rattle.rt_scan.proofs.Sets.{ok_then}
 use Rattle.rt_scan.proofs.Arrived.{some_known, first_pass}
-use Rattle.rt_scan.proofs.consuming_column.first_rows.Goals as goal
-use Rattle.rt_scan.proofs.consuming_column.first_rows.Goals.{After-deref}
+use Rattle.rt_scan.proofs.consuming_column.rows_by_ids.Goals as goal
+use Rattle.rt_scan.proofs.consuming_column.rows_by_ids.Goals.{After-deref}
 
 truths : (c : After-deref) → c.deref.result.now ≡ map (passes_test c.args.test.now) (arrivals_of same_value c.args.column.now.values)
 truths c = c.deref.ensures.value ∙ c.in_ok-truths.ensures {u = tt}
