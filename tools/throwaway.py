@@ -8,13 +8,13 @@ import tempfile
 ROOT = os.path.dirname(os.path.dirname(os.path.abspath(__file__)))
 
 
-def make(folder, program, libraries, kit_libraries=()):
+def make(folder, program, libraries, kit_libraries=(), modules=None):
     """A repository with the program `throwaway` and the crates below it; answers the program's folder.
 
-    `libraries` are crates of this repository, lowest first, with all that they stand on.
+    `libraries` are crates of this repository, lowest first, with all that they stand on; `modules` are the program's
+    other files, by their paths in its folder.
     """
     home = os.path.join(folder, "crates", "throwaway")
-    os.makedirs(os.path.join(home, "src"))
     for name in libraries:
         shutil.copytree(os.path.join(ROOT, "crates", name), os.path.join(folder, "crates", name),
                         ignore=shutil.ignore_patterns("out"))
@@ -23,10 +23,21 @@ def make(folder, program, libraries, kit_libraries=()):
     with open(os.path.join(folder, "crates.txt"), "w") as out:
         out.writelines(lines)
         out.write("throwaway: " + " ".join([*libraries, *kit_libraries]) + "\n")
-    with open(os.path.join(home, "src", "main.rt"), "w") as out:
-        out.write(program)
+    for name, text in {"src/main.rt": program, **(modules or {})}.items():
+        path = os.path.join(home, name)
+        os.makedirs(os.path.dirname(path), exist_ok=True)
+        with open(path, "w") as out:
+            out.write(text)
     subprocess.run(["git", "init", "-q"], cwd=folder, check=True)
     return home
+
+
+def output(home, command="run"):
+    """What `rt COMMAND` on such a program prints; ends the script where it fails."""
+    run = subprocess.run(["rt", command], cwd=home, stdout=subprocess.PIPE, text=True, check=False)
+    if run.returncode != 0:
+        sys.exit(run.returncode)
+    return run.stdout
 
 
 def run(usage, program, libraries, kit_libraries=(), command="run"):
