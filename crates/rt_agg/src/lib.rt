@@ -16,6 +16,8 @@ mod result;
 mod scalar;
 mod served;
 mod table;
+#[cfg(test)]
+mod tests;
 mod total;
 
 pub use accumulator::Accumulator;
