@@ -117,7 +117,7 @@ def literal_near(random, column, pools):
     values = [value for value in pools.get(column.name, []) if is_of(column.kind, value)] or [column.missing]
     if random.random() < 0.2:
         values = POOLS[column.kind]
-    value = random.choice(values)
+    value = random.choice(random.choice([values, values, [min(values), max(values)]]))
     if column.kind == "STRING":
         value = value if "\n" not in value else "a"
         return value + random.choice(["", "", "", "a", "'"])
