@@ -1,7 +1,9 @@
-//! Scripts with their reports: tests that cross the crates.
+//! Scripts with their reports, and queries over segments: tests that cross the crates.
 #![tactic(auto)]
 
 #[cfg(test)]
 mod headers;
 #[cfg(test)]
 mod rows;
+#[cfg(test)]
+mod scans;
