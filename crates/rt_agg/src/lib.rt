@@ -16,8 +16,6 @@ mod result;
 mod scalar;
 mod served;
 mod table;
-#[cfg(test)]
-mod tests;
 mod total;
 
 pub use accumulator::Accumulator;

@@ -1,6 +1,8 @@
-//! Scripts with their reports, and queries over segments: tests that cross the crates.
+//! Scripts with their reports, and queries over rows and segments: tests that cross the crates.
 #![tactic(auto)]
 
+#[cfg(test)]
+mod groups;
 #[cfg(test)]
 mod headers;
 #[cfg(test)]

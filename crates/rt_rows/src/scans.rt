@@ -1,17 +1,20 @@
 //! Queries, read from their texts, over segments.
 ghost use Rattle.std.specs.Prelude.{◌≡◌, ◌<◌, ◌≤◌, ◌+◌, [], ◌∷◌, true, codes, length, IfOk, OnOk};
+ghost use Rattle.rt_schema.specs.Schema.{IsSchema};
 ghost use Rattle.rt_schema.specs.declared.column.Kind.TheVariants as kind;
 ghost use Rattle.rt_schema.specs.declared.column.Role.TheVariants as role;
+ghost use Rattle.rt_model.specs.Checked.{IsQuery};
+ghost use Rattle.rt_segment.specs.Segment.{are_columns};
 
 use rt_agg::Groups;
 use rt_base::Offset;
 use rt_lines::answer_text;
 use rt_lists::{Items, Text};
-use rt_model::Answer;
+use rt_model::{Answer, Query};
 use rt_mutable::MutableSegment;
 use rt_scan::{scan, scan_as, scan_below, skips};
 use rt_schema::{Column, Kind, Role, Row, Schema, Value, read_schema};
-use rt_segment::decode;
+use rt_segment::{Sealed, decode};
 use rt_sql::parse;
 use std::alloc::{AllocError, Global};
 use std::test::Fail;
@@ -44,31 +47,61 @@ fn text_of(alloc: Global, groups: &Groups) -> Result<String, AllocError> {
     answer_text(alloc, &answer)
 }
 
+// What the tests need of the calls that read texts and bytes.
+fn schema_of(alloc: Global, text: &str) -> Result<Schema, Fail>
+    ensures { IfOk result IsSchema }
+{
+    Ok(read_schema(alloc, text)?)
+}
+
+fn query_of(alloc: Global, text: &str, schema: &Schema) -> Result<Query, Fail>
+    requires { IsSchema schema.now }
+    ensures { IfOk result (IsQuery schema.now) }
+{
+    Ok(parse(alloc, text, schema, "t")?)
+}
+
+fn file(alloc: Global) -> Result<Sealed, Fail> {
+    Ok(decode(alloc, &FILE)?)
+}
+
 #[test]
 fn a_file_is_skipped_past_its_greatest_value(rt: HostRuntime) -> Result<(), Fail> {
     let alloc = rt.alloc();
-    let schema = read_schema(alloc, SCHEMA)?;
-    let sealed = decode(alloc, &FILE)?;
-    let past = parse(alloc, "SELECT COUNT(*) FROM t WHERE v > 5", &schema, "t")?;
+    let schema = schema_of(alloc, SCHEMA)?;
+    let sealed = file(alloc)?;
+    let past = query_of(alloc, "SELECT COUNT(*) FROM t WHERE v > 5", &schema)?;
     assert!(rt; skips(&past, &sealed));
-    let within = parse(alloc, "SELECT COUNT(*) FROM t WHERE v >= 5", &schema, "t")?;
+    let within = query_of(alloc, "SELECT COUNT(*) FROM t WHERE v >= 5", &schema)?;
     assert!(rt; !skips(&within, &sealed));
     Ok(())
+}
+
+#[tactic(auto, using(crate::proofs::Fitting::fits_sealed))]
+fn scan_file(
+    alloc: Global,
+    query: &Query,
+    schema: &Schema,
+    sealed: &Sealed,
+) -> Result<Groups, AllocError>
+    requires query { IsQuery schema.now query.now }
+    requires columns { are_columns sealed.now.columns schema.now.columns ≡ true }
+{
+    scan(alloc, query, sealed)
 }
 
 #[test]
 fn a_file_is_scanned(rt: HostRuntime) -> Result<(), Fail> {
     let alloc = rt.alloc();
-    let schema = read_schema(alloc, SCHEMA)?;
-    let sealed = decode(alloc, &FILE)?;
+    let schema = schema_of(alloc, SCHEMA)?;
+    let sealed = file(alloc)?;
     assert!(rt; sealed.fits(&schema));
-    let query = parse(
+    let query = query_of(
         alloc,
         "SELECT COUNT(*), SUM(v) FROM t WHERE k <> 'b'",
         &schema,
-        "t",
     )?;
-    let groups = scan(alloc, &query, &sealed)?;
+    let groups = scan_file(alloc, &query, &schema, &sealed)?;
     assert_eq!(rt;
         text_of(alloc, &groups)?.as_str(),
         "{\"ranges\":[],\"missing\":[],\"rows\":[[1,5]]}"
@@ -79,13 +112,12 @@ fn a_file_is_scanned(rt: HostRuntime) -> Result<(), Fail> {
 #[test]
 fn a_file_that_lacks_columns(rt: HostRuntime) -> Result<(), Fail> {
     let alloc = rt.alloc();
-    let schema = read_schema(alloc, WIDER)?;
-    let sealed = decode(alloc, &FILE)?;
-    let query = parse(
+    let schema = schema_of(alloc, WIDER)?;
+    let sealed = file(alloc)?;
+    let query = query_of(
         alloc,
         "SELECT COUNT(*), SUM(w) FROM t WHERE d = 'null'",
         &schema,
-        "t",
     )?;
     let groups = scan_as(alloc, &query, &schema, &sealed)?;
     assert_eq!(rt;
@@ -97,7 +129,8 @@ fn a_file_that_lacks_columns(rt: HostRuntime) -> Result<(), Fail> {
 
 /// A schema of one text column `k`.
 fn schema_of_texts(alloc: Global) -> Result<Schema, AllocError>
-    ensures { IfOk result (λ s. s.columns ≡ record { name = codes "k"; kind = kind.Text; role = role.Dimension } ∷ []) }
+    ensures schema { IfOk result IsSchema }
+    ensures columns { IfOk result (λ s. s.columns ≡ record { name = codes "k"; kind = kind.Text; role = role.Dimension } ∷ []) }
 {
     let mut columns = Items::new(alloc);
     columns.push(Column {
@@ -139,6 +172,21 @@ fn add(segment: &mut MutableSegment, alloc: Global, text: &str) -> Result<(), Al
     segment.index(alloc, Some(&row))
 }
 
+#[tactic(auto, using(crate::proofs::Fitting::fits_consuming))]
+fn scan_rows_below(
+    alloc: Global,
+    query: &Query,
+    schema: &Schema,
+    segment: &MutableSegment,
+    offset: Offset,
+) -> Result<Groups, AllocError>
+    requires query { IsQuery schema.now query.now }
+    requires schema { schema.now.columns ≡ record { name = codes "k"; kind = kind.Text; role = role.Dimension } ∷ [] }
+    requires columns { segment.now.columns ≡ record { name = codes "k"; kind = kind.Text; indexed = true } ∷ [] }
+{
+    scan_below(alloc, query, segment, offset)
+}
+
 #[test]
 fn rows_below_an_offset_are_scanned(rt: HostRuntime) -> Result<(), Fail> {
     let alloc = rt.alloc();
@@ -147,8 +195,8 @@ fn rows_below_an_offset_are_scanned(rt: HostRuntime) -> Result<(), Fail> {
     add(&mut segment, alloc, "b")?;
     add(&mut segment, alloc, "a")?;
     add(&mut segment, alloc, "b")?;
-    let query = parse(alloc, "SELECT COUNT(*) FROM t WHERE k = 'b'", &schema, "t")?;
-    let groups = scan_below(alloc, &query, &segment, Offset(9))?;
+    let query = query_of(alloc, "SELECT COUNT(*) FROM t WHERE k = 'b'", &schema)?;
+    let groups = scan_rows_below(alloc, &query, &schema, &segment, Offset(9))?;
     assert_eq!(rt;
         text_of(alloc, &groups)?.as_str(),
         "{\"ranges\":[],\"missing\":[],\"rows\":[[1]]}"

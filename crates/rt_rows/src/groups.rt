@@ -1,5 +1,5 @@
 //! Groups of a few rows, with the result rows that they have to give.
-use crate::Groups;
+use rt_agg::Groups;
 use rt_lists::{Items, Text};
 use rt_model::{Aggregate, Cell, ColumnAt, Item, OrderKey, Query, ResultRow};
 use rt_schema::{Row, Value};
