@@ -1,5 +1,5 @@
 -- A query of a schema fits the segments that have its columns.
-use Rattle.std.proofs.Common.{◌≡◌, List, [], ◌∷◌, true, map, codes, ◌∙◌, sym, ap}
+use Rattle.std.proofs.Common.{◌≡◌, [], ◌∷◌, true, map, codes, ◌∙◌, sym, ap}
 use Rattle.rt_schema.specs.declared.column.Column.{Column}
 use Rattle.rt_schema.specs.declared.column.Kind.TheVariants as kind
 use Rattle.rt_schema.specs.declared.column.Role.TheVariants as role
