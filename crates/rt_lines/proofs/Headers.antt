@@ -13,6 +13,7 @@ use Rattle.rt_schema.specs.TableText.{table_of, IsTable}
 use Rattle.rt_schema.proofs.Schemas.{answered_is_schema}
 use Rattle.rt_schema.proofs.Tables.{answered_is_table}
 use Rattle.rt_model.specs.declared.setup.Setup.{Setup}
+use Rattle.rt_model.specs.Setup.{IsSetup}
 use Rattle.rt_lines.specs.declared.cluster.Cluster.{Cluster}
 use Rattle.rt_lines.specs.declared.line_reason.LineReason.{LineReason}
 use Rattle.rt_lines.specs.declared.line_reason.LineReason.TheVariants.{BadLine, Schema as BadSchema, Table as BadTable}
@@ -21,7 +22,7 @@ use Rattle.rt_lines.specs.declared.play_fault.PlayFault.TheVariants.{Usage, Refu
 use Rattle.rt_lines.specs.Cluster.{cluster_of, cluster_fault}
 use Rattle.rt_lines.specs.Lines.{ScriptLines}
 use Rattle.rt_lines.specs.Words.{then_some, after_prefix}
-use Rattle.rt_lines.specs.Header.{NumberedLine, then_ok, if_taken, text_behind, if_well_formed, schema_at, table_at, setup_of, setup_with, setup_at, with_rest, next_line, header_of, Says, Reads, ReadsHeader, IsTaken}
+use Rattle.rt_lines.specs.Header.{NumberedLine, then_ok, if_taken, text_behind, if_well_formed, schema_at, table_at, setup_of, setup_with, setup_at, with_rest, next_line, header_of, Says, Reads, ReadsHeader}
 
 -- a text in UTF-8, or not
 pub is_text : (word line text : List ℕ) → after_prefix word line ≡ Some text → IsUtf8 text → text_behind word line ≡ Some text
@@ -157,7 +158,7 @@ table_has schema line =
     (λ text. if_taken_has IsTable BadTable line.0 (table_of schema text) (answered_is_table schema text (table_of schema text) (answers_itself (table_of schema text))))
 
 single_at : (schema : Schema) (table : Table) (line : ℕ) (c : Cluster) (s k p r : Bool) → eqb c.servers 1 ≡ s → eqb c.controllers 1 ≡ k → eqb c.partitions 1 ≡ p → eqb table.replication 1 ≡ r →
-    IsSchema schema → IsTable table → IfOk (cond (((s && k) && p) && r) (Ok (setup_of schema table c)) (Err (Refused line BadLine))) IsTaken
+    IsSchema schema → IsTable table → IfOk (cond (((s && k) && p) && r) (Ok (setup_of schema table c)) (Err (Refused line BadLine))) IsSetup
 single_at schema table line c true true true true s k p r is has = record {
   servers = eqb-true c.servers 1 s;
   controllers = eqb-true c.controllers 1 k;
@@ -171,25 +172,25 @@ single_at schema table line c true true false r' s k p r is has = tt
 single_at schema table line c true false p' r' s k p r is has = tt
 single_at schema table line c false k' p' r' s k p r is has = tt
 
-with_has : (schema : Schema) (table : Table) (line : ℕ) (c : Cluster) (o : Option Which) → IsSchema schema → IsTable table → IfOk (setup_with schema table line c o) IsTaken
+with_has : (schema : Schema) (table : Table) (line : ℕ) (c : Cluster) (o : Option Which) → IsSchema schema → IsTable table → IfOk (setup_with schema table line c o) IsSetup
 with_has schema table line c (Some which) is has = tt
 with_has schema table line c None is has = single_at schema table line c _ _ _ _ refl refl refl refl is has
 
-setup_has : (schema : Schema) (table : Table) → IsSchema schema → IsTable table → (line : NumberedLine) → IfOk (setup_at schema table line) IsTaken
+setup_has : (schema : Schema) (table : Table) → IsSchema schema → IsTable table → (line : NumberedLine) → IfOk (setup_at schema table line) IsSetup
 setup_has schema table is has line =
-    well_formed_has IsTaken line.0 (cluster_of line.1) (λ c. setup_with schema table line.0 c (cluster_fault c table.replication))
+    well_formed_has IsSetup line.0 (cluster_of line.1) (λ c. setup_with schema table line.0 c (cluster_fault c table.replication))
     (λ c. with_has schema table line.0 c (cluster_fault c table.replication) is has)
 
-header_has : (script : ScriptLines) → IfOk (header_of script) (λ x. IsTaken x.0)
+header_has : (script : ScriptLines) → IfOk (header_of script) (λ x. IsSetup x.0)
 header_has script =
-    then_has (λ x. IsTaken x.0) (λ x. IsSchema x.0) (next_line schema_at script.after script.lines) (behind_schema script.after) (next_has IsSchema schema_at script.after script.lines schema_has)
-    (λ schema is. then_has (λ x. IsTaken x.0) (λ x. IsTable x.0) (next_line (table_at schema.0) script.after schema.1) (behind_table schema.0 script.after) (next_has IsTable (table_at schema.0) script.after schema.1 (table_has schema.0))
-    (λ table has. next_has IsTaken (setup_at schema.0 table.0) script.after table.1 (setup_has schema.0 table.0 is has)))
+    then_has (λ x. IsSetup x.0) (λ x. IsSchema x.0) (next_line schema_at script.after script.lines) (behind_schema script.after) (next_has IsSchema schema_at script.after script.lines schema_has)
+    (λ schema is. then_has (λ x. IsSetup x.0) (λ x. IsTable x.0) (next_line (table_at schema.0) script.after schema.1) (behind_table schema.0 script.after) (next_has IsTable (table_at schema.0) script.after schema.1 (table_has schema.0))
+    (λ table has. next_has IsSetup (setup_at schema.0 table.0) script.after table.1 (setup_has schema.0 table.0 is has)))
 
 -- a setup that a header says is one that is taken
-pub header_taken : (script : ScriptLines) (setup : Setup) (lines : List NumberedLine) → header_of script ≡ Ok (setup, lines) → IsTaken setup
-header_taken script setup lines e = subst (λ r. IfOk r (λ x. IsTaken x.0)) e (header_has script)
+pub header_taken : (script : ScriptLines) (setup : Setup) (lines : List NumberedLine) → header_of script ≡ Ok (setup, lines) → IsSetup setup
+header_taken script setup lines e = subst (λ r. IfOk r (λ x. IsSetup x.0)) e (header_has script)
 
-pub reads_taken : (old new : ScriptLines) (result : Result Setup PlayFault) → ReadsHeader old new result → IfOk result IsTaken
+pub reads_taken : (old new : ScriptLines) (result : Result Setup PlayFault) → ReadsHeader old new result → IfOk result IsSetup
 reads_taken old new (Ok setup) h = header_taken old setup new.lines h.0
 reads_taken old new (Err fault) h = tt

@@ -1,12 +1,11 @@
 -- The header of a script: its schema line, its table line and its cluster line.
-use Rattle.std.specs.Prelude.{◌≡◌, ℕ, ◌<◌, List, [], ◌∷◌, Option, None, Some, Result, Ok, Err, codes, if◌then◌else◌}
+use Rattle.std.specs.Prelude.{◌≡◌, ℕ, List, [], ◌∷◌, Option, None, Some, Result, Ok, Err, codes, if◌then◌else◌}
 use Rattle.std.specs.Str.{is_utf8}
 use Rattle.rt_base.specs.declared.which.Which.{Which}
 use Rattle.rt_schema.specs.declared.schema.Schema.{Schema}
 use Rattle.rt_schema.specs.declared.table.Table.{Table}
 use Rattle.rt_schema.specs.declared.schema_refused.SchemaRefused.{SchemaRefused}
 use Rattle.rt_schema.specs.declared.schema_refused.SchemaRefused.TheVariants as refused
-use Rattle.rt_schema.specs.Schema.{IsSchema}
 use Rattle.rt_schema.specs.SchemaText.{schema_of}
 use Rattle.rt_schema.specs.TableText.{table_of}
 use Rattle.rt_model.specs.declared.setup.Setup.{Setup}
@@ -116,12 +115,3 @@ Reads wanted old new (Err WriteFault) = ⊥
 -- the header was read, or refused for its reason
 abbrev pub ReadsHeader : ScriptLines → ScriptLines → Result Setup PlayFault → Type 0
 ReadsHeader old new result = Reads (header_of old) old new result
-
--- the setup of a header that was taken
-pub record IsTaken (setup : Setup) : Type 0 where
-  pub servers : setup.servers ≡ 1
-  pub controllers : setup.controllers ≡ 1
-  pub partitions : setup.partitions ≡ 1
-  pub replication : setup.table.replication ≡ 1
-  pub rows : 0 < setup.table.rows
-  pub schema : IsSchema setup.schema

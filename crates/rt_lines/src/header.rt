@@ -1,7 +1,7 @@
 ghost use Rattle.std.specs.Prelude.{◌≡◌, ◌<◌, ◌^◌, Some, None, IfOk, IfSome, IfNone, length};
+ghost use Rattle.rt_model.specs.Setup.{IsSetup};
 ghost use Rattle.rt_lines.specs.declared.line_reason.LineReason.TheVariants.{Schema as BadSchema, Table as BadTable};
 ghost use Rattle.rt_lines.specs.Header.{
-  IsTaken,
   Reads,
   ReadsHeader,
   Says,
@@ -29,7 +29,7 @@ use std::alloc::Global;
 /// lines outside the grammar are.
 pub fn read_header(alloc: Global, lines: &mut Lines<'_>) -> Result<Setup, PlayFault>
     ensures reads { ReadsHeader lines.old lines.new result }
-    ensures taken { IfOk result IsTaken }
+    ensures taken { IfOk result IsSetup }
     ensures few { length lines.new.lines < 2 ^ 64 }
 {
     let schema = read_schema_line(alloc, lines)?;

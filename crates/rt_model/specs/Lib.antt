@@ -15,6 +15,7 @@ pub mod Match
 pub mod Metadata
 pub mod Plan
 pub mod RightAnswer
+pub mod Setup
 pub mod Starting
 pub mod Tests
 pub mod Tiled

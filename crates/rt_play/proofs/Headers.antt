@@ -1,13 +1,12 @@
-use Rattle.std.proofs.Common.{◌≡◌, ℕ, ◌<◌, ◌≤◌, Bool, true, false, List, [], ◌∷◌, Option, Some, None, Result, Ok, Err, refl, ap, sym, ◌∙◌, subst, rules, arith}
-use Rattle.rt_base.specs.Sink.{SinkMeaning, added}
+use Rattle.std.proofs.Common.{◌≡◌, ℕ, false, List, [], ◌∷◌, Option, Some, None, Result, Ok, Err, refl, ap, sym, ◌∙◌, subst}
+use Rattle.rt_base.specs.Sink.{SinkMeaning}
 use Rattle.rt_model.specs.declared.setup.Setup.{Setup}
-use Rattle.rt_lines.specs.Header.{header_of, ReadsHeader, IsTaken}
+use Rattle.rt_lines.specs.Header.{header_of, ReadsHeader}
 use Rattle.rt_lines.proofs.Headers.{header_taken}
 use Rattle.rt_lines.specs.Lines.{ScriptLines, script_lines}
 use Rattle.rt_lines.specs.declared.play_fault.PlayFault.{PlayFault}
 use Rattle.rt_lines.specs.declared.play_fault.PlayFault.TheVariants.{Usage, Refused, ReadFault, WriteFault, Memory, Limit}
 use Rattle.rt_world.specs.Kept.{Kept}
-use Rattle.rt_world.specs.Safe.{IsSetup}
 use Rattle.rt_world.specs.Step.{passed, start}
 use Rattle.rt_world.proofs.Keeps.{Safe_passed, Safe_start}
 use Rattle.rt_world.proofs.Runs.{all_given, right_given}
@@ -18,24 +17,13 @@ use Rattle.rt_play.specs.declared.line.Line.{Line}
 use Rattle.rt_play.specs.declared.line.Line.TheVariants as said
 use Rattle.rt_play.specs.Line.{line_in}
 use Rattle.rt_play.specs.declared.play_end.PlayEnd.{PlayEnd}
-use Rattle.rt_play.specs.Plays.{Puts, PutsLines, Stops, Tells}
-use Rattle.rt_play.specs.Report.{Report, report_of, report_behind, report_from, stopped}
+use Rattle.rt_play.specs.Plays.{PutsLines, Stops, Tells}
+use Rattle.rt_play.specs.Report.{Report, report_of, report_behind, report_from}
 use Rattle.rt_play.specs.Script.{IsSafeScript, IsSafeBehind, IsSafeFrom, IsSafeLine, IsSafePass}
 use Rattle.rt_play.proofs.Tellings.{nothing_put}
 
 abbrev Passed : Type 0
 Passed = Setup × List (ℕ × List ℕ)
-
--- the setup of a header that is taken is one that a world starts from
-pub taken_fits : (setup : Setup) → IsTaken setup → IsSetup setup
-taken_fits setup taken = record {
-  servers = taken.servers;
-  controllers = taken.controllers;
-  partitions = taken.partitions;
-  replication = taken.replication;
-  rows = taken.rows;
-  schema = taken.schema;
-}
 
 -- nothing was written where memory ran out before the first line
 pub none_told : (report : Report) (s : SinkMeaning) → PutsLines report s s
@@ -77,7 +65,7 @@ safe_lines [] w s = s
 safe_lines (line ∷ lines) w s = (s, safe_line w (line_in w.setup line.1) (IsSafeFrom lines) s (safe_lines lines))
 
 safe_behind : (script : ScriptLines) (header : Result Passed PlayFault) → header_of script ≡ header → IsSafeBehind header
-safe_behind script (Ok x) e = safe_lines x.1 (start x.0) (Safe_start x.0 (taken_fits x.0 (header_taken script x.0 x.1 e)))
+safe_behind script (Ok x) e = safe_lines x.1 (start x.0) (Safe_start x.0 (header_taken script x.0 x.1 e))
 safe_behind script (Err fault) e = tt
 
 pub safe_script : (input : List ℕ) → IsSafeScript input

@@ -1,5 +1,5 @@
 ghost use Rattle.std.specs.Prelude.{◌≡◌, ◌<◌, ◌^◌, [], false, Some, length, string_bytes};
-ghost use Rattle.rt_world.specs.Safe.{IsSetup};
+ghost use Rattle.rt_model.specs.Setup.{IsSetup};
 ghost use Rattle.rt_world.specs.Step.{start};
 ghost use Rattle.rt_play.specs.Plays.{PlaysLine, PlaysSaid, Tells};
 ghost use Rattle.rt_play.specs.declared.line.Line.TheVariants as Line;

@@ -25,7 +25,8 @@ use Rattle.rt_world.specs.declared.state.State.{State}
 use Rattle.rt_world.specs.Due.{due_of, produce_due, consume_due, pass_due}
 use Rattle.rt_world.specs.Held.{IsHeld, messages_between, placed_from}
 use Rattle.rt_world.specs.RightAnswer.{IsRightOutcome}
-use Rattle.rt_world.specs.Safe.{IsSafe, IsSetup}
+use Rattle.rt_model.specs.Setup.{IsSetup}
+use Rattle.rt_world.specs.Safe.{IsSafe}
 use Rattle.rt_world.specs.Step.{start, after, produced, consumed, advanced, took, batch, answer_of, passed, piece_of, routed_of, rows_held}
 use Rattle.rt_world.proofs.Filling.{batch_fits, limited_batch}
 use Rattle.rt_world.proofs.Places.{between_append, length_between, placed_append, rows_placed}

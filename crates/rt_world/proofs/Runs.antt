@@ -6,7 +6,8 @@ use Rattle.rt_world.specs.declared.state.State.{State}
 use Rattle.rt_world.specs.Due.{Due, due_of}
 use Rattle.rt_world.specs.RightAnswer.{IsRightAfter}
 use Rattle.rt_world.specs.Run.{IsSafeRun, then_all}
-use Rattle.rt_world.specs.Safe.{IsSafe, IsSetup}
+use Rattle.rt_model.specs.Setup.{IsSetup}
+use Rattle.rt_world.specs.Safe.{IsSafe}
 use Rattle.rt_world.specs.Step.{given_by, after, start}
 use Rattle.rt_world.proofs.Keeps.{Safe_after, Safe_start, right_after}
 

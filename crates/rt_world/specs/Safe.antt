@@ -1,6 +1,5 @@
 -- What is true of every world.
 use Rattle.std.specs.Prelude.{◌≡◌, ◌<◌, ◌≤◌, false, length, Ok, Err}
-use Rattle.rt_model.specs.declared.setup.Setup.{Setup}
 use Rattle.rt_world.specs.declared.state.State.{State}
 use Rattle.rt_schema.specs.Schema.{IsSchema}
 use Rattle.rt_stream.specs.Log.{messages_of}
@@ -8,15 +7,6 @@ use Rattle.rt_world.specs.Held.{IsHeld}
 use Rattle.rt_world.specs.Kept.{Kept}
 use Rattle.rt_world.specs.Due.{events_limit}
 use Rattle.rt_world.specs.Step.{Given}
-
--- a cluster of one server, one controller and one partition
-pub record IsSetup (setup : Setup) : Type 0 where
-  pub servers : setup.servers ≡ 1
-  pub controllers : setup.controllers ≡ 1
-  pub partitions : setup.partitions ≡ 1
-  pub replication : setup.table.replication ≡ 1
-  pub rows : 0 < setup.table.rows
-  pub schema : IsSchema setup.schema
 
 pub record IsSafe (w : State) : Type 0 where
   -- the log has the partitions of the setup, among them the replica's

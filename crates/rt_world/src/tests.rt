@@ -1,6 +1,6 @@
 ghost use Rattle.std.specs.Prelude.{◌≡◌, IfOk};
 ghost use Rattle.rt_world.specs.declared.event.Event.TheVariants as Event;
-ghost use Rattle.rt_world.specs.Safe.{IsSetup};
+ghost use Rattle.rt_model.specs.Setup.{IsSetup};
 
 use super::*;
 use rt_base::{Instance, Moment, Offset, Partition, Sequence, Which};

@@ -3,7 +3,7 @@ ghost use Rattle.rt_schema.specs.Schema.{IsSchema};
 ghost use Rattle.rt_world.specs.Due.{due_of};
 ghost use Rattle.rt_world.specs.RightAnswer.{IsRightOutcome};
 ghost use Rattle.rt_world.specs.Fits.{Fits};
-ghost use Rattle.rt_world.specs.Safe.{IsSetup};
+ghost use Rattle.rt_model.specs.Setup.{IsSetup};
 ghost use Rattle.rt_world.specs.Step.{Passes, Steps, start};
 
 use crate::{Event, Outcome, Refusal, State};
