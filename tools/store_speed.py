@@ -57,7 +57,7 @@ fn main(rt: HostRuntime) -> io::Result<()> {
 }
 '''
 
-LIBRARIES = ["rt_lists", "rt_base", "rt_names", "rt_schema", "rt_model", "rt_assign", "rt_ideal", "rt_store"]
+LIBRARIES = ["rt_lists", "rt_base", "rt_names", "rt_schema", "rt_model", "rt_meta", "rt_assign", "rt_ideal", "rt_store"]
 
 
 if __name__ == "__main__":

@@ -1,14 +1,13 @@
 ghost use Rattle.std.specs.Prelude.{◌≡◌, ◌≤◌, ◌++◌, [], IfOk, OnOk};
 ghost use Rattle.rt_model.specs.Starting.{starting_boots, starting_metas, starting_entries};
-ghost use Rattle.rt_store.specs.Contents.{starting_of, first_meta, fresh};
+ghost use Rattle.rt_store.specs.Contents.{starting_of, fresh};
 
 use crate::MemoryStore;
 use rt_assign::replicas;
 use rt_base::{Instance, Offset, Partition, Sequence};
 use rt_ideal::add_segment;
 use rt_lists::Items;
-use rt_model::{IdealState, Key, Node, SegMeta, Setup, Status};
-use rt_names::{SegmentName, minute_of};
+use rt_model::{IdealState, Key, Node, Setup};
 use std::alloc::{AllocError, Global};
 
 impl MemoryStore {
@@ -53,30 +52,12 @@ fn add_first_nodes(alloc: Global, store: &mut MemoryStore, setup: &Setup) -> Res
     }) }
 {
     for partition in 0..setup.partitions {
-        let meta = first_meta(alloc, setup, Partition(partition))?;
-        let first = Key::Meta(Partition(partition), Sequence(0));
-        store.append(first, Node::Meta(meta))?;
+        let place = Partition(partition);
+        let table = setup.table.name.as_str();
+        let meta = rt_meta::first(alloc, table, place, Sequence(0), Offset(0), setup.start)?;
+        store.append(Key::Meta(place, Sequence(0)), Node::Meta(meta))?;
     }
     Ok(())
-}
-
-/// The metadata of the first segment of a partition.
-fn first_meta(alloc: Global, setup: &Setup, partition: Partition) -> Result<SegMeta, AllocError>
-    requires { setup.now.start.0 ≤ 253402300799999 }
-    ensures { IfOk result (λ meta. meta ≡ first_meta setup.now partition) }
-{
-    let name = SegmentName {
-        table: setup.table.name.copy(alloc)?,
-        partition: partition.0,
-        sequence: 0,
-        minute: minute_of(setup.start.0),
-    };
-    Ok(SegMeta {
-        name: name.format(alloc)?,
-        start: Offset(0),
-        status: Status::InProgress,
-        written: setup.start,
-    })
 }
 
 /// The first ideal state: the first segment of each partition CONSUMING on the instances that it is assigned to.
