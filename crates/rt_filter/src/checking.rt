@@ -70,7 +70,8 @@ fn check_test(
     }
 }
 
-fn kind_at(schema: &Schema, column: &ColumnAt) -> Result<Kind, FilterRefused>
+/// The kind of the column that a query names: NoColumn where the schema has none of that name at that place.
+pub fn kind_at(schema: &Schema, column: &ColumnAt) -> Result<Kind, FilterRefused>
     ensures { result ≡ kind_or_refused (kind_at schema.now column.now) }
 {
     match schema.columns.get(column.place as usize) {

@@ -1,8 +1,9 @@
 -- A query of a text fits the schema that the text was read by.
-use Rattle.std.proofs.Common.{◌≡◌, ◌≢◌, ℕ, suc, ◌≤◌, ◌<◌, Bool, true, false, not, ◌&&◌, ◌||◌, ◌⊎◌, inl, inr, List, [], ◌∷◌, ◌++◌, length, map, nat_lt, nat_le, Option, Some, None, Result, Ok, Err, IfOk, if◌then◌else◌, refl, ap, sym, ◌∙◌, subst, true≢false, arith, Contains, get_or, slice_get, option_map}
+use Rattle.std.proofs.Common.{◌≡◌, ◌≢◌, ℕ, suc, ◌≤◌, ◌<◌, Bool, true, false, ◌||◌, ◌⊎◌, inl, inr, List, [], ◌∷◌, ◌++◌, length, map, nat_lt, nat_le, Option, Some, None, Result, Ok, Err, IfOk, if◌then◌else◌, refl, ap, sym, ◌∙◌, subst, true≢false, arith, Contains, get_or, slice_get}
 use Rattle.std.specs.List.{AllByRecursion}
+use Rattle.std.specs.Option.{is_none}
 use Rattle.std.specs.Str.{bytes_eq}
-use Rattle.std.proofs.lemmas.Bool.{and_parts, and_from, or_parts, or_left, or_right, ltb-true, leb-true}
+use Rattle.std.proofs.lemmas.Bool.{and_parts, or_parts, ltb-true, leb-true}
 use Rattle.std.proofs.lemmas.List.Elements.{All-from_recursion, All-map}
 use Rattle.std.proofs.lemmas.Option.{slice_get_cases}
 use Rattle.std.proofs.lemmas.Slice.Eq.{bytes_eq-Decides}
@@ -10,24 +11,20 @@ use Rattle.rt_schema.specs.declared.column.Column.{Column}
 use Rattle.rt_schema.specs.declared.column.Kind.{Kind}
 use Rattle.rt_schema.specs.declared.schema.Schema.{Schema}
 use Rattle.rt_model.specs.Checked as checked
-use Rattle.rt_model.specs.Tree.{Tree, trees}
+use Rattle.rt_model.specs.Tree.{Tree}
 use Rattle.rt_model.specs.declared.query.Query.{Query}
 use Rattle.rt_model.specs.declared.query_parts.Aggregate.{Aggregate as Function}
 use Rattle.rt_model.specs.declared.query_parts.Aggregate.TheVariants.{Count, Sum, Min, Max}
 use Rattle.rt_model.specs.declared.query_parts.ColumnAt.{ColumnAt}
-use Rattle.rt_model.specs.declared.query_parts.Comparison.{Comparison as Operator}
-use Rattle.rt_model.specs.declared.query_parts.Comparison.TheVariants.{Equal, NotEqual, Less, AtMost, Greater, AtLeast}
 use Rattle.rt_model.specs.declared.query_parts.Item.{Item}
 use Rattle.rt_model.specs.declared.query_parts.Item.TheVariants as item
 use Rattle.rt_model.specs.declared.query_parts.Literal.{Literal}
-use Rattle.rt_model.specs.declared.query_parts.Literal.TheVariants as value
 use Rattle.rt_sql.specs.Checks.{are_known}
 use Rattle.rt_sql.specs.Columns.{place_of, column_at}
 use Rattle.rt_sql.specs.Grammar as grammar
-use Rattle.rt_sql.specs.Grammar.{tok, Repeats, no_more, comma, IsLiteral, number, minus, quoted, truth, untruth, IsList, list, IsTest, between, one_of, none_of, IsTerm, negated, enclosed, test as tested_name, IsCondition, condition, MoreTerms, no_term, and, IsPredicate, predicate, MoreConditions, no_condition, or, IsItem, column, count, sum, min, max, IsDirection, IsKey, key, IsName, name, IsWhere, unfiltered, filtered, IsGroups, grouped, IsOrder, unordered, ordered, IsLimit, unlimited, limited, IsQuery, query, or_else}
-use Rattle.rt_sql.specs.Kinds.{kind_at, fits, all_fit, has_order, compares, is_typed, are_typed, has_sum, has_ends, is_typed_item, are_typed_items, is_typed_filter, is_typed_query}
+use Rattle.rt_sql.specs.Grammar.{tok, Repeats, no_more, comma, IsLiteral, number, minus, quoted, truth, untruth, IsList, list, IsTest, between, one_of, none_of, IsTerm, negated, enclosed, test as tested_name, IsCondition, condition, MoreTerms, no_term, and, IsPredicate, predicate, MoreConditions, no_condition, or, IsItem, column, count, sum, min, max, IsKey, key, IsName, name, IsWhere, unfiltered, filtered, IsGroups, grouped, IsOrder, unordered, ordered, IsLimit, unlimited, limited, IsQuery, query, or_else}
+use Rattle.rt_sql.specs.Kinds.{is_kind, is_typed_item, are_typed_items, is_typed_filter, is_typed_query}
 use Rattle.rt_sql.specs.Literals.{rows, or_none}
-use Rattle.rt_sql.specs.Nested.{all_of, any_of}
 use Rattle.rt_sql.specs.Parsing.{query_with, query_of}
 use Rattle.rt_sql.specs.Queries.{IsTextOf}
 use Rattle.rt_sql.specs.Rules.{is_grouped, is_aggregate, has_aggregate, may_stand, ungrouped, repeated, same_aggregate, same_item, is_selected, is_group, stray, first_of, breach}
@@ -68,132 +65,15 @@ named_there n (x ∷ cs) c e =
     named_if n x c (slice_get cs (place_of n cs)) (bytes_eq n x.name) refl (λ f. named_there n cs c f)
     (sym (there x cs (place_of n cs) (bytes_eq n x.name)) ∙ e)
 
--- both ways to look up a column's kind agree
-kind_there : (n : List ℕ) (o : Option Column) → ((c : Column) → o ≡ Some c → n ≡ c.name) → checked.kind_if n o ≡ option_map (λ c. c.kind) o
-kind_there n None named = refl
-kind_there n (Some c) named = ap (λ b. if b then Some c.kind else None) ((bytes_eq-Decides c.name n).1 (sym (named c refl)))
+-- Filters
 
-same_kind : (s : Schema) (c : ColumnAt) → IsPlaced s c → checked.kind_at s c ≡ kind_at s c
-same_kind s c at = kind_there c.name (slice_get s.columns c.place) (λ x e. named_there c.name s.columns x (subst (λ (p : ℕ). slice_get s.columns p ≡ Some x) (ap (λ (d : ColumnAt). d.place) at) e))
+no_fault : (o : Option checked.Fault) → is_none o ≡ true → o ≡ None
+no_fault None e = refl
+no_fault (Some fault) e = absurd (true≢false (sym e))
 
--- Tests on columns
-
-suits_kind : (k : Kind) (l : Literal) → fits (Some k) l ≡ true → checked.suits k l ≡ true
-suits_kind Kind.Int (value.Int z) e = refl
-suits_kind Kind.Long (value.Int z) e = refl
-suits_kind Kind.Time (value.Int z) e = refl
-suits_kind Kind.Text (value.Text t) e = refl
-suits_kind Kind.Bool (value.Bool b) e = refl
-suits_kind Kind.Int (value.Text t) e = e
-suits_kind Kind.Int (value.Bool t) e = e
-suits_kind Kind.Long (value.Text t) e = e
-suits_kind Kind.Long (value.Bool t) e = e
-suits_kind Kind.Time (value.Text t) e = e
-suits_kind Kind.Time (value.Bool t) e = e
-suits_kind Kind.Text (value.Int t) e = e
-suits_kind Kind.Text (value.Bool t) e = e
-suits_kind Kind.Bool (value.Int t) e = e
-suits_kind Kind.Bool (value.Text t) e = e
-
-all_suit_kind : (k : Kind) (ls : List Literal) → all_fit (Some k) ls ≡ true → checked.all_suit k ls ≡ true
-all_suit_kind k [] e = refl
-all_suit_kind k (l ∷ ls) e =
-    let both = and_parts (fits (Some k) l) (all_fit (Some k) ls) e in
-    and_from (checked.suits k l) (checked.all_suit k ls) (suits_kind k l both.0) (all_suit_kind k ls both.1)
-
-same_order : (k : Kind) → has_order (Some k) ≡ checked.has_order k
-same_order Kind.Int = refl
-same_order Kind.Long = refl
-same_order Kind.Text = refl
-same_order Kind.Bool = refl
-same_order Kind.Time = refl
-
-asked : (k : Kind) (o : Operator) → compares (Some k) o ≡ true → (checked.has_order k || not (checked.asks_order o)) ≡ true
-asked k Equal e = or_right (checked.has_order k) true refl
-asked k NotEqual e = or_right (checked.has_order k) true refl
-asked k Less e = or_left (checked.has_order k) false (sym (same_order k) ∙ e)
-asked k AtMost e = or_left (checked.has_order k) false (sym (same_order k) ∙ e)
-asked k Greater e = or_left (checked.has_order k) false (sym (same_order k) ∙ e)
-asked k AtLeast e = or_left (checked.has_order k) false (sym (same_order k) ∙ e)
-
-none_fits : (l : Literal) → fits None l ≡ true → ⊥
-none_fits (value.Int z) e = true≢false (sym e)
-none_fits (value.Text t) e = true≢false (sym e)
-none_fits (value.Bool b) e = true≢false (sym e)
-
-compare_fits : (k : Option Kind) (o : Operator) (l : Literal) → (compares k o && fits k l) ≡ true → checked.test_fault k (checked.asks_order o) (l ∷ []) ≡ None
-compare_fits None o l e = absurd (none_fits l (and_parts (compares None o) (fits None l) e).1)
-compare_fits (Some k) o l e =
-    let both = and_parts (compares (Some k) o) (fits (Some k) l) e in
-    ap checked.fault_if (and_from _ _ (asked k o both.0) (and_from _ true (suits_kind k l both.1) refl))
-
-between_fits : (k : Option Kind) (low high : Literal) → (has_order k && fits k low && fits k high) ≡ true → checked.test_fault k true (low ∷ (high ∷ [])) ≡ None
-between_fits None low high e = absurd (none_fits high (and_parts (has_order None && fits None low) (fits None high) e).1)
-between_fits (Some k) low high e =
-    let both = and_parts (has_order (Some k) && fits (Some k) low) (fits (Some k) high) e in
-    let first = and_parts (has_order (Some k)) (fits (Some k) low) both.0 in
-    ap checked.fault_if
-    (and_from _ _ (or_left (checked.has_order k) false (sym (same_order k) ∙ first.0))
-    (and_from _ _ (suits_kind k low first.1) (and_from _ true (suits_kind k high both.1) refl)))
-
-list_fits : (k : Option Kind) (l : Literal) (ls : List Literal) → all_fit k (l ∷ ls) ≡ true → checked.test_fault k false (l ∷ ls) ≡ None
-list_fits None l ls e = absurd (none_fits l (and_parts (fits None l) (all_fit None ls) e).0)
-list_fits (Some k) l ls e = ap checked.fault_if (and_from _ _ (or_right (checked.has_order k) true refl) (all_suit_kind k (l ∷ ls) e))
-
--- Predicates
-
-test_fits : (s : Schema) (c : ColumnAt) {ts rest : List Token} {t : Tree} → IsPlaced s c → IsTest c ts rest t → is_typed s t ≡ true → checked.fault_of s t ≡ None
-test_fits s c at (grammar.compares b _ o {l = l} is) e = ap (λ k. checked.test_fault k (checked.asks_order o) (l ∷ [])) (same_kind s c at) ∙ compare_fits (kind_at s c) o l e
-test_fits s c at (between b d _ {low = low} {high = high} il ih) e = ap (λ k. checked.test_fault k true (low ∷ (high ∷ []))) (same_kind s c at) ∙ between_fits (kind_at s c) low high e
-test_fits s c at (one_of b _ (list d f {l = l} {ls = ls} is more)) e = ap (λ k. checked.test_fault k false (l ∷ ls)) (same_kind s c at) ∙ list_fits (kind_at s c) l ls e
-test_fits s c at (none_of b d _ (list f g {l = l} {ls = ls} is more)) e = ap (λ k. checked.test_fault k false (l ∷ ls)) (same_kind s c at) ∙ list_fits (kind_at s c) l ls e
-
--- trees one after another that are typed have no fault
-abbrev Fit : Schema → List Tree → Type 0
-Fit s ts = are_typed s (trees ts) ≡ true → checked.list_fault s (trees ts) ≡ None
-
-fit_more : (s : Schema) (t : Tree) (ts : List Tree) → (is_typed s t ≡ true → checked.fault_of s t ≡ None) → Fit s ts → Fit s (t ∷ ts)
-fit_more s t ts first rest e =
-    let both = and_parts (is_typed s t) (are_typed s (trees ts)) e in
-    ap (λ f. checked.first_fault f (checked.list_fault s (trees ts))) (first both.0) ∙ rest both.1
-
-no_later : (f : Option checked.Fault) → checked.first_fault f None ≡ f
-no_later None = refl
-no_later (Some f) = refl
-
-all_of_fits : (s : Schema) (ts : List Tree) → Fit s ts → is_typed s (all_of ts) ≡ true → checked.fault_of s (all_of ts) ≡ None
-all_of_fits s [] fit e = refl
-all_of_fits s (t ∷ []) fit e = sym (no_later (checked.fault_of s t)) ∙ fit (and_from (is_typed s t) true e refl)
-all_of_fits s (t ∷ u ∷ ts) fit e = fit e
-
-any_of_fits : (s : Schema) (ts : List Tree) → Fit s ts → is_typed s (any_of ts) ≡ true → checked.fault_of s (any_of ts) ≡ None
-any_of_fits s [] fit e = refl
-any_of_fits s (t ∷ []) fit e = sym (no_later (checked.fault_of s t)) ∙ fit (and_from (is_typed s t) true e refl)
-any_of_fits s (t ∷ u ∷ ts) fit e = fit e
-
-mutual
-  term_fits : (s : Schema) {room : ℕ} {ts rest : List Token} {t : Tree} → IsTerm s room ts rest t → is_typed s t ≡ true → checked.fault_of s t ≡ None
-  term_fits s (negated b is) e = term_fits s is e
-  term_fits s (enclosed b c is) e = predicate_fits s is e
-  term_fits s (tested_name b _ room n is) e = test_fits s (column_at s n) refl is e
-
-  terms_fit : (s : Schema) {room : ℕ} {ts rest : List Token} {more : List Tree} → MoreTerms s room ts rest more → Fit s more
-  terms_fit s (no_term _ room rest) e = refl
-  terms_fit s (and b {t = t} {more = more} is terms) e = fit_more s t more (λ h. term_fits s is h) (λ h. terms_fit s terms h) e
-
-  condition_fits : (s : Schema) {room : ℕ} {ts rest : List Token} {t : Tree} → IsCondition s room ts rest t → is_typed s t ≡ true → checked.fault_of s t ≡ None
-  condition_fits s (condition {t = t} {more = more} is terms) e = all_of_fits s (t ∷ more) (λ h. fit_more s t more (λ g. term_fits s is g) (λ g. terms_fit s terms g) h) e
-
-  predicate_fits : (s : Schema) {room : ℕ} {ts rest : List Token} {t : Tree} → IsPredicate s room ts rest t → is_typed s t ≡ true → checked.fault_of s t ≡ None
-  predicate_fits s (predicate {t = t} {more = more} is conditions) e = any_of_fits s (t ∷ more) (λ h. fit_more s t more (λ g. condition_fits s is g) (λ g. conditions_fit s conditions g) h) e
-
-  conditions_fit : (s : Schema) {room : ℕ} {ts rest : List Token} {more : List Tree} → MoreConditions s room ts rest more → Fit s more
-  conditions_fit s (no_condition _ room rest) e = refl
-  conditions_fit s (or b {t = t} {more = more} is conditions) e = fit_more s t more (λ h. condition_fits s is h) (λ h. conditions_fit s conditions h) e
-
-filter_fits : (s : Schema) {room : ℕ} {ts rest : List Token} {f : Option Tree} → IsWhere s room ts rest f → is_typed_filter s f ≡ true → checked.IsFilter s f
-filter_fits s (unfiltered _ room rest) e = tt
-filter_fits s (filtered b is) e = predicate_fits s is e
+filter_fits : (s : Schema) (f : Option Tree) → is_typed_filter s f ≡ true → checked.IsFilter s f
+filter_fits s None e = tt
+filter_fits s (Some t) e = no_fault (checked.fault_of s t) e
 
 -- Which names are known behind what has been read
 
@@ -288,11 +168,15 @@ any_column : (s : Schema) (k : Option Kind) (c : Column) → k ≡ Some c.kind �
 any_column s None c e = absurd cc
 any_column s (Some k) c e = refl
 
+group_kind : (s : Schema) (g : ColumnAt) (c : Column) → IsPlaced s g → slice_get s.columns (place_of g.name s.columns) ≡ Some c → g.name ≡ c.name → checked.kind_at s g ≡ Some c.kind
+group_kind s g c at is named =
+    ap (checked.kind_if g.name) (ap (λ (d : ColumnAt). slice_get s.columns d.place) at ∙ is)
+    ∙ ap (λ b. if b then Some c.kind else None) ((bytes_eq-Decides c.name g.name).1 (sym named))
+
 group_fits : (s : Schema) (g : GroupAt) → IsGroup s g → checked.IsColumn s checked.any_kind g.column
 group_fits s g (at, known) =
     let found = known_there g.column.name s.columns known in
-    any_column s (checked.kind_at s g.column) found.0
-    (same_kind s g.column at ∙ ap (λ (c : ColumnAt). kind_at s c) at ∙ ap (option_map (λ c. c.kind)) found.1)
+    any_column s (checked.kind_at s g.column) found.0 (group_kind s g.column found.0 at found.1 found.2)
 
 -- What stands in GROUP BY, and among the items
 
@@ -379,28 +263,16 @@ both_none (Some n) y e = cc
 
 -- items
 
-has_sum_there : (k : Option Kind) → has_sum k ≡ true → checked.IfColumn checked.has_sum k
-has_sum_there None e = absurd (true≢false (sym e))
-has_sum_there (Some Kind.Int) e = refl
-has_sum_there (Some Kind.Long) e = refl
-has_sum_there (Some Kind.Text) e = e
-has_sum_there (Some Kind.Bool) e = e
-has_sum_there (Some Kind.Time) e = e
-
-has_ends_there : (k : Option Kind) → has_ends k ≡ true → checked.IfColumn checked.has_extremes k
-has_ends_there None e = absurd (true≢false (sym e))
-has_ends_there (Some Kind.Int) e = refl
-has_ends_there (Some Kind.Long) e = refl
-has_ends_there (Some Kind.Text) e = e
-has_ends_there (Some Kind.Bool) e = e
-has_ends_there (Some Kind.Time) e = refl
+kind_fits : (f : Kind → Bool) (k : Option Kind) → is_kind f k ≡ true → checked.IfColumn f k
+kind_fits f None e = absurd (true≢false (sym e))
+kind_fits f (Some k) e = e
 
 item_fits : (s : Schema) (gs : List GroupAt) (i : Item) → AllByRecursion (IsGroup s) gs → HasPlace s i → may_stand gs i ≡ true → is_typed_item s i ≡ true → checked.IsItem s (map (λ g. g.column) gs) i
 item_fits s gs (item.Column c) all at stands typed = grouped_there s c gs at all stands
 item_fits s gs (item.Aggregate Count) all at stands typed = tt
-item_fits s gs (item.Aggregate (Sum c)) all at stands typed = subst (checked.IfColumn checked.has_sum) (sym (same_kind s c at)) (has_sum_there (kind_at s c) typed)
-item_fits s gs (item.Aggregate (Min c)) all at stands typed = subst (checked.IfColumn checked.has_extremes) (sym (same_kind s c at)) (has_ends_there (kind_at s c) typed)
-item_fits s gs (item.Aggregate (Max c)) all at stands typed = subst (checked.IfColumn checked.has_extremes) (sym (same_kind s c at)) (has_ends_there (kind_at s c) typed)
+item_fits s gs (item.Aggregate (Sum c)) all at stands typed = kind_fits checked.has_sum (checked.kind_at s c) typed
+item_fits s gs (item.Aggregate (Min c)) all at stands typed = kind_fits checked.has_extremes (checked.kind_at s c) typed
+item_fits s gs (item.Aggregate (Max c)) all at stands typed = kind_fits checked.has_extremes (checked.kind_at s c) typed
 
 items_fit : (s : Schema) (gs : List GroupAt) (is : List ItemAt) → AllByRecursion (IsGroup s) gs → AllByRecursion (IsFound s) is → ungrouped gs is ≡ None → are_typed_items s is ≡ true → AllByRecursion (λ (f : ItemAt). checked.IsItem s (map (λ g. g.column) gs) f.item) is
 items_fit s gs [] all found e typed = tt
@@ -527,7 +399,7 @@ query_fits s ts _ (query b f n table {w = w} {x = x} {xs = xs} {filter = filter}
       aggregate = sym (same_aggregates (x ∷ xs)) ∙ has.0;
       items = All-map (checked.IsItem s (map (λ g. g.column) groups)) (λ (f : ItemAt). f.item) (x ∷ xs)
           (All-from_recursion (λ (f : ItemAt). checked.IsItem s (map (λ g. g.column) groups) f.item) (x ∷ xs) (items_fit s groups (x ∷ xs) all found first.0 types.0));
-      filter = filter_fits s filtering types.1;
+      filter = filter_fits s filter types.1;
       groups = All-map (checked.IsColumn s checked.any_kind) (λ (g : GroupAt). g.column) groups
           (All-from_recursion (λ (g : GroupAt). checked.IsColumn s checked.any_kind g.column) groups
           (weaker (IsGroup s) (λ (g : GroupAt). checked.IsColumn s checked.any_kind g.column) (λ g h. group_fits s g h) groups all));

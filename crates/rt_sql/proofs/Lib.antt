@@ -6,5 +6,5 @@ pub mod Forward
 pub mod Viable
 pub mod Texts
 pub mod Cutting
-pub mod Parting
+pub mod Answered
 pub mod Fitting
