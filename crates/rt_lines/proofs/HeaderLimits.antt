@@ -1,4 +1,4 @@
-use Rattle.std.proofs.Common.{◌≡◌, ℕ, Bool, true, false, List, [], ◌∷◌, Option, Some, None, Result, Ok, Err, refl, ap, sym, ◌∙◌, subst}
+use Rattle.std.proofs.Common.{◌≡◌, ℕ, Bool, true, false, List, [], ◌∷◌, Option, Some, None, Result, Ok, Err}
 use Rattle.std.specs.Prelude.{IfErr, codes, not, nat_le, ◌&&◌, if◌then◌else◌}
 use Rattle.rt_base.specs.declared.which.Which.{Which}
 use Rattle.rt_base.specs.declared.which.Which.TheVariants.{Input, Servers, Controllers, Partitions, Replication, Moment}

@@ -1,5 +1,5 @@
-use Rattle.std.proofs.Common.{◌≡◌, ◌≢◌, ℕ, ◌+◌, ◌*◌, ◌/◌, ◌%◌, ◌<◌, ◌≤◌, Bool, true, false, ltb, List, [], ◌∷◌, ◌++◌, refl, ap, sym, ◌∙◌, rules, arith, append_assoc}
-use Rattle.std.specs.Prelude.{flat_map, cond, ◌==◌, nat_lt, if◌then◌else◌}
+use Rattle.std.proofs.Common.{◌≡◌, ◌≢◌, ℕ, ◌+◌, ◌/◌, ◌≤◌, Bool, true, false, ltb, List, [], ◌∷◌, ◌++◌, refl, arith}
+use Rattle.std.specs.Prelude.{flat_map, cond}
 use Rattle.std.specs.Str.{encode_utf8_all}
 use lib.Utf8.{encode, next}
 use Rattle.std.proofs.lemmas.Bool.Decides.{nat_tests}

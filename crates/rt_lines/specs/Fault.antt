@@ -1,5 +1,4 @@
-use Rattle.std.specs.Prelude.{ℕ, List, [], ◌∷◌, ◌++◌, codes, decimal}
-use Rattle.rt_base.specs.declared.which.Which.{Which}
+use Rattle.std.specs.Prelude.{ℕ, List, ◌++◌, codes, decimal}
 use Rattle.rt_base.specs.Which.{name_of}
 use Rattle.rt_lines.specs.declared.line_reason.LineReason.{LineReason}
 use Rattle.rt_lines.specs.declared.line_reason.LineReason.TheVariants.{BadLine, Schema, Table, Query, NoSuchMessage, NoSuchNode, NodeDown, NothingToDo, Upsert}

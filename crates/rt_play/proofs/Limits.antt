@@ -1,4 +1,4 @@
-use Rattle.std.proofs.Common.{◌≡◌, ℕ, Bool, true, false, List, [], ◌∷◌, Option, Some, None, Result, Ok, Err, refl, ap, sym, ◌∙◌}
+use Rattle.std.proofs.Common.{◌≡◌, ℕ, Bool, true, false, List, [], ◌∷◌, Option, Some, None, Result, Ok, Err, ap}
 use Rattle.std.specs.Prelude.{◌+◌, if◌then◌else◌, IfErr, nat_lt, nat_le, ◌&&◌, length}
 use Rattle.rt_base.specs.declared.which.Which.{Which}
 use Rattle.rt_base.specs.declared.which.Which.TheVariants.{Input, Events, Message}

@@ -1,18 +1,16 @@
-use Rattle.std.proofs.Common.{◌≡◌, ℕ, ◌+◌, ◌<◌, ◌≤◌, Bool, true, false, List, [], ◌∷◌, ◌++◌, length, take, drop, Option, Some, None, Result, Ok, Err, refl, ap, sym, ◌∙◌, subst, rules, arith, append_assoc}
+use Rattle.std.proofs.Common.{◌≡◌, ℕ, List, [], ◌∷◌, ◌++◌, length, take, Option, Some, None, Ok, Err, refl, ap, sym, ◌∙◌, subst, arith, append_assoc}
 use Rattle.std.specs.List.{concat}
-use Rattle.std.proofs.lemmas.List.{append-nil, length-append}
-use Rattle.std.proofs.lemmas.List.Concat.{concat_is, flat_map-append}
+use Rattle.std.proofs.lemmas.List.{append-nil}
 use Rattle.std.proofs.lemmas.Grind.{common_steps}
 use Rattle.rt_base.specs.Sink.{SinkMeaning, added}
-use Rattle.rt_base.specs.Source.{Rises}
 use Rattle.rt_lines.specs.declared.play_fault.PlayFault.{PlayFault}
 use Rattle.rt_lines.specs.declared.play_fault.PlayFault.TheVariants.{Usage, Refused, ReadFault, WriteFault, Memory, Limit}
 use Rattle.rt_world.specs.Kept.{Kept}
 use Rattle.rt_world.specs.declared.state.State.{State}
 use Rattle.rt_play.specs.declared.play_end.PlayEnd.{PlayEnd}
 use Rattle.rt_play.specs.Line.{line_in}
-use Rattle.rt_play.specs.Plays.{Puts, Stops, FailsWithin, PutsLines, Tells, PlaysLine, WritesAll}
-use Rattle.rt_play.specs.Report.{Report, ended, stopped, told, report_line, report_from}
+use Rattle.rt_play.specs.Plays.{Puts, Stops, FailsWithin, PutsLines, Tells, PlaysLine}
+use Rattle.rt_play.specs.Report.{Report, ended, stopped, told, report_line}
 use Rattle.rt_play.proofs.Writes.{added_more}
 
 -- a report with texts before it

@@ -1,5 +1,5 @@
 -- The line that is reported of an event.
-use Rattle.std.specs.Prelude.{ℕ, List, [], ◌∷◌, ◌++◌, codes, decimal}
+use Rattle.std.specs.Prelude.{ℕ, List, [], ◌++◌, codes, decimal}
 use Rattle.rt_model.specs.declared.replica_state.ReplicaState.{ReplicaState}
 use Rattle.rt_model.specs.declared.replica_state.ReplicaState.TheVariants.{InitialConsuming, CatchingUp, Holding, ConsumingToOnline, Retaining, Retained, Committing, Committed, Discarded}
 use Rattle.rt_lines.specs.Answer.{answer_bytes}

@@ -7,7 +7,6 @@ use Rattle.rt_lines.specs.declared.play_fault.PlayFault.TheVariants as fault
 use Rattle.rt_lines.specs.Header.{header_of}
 use Rattle.rt_lines.specs.Lines.{script_lines}
 use Rattle.rt_world.specs.declared.event.Event.{Event}
-use Rattle.rt_world.specs.declared.outcome.Outcome.{Outcome}
 use Rattle.rt_world.specs.declared.refusal.Refusal.{Refusal}
 use Rattle.rt_world.specs.declared.refusal.Refusal.TheVariants.{NoSuchMessage, NoSuchNode, NodeDown, NothingToDo, Limit, Memory}
 use Rattle.rt_world.specs.declared.state.State.{State}

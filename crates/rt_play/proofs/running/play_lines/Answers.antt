@@ -1,4 +1,4 @@
-use Rattle.std.proofs.Common.{◌≡◌, ◌++◌, ◌∷◌, [], ◌∙◌, ap, sym, length, string_bytes, arith}
+use Rattle.std.proofs.Common.{◌++◌, ◌∷◌, [], ◌∙◌, ap, sym, length, string_bytes, arith}
 use Rattle.std.proofs.lemmas.List.{length-append}
 use Rattle.rt_play.specs.Report.{report_from, told}
 use Rattle.rt_play.proofs.Tellings.{told_all, told_one, put_text, tells_stop, tells_fault}

@@ -1,4 +1,4 @@
-use Rattle.std.proofs.Common.{◌≡◌, ◌+◌, ◌≤◌, ◌∙◌, ap, take, arith}
+use Rattle.std.proofs.Common.{◌∙◌, ap, take, arith}
 use Rattle.rt_base.specs.Sink.{added, Took}
 use Rattle.rt_play.proofs.Writes.{put_more}
 use Rattle.rt_play.proofs.writing.write_all.Goals as goal

@@ -4,7 +4,7 @@ use Rattle.rt_postings.specs.DocSet.{either}
 use Rattle.rt_scan.specs.Keys.{equals_one}
 use Rattle.rt_scan.proofs.Keys.{marks_start, marks_step, marks_count, marks_end}
 use Rattle.rt_scan.proofs.truths.truths_one_of.Goals as goal
-use Rattle.rt_scan.proofs.truths.truths_one_of.Goals.{In_ok-truths, After-drop-key}
+use Rattle.rt_scan.proofs.truths.truths_one_of.Goals.{In_ok-truths}
 
 none_yet : (g : _) (c : In_ok-truths g) → c.in_ok-truths.truths.items ≡ replicate c.len.result false
 none_yet g c = c.in_ok-truths.ensures.items_if_clones_equal (λ y e. e)
