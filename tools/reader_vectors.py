@@ -115,25 +115,7 @@ fn row_text(alloc: Global, row: &Row) -> Result<String, AllocError> {
     }
     Ok(text)
 }
-
-fn from_hex(alloc: Global, digits: &[u8]) -> Result<Vec<u8>, AllocError> {
-    let mut bytes = Vec::new(alloc);
-    for pair in digits.chunks_exact(2) {
-        if let [high, low] = pair {
-            bytes.push(nibble(*high) * 16 + nibble(*low))?;
-        }
-    }
-    Ok(bytes)
-}
-
-fn nibble(digit: u8) -> u8 {
-    match digit {
-        b'0'..=b'9' => digit - b'0',
-        b'a'..=b'f' => digit - b'a' + 10,
-        _ => 0,
-    }
-}
-'''
+''' + throwaway.FROM_HEX
 
 
 def answers(home, kind, schema, inputs):

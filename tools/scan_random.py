@@ -11,12 +11,9 @@ answers were tried, and how many differ; its status is 1 where one does.
 """
 import collections
 import itertools
-import os
 import random
 import re
-import subprocess
 import sys
-import tempfile
 
 import random_queries
 import throwaway
@@ -514,25 +511,11 @@ class Tally:
         print("%d queries, %d answers, %d differ" % (self.queries, sum(self.tried.values()), self.differ))
 
 
-def outputs_of(cases):
-    """What the program wrote for each case."""
-    with tempfile.TemporaryDirectory() as folder:
-        home = throwaway.make(folder, PROGRAM, LIBRARIES)
-        inputs = os.path.join(folder, "cases")
-        os.makedirs(inputs)
-        for name, case in cases.items():
-            with open(os.path.join(inputs, name), "w", encoding="utf-8") as out:
-                out.write("\n".join(case.lines) + "\n")
-        run = subprocess.run(["rt", "try", "--steps", "1", "--cases", inputs], cwd=home, stdout=subprocess.PIPE)
-    found = re.split(r"^== (\d+)\n", run.stdout.decode("utf-8"), flags=re.MULTILINE)
-    return dict(zip(found[1::2], found[2::2]))
-
-
 def main():
     if len(sys.argv) != 1:
         sys.exit(__doc__)
     cases = {"%03d" % seed: Case(seed) for seed in range(CASES)}
-    outputs = outputs_of(cases)
+    outputs = throwaway.outputs(PROGRAM, LIBRARIES, {name: case.lines for name, case in cases.items()})
     tally = Tally()
     for name, case in cases.items():
         tally.add_case(name, case, outputs.get(name, ""))

@@ -1,11 +1,33 @@
 """Programs over the crates of this repository, made in a temporary folder and gone after their run."""
 import os
+import re
 import shutil
 import subprocess
 import sys
 import tempfile
 
 ROOT = os.path.dirname(os.path.dirname(os.path.abspath(__file__)))
+
+# For programs whose input is in hexadecimal.
+FROM_HEX = r'''
+fn from_hex(alloc: Global, digits: &[u8]) -> Result<Vec<u8>, AllocError> {
+    let mut bytes = Vec::new(alloc);
+    for pair in digits.chunks_exact(2) {
+        if let [high, low] = pair {
+            bytes.push(nibble(*high) * 16 + nibble(*low))?;
+        }
+    }
+    Ok(bytes)
+}
+
+fn nibble(digit: u8) -> u8 {
+    match digit {
+        b'0'..=b'9' => digit - b'0',
+        b'a'..=b'f' => digit - b'a' + 10,
+        _ => 0,
+    }
+}
+'''
 
 
 def make(folder, program, libraries, kit_libraries=(), modules=None):
@@ -38,6 +60,20 @@ def output(home, command="run"):
     if run.returncode != 0:
         sys.exit(run.returncode)
     return run.stdout
+
+
+def outputs(program, libraries, cases):
+    """What such a program writes in each case, with no proof. Cases are the lines of its input, by names in digits."""
+    with tempfile.TemporaryDirectory() as folder:
+        home = make(folder, program, libraries)
+        inputs = os.path.join(folder, "cases")
+        os.makedirs(inputs)
+        for name, lines in cases.items():
+            with open(os.path.join(inputs, name), "w", encoding="utf-8") as out:
+                out.write("\n".join(lines) + "\n")
+        run = subprocess.run(["rt", "try", "--steps", "1", "--cases", inputs], cwd=home, stdout=subprocess.PIPE)
+    found = re.split(r"^== (\d+)\n", run.stdout.decode("utf-8"), flags=re.MULTILINE)
+    return dict(zip(found[1::2], found[2::2]))
 
 
 def run(usage, program, libraries, kit_libraries=(), command="run"):
