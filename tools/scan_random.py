@@ -250,11 +250,11 @@ fn write(alloc: Global, out: &mut String, way: &str, groups: &Groups) -> Result<
 fn write_consuming(
     alloc: Global,
     out: &mut String,
-    case: &Case,
+    offsets: &[Offset],
     forms: &Forms,
     query: &Query,
 ) -> Result<(), AllocError> {
-    for offset in case.offsets.as_slice() {
+    for offset in offsets {
         let groups = scan_below(alloc, query, &forms.unindexed, *offset)?;
         let way = format!(in alloc; "below {}", offset.0)?;
         write(alloc, out, way.as_str(), &groups)?;
@@ -312,7 +312,7 @@ fn write_narrow(
     query: &Query,
 ) -> Result<(), Fault> {
     write(alloc, out, "row by row", &folded(alloc, query, forms.rows.as_slice())?)?;
-    write_consuming(alloc, out, case, forms, query)?;
+    write_consuming(alloc, out, case.offsets.as_slice(), forms, query)?;
     for file in forms.files.as_slice() {
         write_file(alloc, out, case, query, file)?;
     }
@@ -325,12 +325,12 @@ fn write_narrow(
 fn write_wide(
     alloc: Global,
     out: &mut String,
-    case: &Case,
-    forms: &Forms,
+    wider: &Schema,
+    files: &[File],
     query: &Query,
 ) -> Result<(), AllocError> {
-    for file in forms.files.as_slice() {
-        let groups = scan_as(alloc, query, &case.wider, &file.sealed)?;
+    for file in files {
+        let groups = scan_as(alloc, query, wider, &file.sealed)?;
         let way = format!(in alloc; "{}, as a wider schema", file.name)?;
         write(alloc, out, way.as_str(), &groups)?;
     }
@@ -345,7 +345,7 @@ fn write_case(alloc: Global, out: &mut String, input: &[u8]) -> Result<(), Fault
         match parse(alloc, asked.text.as_str(), schema, "t") {
             Err(_) => write!(out, "refused\t\n")?,
             Ok(query) => if asked.is_wide {
-                write_wide(alloc, out, &case, &forms, &query)?;
+                write_wide(alloc, out, &case.wider, forms.files.as_slice(), &query)?;
             } else {
                 write_narrow(alloc, out, &case, &forms, &query)?;
             },
