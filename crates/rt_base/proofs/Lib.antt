@@ -1,3 +1,4 @@
 pub mod Faults
 pub mod Exact
 pub mod Pieces
+pub mod Planned

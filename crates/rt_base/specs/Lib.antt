@@ -1,4 +1,5 @@
 pub mod FaultPlan
+pub mod Faults
 pub mod MemorySink
 pub mod MemorySource
 pub mod Sink

@@ -1,5 +1,5 @@
 ghost use Rattle.std.specs.Prelude.{◌≡◌, OnOk, OnErr};
-ghost use Rattle.std.specs.Io.KnownBytes.{WriteAppends};
+ghost use Rattle.std.specs.Io.KnownBytes.{Keeps, WriteAppends};
 ghost use Rattle.rt_base.specs.Sink.{Writes};
 ghost use Rattle.rt_base.specs.Source.{one_more};
 ghost use Rattle.rt_base.specs.StdSink.{writing_meaning};
@@ -31,6 +31,23 @@ impl<W> StdSink<W> {
         ensures { result ≡ record { inner = inner; faults = 0 } }
     {
         StdSink { inner, faults: 0 }
+    }
+}
+
+impl<W: Write> StdSink<W> {
+    /// Has the writer pass on what it holds back. An error of the writer counts as one of a write.
+    pub fn finish(&mut self) -> Result<(), Failed>
+        ensures writer { Keeps (W.contents self.old.inner) (W.contents self.new.inner) }
+        ensures done { OnOk result (self.new.faults ≡ self.old.faults) }
+        ensures failed { OnErr result (self.new.faults ≡ one_more self.old.faults) }
+    {
+        match self.inner.flush() {
+            Ok(()) => Ok(()),
+            Err(_) => {
+                self.faults = self.faults.saturating_add(1);
+                Err(Failed)
+            }
+        }
     }
 }
 

@@ -8,11 +8,11 @@
 mod bytes;
 mod copied;
 mod items;
-#[cfg(test)]
-mod tests;
+mod names;
 mod text;
 
 pub use bytes::Bytes;
 pub use copied::Copied;
 pub use items::Items;
+pub use names::is_among;
 pub use text::Text;
