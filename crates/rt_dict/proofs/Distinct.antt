@@ -1,10 +1,11 @@
 -- What is left of a sorted list when each value that is not past the last one kept is left out.
-use Rattle.std.proofs.Common.{◌≡◌, ℕ, ◌+◌, ◌-◌, ◌<◌, Bool, true, false, List, [], ◌∷◌, ◌++◌, length, take, map, Bor, Some, None, Option, get_or, slice_get, refl, sym, ap, ◌∙◌, subst, inl, inr, arith}
+use Rattle.std.proofs.Common.{◌≡◌, ℕ, ◌+◌, ◌-◌, ◌<◌, Bool, true, false, List, [], ◌∷◌, ◌++◌, length, map, Some, None, Option, get_or, slice_get, refl, sym, ap, ◌∙◌, subst, inl, inr, arith}
 use Rattle.std.specs.Cmp.{IsStrictWeakOrder}
 use Rattle.std.specs.List.{Contains}
 use Rattle.std.specs.List.Sorted.{IsSortedBy, IsPermutation}
 use Rattle.std.proofs.lemmas.Bool.{cases_Bool, cases_eq, true≢false}
-use Rattle.std.proofs.lemmas.List.{take_more, length-take, get_or-take, get_or_default, length-map, get_or-map}
+use Rattle.std.proofs.Math.Seq.{get_or-append_seam}
+use Rattle.std.proofs.lemmas.List.{get_or_append_left, length-append, length-map, get_or-map}
 use Rattle.std.proofs.lemmas.List.Elements.{Contains-append_left, Contains-push, Contains-push_cases}
 use Rattle.std.proofs.lemmas.List.Quantifiers.{all_pairs_push}
 use Rattle.std.proofs.lemmas.List.Sorted.{sorted_far, Contains-permutation, IsPermutation-sym}
@@ -56,52 +57,58 @@ module _ {K : Type 0} {below : K → K → Bool} (order : IsStrictOrder below) w
     }
 
     -- one that is no less than all before it, and not past the last one, is that one
-    stands_last : (last : Option K) → slice_get distinct (length distinct - 1) ≡ last → is_past below last x ≡ false → ((y : K) → Contains front y → below x y ≡ false) → Contains distinct x
-    stands_last None at past rises = absurd (true≢false past)
-    stands_last (Some last) at past rises =
+    pub last_is : (last : Option K) → slice_get distinct (length distinct - 1) ≡ last → is_past below last x ≡ false → ((y : K) → Contains front y → below x y ≡ false) → slice_get distinct (length distinct - 1) ≡ Some x
+    last_is None at past rises = absurd (true≢false past)
+    last_is (Some last) at past rises =
         let in_range = slice_get_within distinct (length distinct - 1) last at in
         let stands : Contains distinct last = (length distinct - 1, in_range, get_or_from_slice_get distinct (length distinct - 1) last last at) in
-        subst (Contains distinct) (order.total last x past (rises last (kept.none_else last stands))) stands
+        at ∙ ap Some (order.total last x past (rises last (kept.none_else last stands)))
+
+    stands_last : is_past_last below distinct x ≡ false → ((y : K) → Contains front y → below x y ≡ false) → Contains distinct x
+    stands_last past rises =
+        let at = last_is (slice_get distinct (length distinct - 1)) refl past rises in
+        (length distinct - 1, slice_get_within distinct (length distinct - 1) x at, get_or_from_slice_get distinct (length distinct - 1) x x at)
 
     pub distinct_same : is_past_last below distinct x ≡ false → ((y : K) → Contains front y → below x y ≡ false) → AreDistinctValues below (front ++ x ∷ []) distinct
     distinct_same past rises = record {
       ascending = kept.ascending;
       each_stands = λ y at. elim (Contains-push_cases front x y at) [
         | inl earlier ↦ kept.each_stands y earlier
-        | inr same ↦ subst (Contains distinct) same (stands_last _ refl past rises)
+        | inr same ↦ subst (Contains distinct) same (stands_last past rises)
       ];
       none_else = λ y at. Contains-append_left front _ y (kept.none_else y at);
     }
 
-  -- a loop's step: the value at i of a sorted list
-  module _ (row : List K) (sorted : IsSortedBy below row) (i : ℕ) (in_range : i < length row) (x : K) (here : get_or row i x ≡ x) (distinct : List K) (kept : AreDistinctValues below (take i row) distinct) where
-    front_is : take (i + 1) row ≡ take i row ++ x ∷ []
-    front_is = take_more row i x in_range ∙ ap (λ y. take i row ++ y ∷ []) here
-
-    none_above : (y : K) → Contains (take i row) y → below x y ≡ false
+  -- the value of a sorted list behind a front of it
+  module _ (front rest : List K) (x : K) (sorted : IsSortedBy below (front ++ x ∷ rest)) (distinct : List K) (kept : AreDistinctValues below front distinct) where
+    none_above : (y : K) → Contains front y → below x y ≡ false
     none_above y at =
-        let k = at.0 in
-        let early : k < i = omega (arith, at.1, length-take i row) in
-        let there : get_or row k y ≡ y = sym (get_or-take i row k y early) ∙ at.2 in
-        let item : get_or row i y ≡ x = sym (get_or_default row i x y in_range) ∙ here in
-        subst (λ z. below x z ≡ false) there (subst (λ z. below z (get_or row k y) ≡ false) item (sorted_far below weak_order row sorted k i y (omega arith) in_range))
+        let within : length front < length (front ++ x ∷ rest) = omega (arith, length-append front (x ∷ rest)) in
+        subst (λ z. below z y ≡ false) (get_or-append_seam front x rest y)
+        (subst (λ z. below (get_or (front ++ x ∷ rest) (length front) y) z ≡ false) (get_or_append_left front (x ∷ rest) y at.0 at.1 ∙ at.2)
+        (sorted_far below weak_order (front ++ x ∷ rest) sorted at.0 (length front) y (omega (arith, at.1)) within))
 
-    pub past_more : is_past_last below distinct x ≡ true → AreDistinctValues below (take (i + 1) row) (distinct ++ x ∷ [])
-    past_more past = subst (λ f. AreDistinctValues below f (distinct ++ x ∷ [])) (sym front_is) (distinct_past (take i row) distinct x kept past)
+    pub past_more : is_past_last below distinct x ≡ true → AreDistinctValues below (front ++ x ∷ []) (distinct ++ x ∷ [])
+    past_more past = distinct_past front distinct x kept past
 
-    pub same_more : is_past_last below distinct x ≡ false → AreDistinctValues below (take (i + 1) row) distinct
-    same_more past = subst (λ f. AreDistinctValues below f distinct) (sym front_is) (distinct_same (take i row) distinct x kept past none_above)
+    pub same_more : is_past_last below distinct x ≡ false → AreDistinctValues below (front ++ x ∷ []) distinct
+    same_more past = distinct_same front distinct x kept past none_above
 
-  -- references sorted by what they refer to are a sorted list of it
-  pub weak_order-now : IsStrictWeakOrder (λ (a b : Bor K). below a.now b.now)
-  weak_order-now = record { one_way = λ a b. below_one_way order a.now b.now; chain = λ a b d. below_chain a.now b.now d.now }
+    -- one that is left out is the last one that was kept
+    pub same_last : is_past_last below distinct x ≡ false → slice_get distinct (length distinct - 1) ≡ Some x
+    same_last past = last_is front distinct x kept (slice_get distinct (length distinct - 1)) refl past none_above
 
-  pub sorted-map_now : (refs : List (Bor K)) → IsSortedBy (λ a b. below a.now b.now) refs → IsSortedBy below (map (λ a. a.now) refs)
-  sorted-map_now [] sorted k d low in_range = absurd (omega arith)
-  sorted-map_now (r ∷ refs) sorted k d low in_range =
-      let within : k + 1 < length (r ∷ refs) = omega (arith, length-map (r ∷ refs) (λ (a : Bor K). a.now)) in
-      let item : (i : ℕ) → i < length (r ∷ refs) → get_or (map (λ (a : Bor K). a.now) (r ∷ refs)) i d ≡ (get_or (r ∷ refs) i r).now = λ i lt. get_or-map (λ (a : Bor K). a.now) (r ∷ refs) i r d lt in
-      ap (λ x. below x (get_or (map (λ (a : Bor K). a.now) (r ∷ refs)) k d)) (item (k + 1) within) ∙ ap (below (get_or (r ∷ refs) (k + 1) r).now) (item k (omega arith)) ∙ sorted k r low within
+  -- items sorted by their keys have sorted keys
+  module _ {X : Type 0} (key : X → K) where
+    pub weak_order-by : IsStrictWeakOrder (λ (a b : X). below (key a) (key b))
+    weak_order-by = record { one_way = λ a b. below_one_way order (key a) (key b); chain = λ a b d. below_chain (key a) (key b) (key d) }
+
+    pub sorted-map_by : (xs : List X) → IsSortedBy (λ a b. below (key a) (key b)) xs → IsSortedBy below (map key xs)
+    sorted-map_by [] sorted k d low in_range = absurd (omega arith)
+    sorted-map_by (x ∷ xs) sorted k d low in_range =
+        let within : k + 1 < length (x ∷ xs) = omega (arith, length-map (x ∷ xs) key) in
+        let item : (i : ℕ) → i < length (x ∷ xs) → get_or (map key (x ∷ xs)) i d ≡ key (get_or (x ∷ xs) i x) = λ i lt. get_or-map key (x ∷ xs) i x d lt in
+        ap (λ y. below y (get_or (map key (x ∷ xs)) k d)) (item (k + 1) within) ∙ ap (below (key (get_or (x ∷ xs) (k + 1) x))) (item k (omega arith)) ∙ sorted k x low within
 
 -- the order of a list does not matter for its distinct values
 pub distinct_from_permutation : {K : Type 0} (below : K → K → Bool) (xs ys distinct : List K) → IsPermutation xs ys → AreDistinctValues below ys distinct → AreDistinctValues below xs distinct

@@ -1,3 +1,4 @@
 pub mod Ascending
 pub mod Distinct
 pub mod Same
+pub mod Numbering

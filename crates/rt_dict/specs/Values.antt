@@ -1,5 +1,5 @@
 -- The values of a dictionary.
-use Rattle.std.specs.Prelude.{◌-◌, Bool, true, List, length, AllPairs, Contains, IsTrue, Option, Some, None, slice_get}
+use Rattle.std.specs.Prelude.{◌≡◌, ℕ, ◌-◌, Bool, true, List, length, map, AllPairs, Contains, IsTrue, Option, Some, None, slice_get}
 
 -- Each value comes before each later one.
 abbrev pub IsAscending : {K : Type 0} → (K → K → Bool) → List K → Type 0
@@ -18,3 +18,7 @@ is_past below (Some last) value = below last value
 -- Whether a value comes after the last of a list, if there is one.
 abbrev pub is_past_last : {K : Type 0} → (K → K → Bool) → List K → K → Bool
 is_past_last below values value = is_past below (slice_get values (length values - 1)) value
+
+-- The ids of keys in a dictionary: each stands where the key does.
+abbrev pub AreIdsOf : {K : Type 0} → List K → List K → List ℕ → Type 0
+AreIdsOf dictionary keys ids = map (slice_get dictionary) ids ≡ map Some keys

@@ -1,13 +1,14 @@
-ghost use Rattle.std.specs.Prelude.{◌≡◌, ℕ, ◌+◌, ◌^◌, ◌<◌, ◌≤◌, ◌↔◌, true, false, not, [], ◌∷◌, ◌++◌, length, IfOk, OnErr, IsTrue, if◌then◌else◌, slice_get, map};
-ghost use Rattle.std.specs.Ordering.{is_lt};
-ghost use Rattle.std.specs.List.Sorted.{IsPartitionPoint, IsPermutation, IsSortedBy};
-ghost use Rattle.rt_dict.specs.Values.{IsAscending, AreDistinctValues, is_past_last};
+ghost use Rattle.std.specs.Prelude.{◌≡◌, ℕ, ◌+◌, ◌^◌, ◌<◌, ◌≤◌, ◌↔◌, true, false, not, [], ◌∷◌, ◌++◌, length, All, IfOk, OnOk, OnErr, IsTrue, Some, if◌then◌else◌, slice_get, slice_index, map};
+ghost use Rattle.std.specs.List.Sorted.{IsPartitionPoint, IsSortedBy};
+ghost use Rattle.rt_dict.specs.Values.{IsAscending, AreDistinctValues, AreIdsOf, is_past_last};
 ghost use Rattle.rt_dict.specs.Range.{starts_by, ends_after, IsWithin};
 
 use super::edge::Edge;
+use super::identified::Identified;
 use super::key::Key;
+use super::placed::{Placed, sorted_of};
+use rt_lists::Items;
 use std::alloc::{AllocError, Global};
-use std::cmp::Ordering;
 use std::marker::Model;
 
 /// The distinct values of a column, ascending. The id of a value is its place.
@@ -33,10 +34,19 @@ impl<K: Key> Dict<K> {
         requires { length values.now < 2 ^ 32 }
         ensures { IfOk result (AreDistinctValues K.below values.now) }
     {
-        let mut keys = references(alloc, values)?;
-        sort(keys.as_mut_slice());
-        let values = distinct_of(alloc, &keys)?;
-        Ok(Dict { values })
+        let identified = Dict::identify(alloc, values)?;
+        Ok(identified.dictionary)
+    }
+
+    /// The dictionary of the distinct values of a list, and the id of each value of the list. Fails only where
+    /// memory is refused.
+    pub fn identify(alloc: Global, values: &[K]) -> Result<Identified<K>, AllocError>
+        requires { length values.now < 2 ^ 32 }
+        ensures distinct { IfOk result (λ identified. AreDistinctValues K.below values.now identified.dictionary) }
+        ensures ids { IfOk result (λ identified. AreIdsOf identified.dictionary values.now identified.ids) }
+    {
+        let sorted = sorted_of(alloc, values)?;
+        number(alloc, values, sorted)
     }
 
     /// The dictionary of no value. It takes no memory yet.
@@ -162,34 +172,6 @@ fn count_until<K: Key>(values: &[K], high: &Edge<K>) -> usize
     }
 }
 
-// The keys, each by a reference.
-fn references<K: Key>(alloc: Global, keys: &[K]) -> Result<Vec<&K>, AllocError>
-    ensures { IfOk result (λ v. map (λ x. x.now) v.items ≡ keys.now) }
-{
-    keys.iter().collect(alloc)
-}
-
-// Puts references to keys into the keys' order.
-fn sort<K: Key>(keys: &mut [&K])
-    ensures permutation { IsPermutation keys.old keys.new }
-    ensures sorted { IsSortedBy K.below (map (λ x. x.now) keys.new) }
-{
-    keys.sort_unstable_by(|a, b| compare(*a, *b));
-}
-
-// How two keys stand in the order.
-fn compare<K: Key>(a: &K, b: &K) -> Ordering
-    ensures { is_lt result ≡ K.below a.now b.now }
-{
-    if a.below(b) {
-        Ordering::Less
-    } else if b.below(a) {
-        Ordering::Greater
-    } else {
-        Ordering::Equal
-    }
-}
-
 // Each key copied.
 fn copies_of<K: Key>(alloc: Global, keys: &[K]) -> Result<Vec<K>, AllocError>
     ensures { IfOk result (λ v. v.items ≡ keys.now) }
@@ -201,19 +183,40 @@ fn copies_of<K: Key>(alloc: Global, keys: &[K]) -> Result<Vec<K>, AllocError>
     Ok(copies)
 }
 
-// The distinct keys of a sorted list, each copied once.
-fn distinct_of<K: Key>(alloc: Global, sorted: &[&K]) -> Result<Vec<K>, AllocError>
-    requires { IsSortedBy K.below (map (λ x. x.now) sorted.now) }
-    ensures values { IfOk result (λ v. AreDistinctValues K.below (map (λ x. x.now) sorted.now) v.items) }
-    ensures few { IfOk result (λ v. length v.items ≤ length sorted.now) }
+// The distinct keys of a sorted list, and for each place of the keys the id of the key there.
+fn number<K: Key>(
+    alloc: Global,
+    keys: &[K],
+    sorted: Vec<Placed<K>>,
+) -> Result<Identified<K>, AllocError>
+    requires few { length sorted.items < 2 ^ 32 }
+    requires sorted { IsSortedBy K.below (map (λ placed. placed.key) sorted.items) }
+    requires places { All (λ placed. slice_get keys.now placed.place ≡ Some placed.key) sorted.items }
+    ensures distinct { IfOk result (λ identified. AreDistinctValues K.below (map (λ placed. placed.key) sorted.items) identified.dictionary) }
+    ensures size { IfOk result (λ identified. length identified.ids ≡ length keys.now) }
+    ensures ids { IfOk result (λ identified. All (λ placed. slice_get identified.dictionary (slice_index identified.ids placed.place) ≡ Some placed.key) sorted.items) }
 {
-    let mut distinct = Vec::new(alloc);
-    for key in sorted {
-        if is_past(&distinct, *key) {
-            distinct.push(key.copy(alloc)?)?;
-        }
+    let mut values = Vec::with_capacity(alloc, sorted.len())?;
+    let mut ids = vec![in alloc; 0u32; keys.len()]?;
+    for placed in sorted {
+        ids[placed.place as usize] = id_or_new(&mut values, placed.key)?;
     }
-    Ok(distinct)
+    Ok(Identified {
+        dictionary: Dict { values },
+        ids: Items::of(ids),
+    })
+}
+
+// The id of a key, which goes last where it comes after the last of ascending values.
+fn id_or_new<K: Key>(values: &mut Vec<K>, key: K) -> Result<u32, AllocError>
+    requires { length values.old.items + 1 < 2 ^ 32 }
+    ensures values { OnOk result (values.new.items ≡ (if is_past_last K.below values.old.items key then values.old.items ++ key ∷ [] else values.old.items)) }
+    ensures id { IfOk result (λ id. id + 1 ≡ length values.new.items) }
+{
+    if is_past(values, &key) {
+        values.push(key)?;
+    }
+    Ok(values.len() as u32 - 1)
 }
 
 // Whether a key comes after the last of some keys, if there is one.

@@ -7,11 +7,11 @@
 
 mod dict;
 mod edge;
+mod identified;
 mod key;
+mod placed;
 
 pub use dict::Dict;
 pub use edge::Edge;
+pub use identified::Identified;
 pub use key::Key;
-
-#[cfg(test)]
-mod tests;

@@ -7,8 +7,6 @@
 mod bit_reader;
 mod bit_writer;
 mod packing;
-#[cfg(test)]
-mod tests;
 mod widths;
 
 pub use packing::{get, pack, unpack};

@@ -8,8 +8,6 @@ mod doc_set;
 mod doc_words;
 mod posting_runs;
 mod postings;
-#[cfg(test)]
-mod tests;
 
 pub use doc_set::DocSet;
 pub use postings::Postings;

@@ -1,4 +1,4 @@
-use Rattle.std.proofs.Common.{◌≡◌, ◌+◌, ◌++◌, ◌∷◌, [], true, length, length-append, sym, ap, subst, ◌∙◌, arith}
+use Rattle.std.proofs.Common.{◌≡◌, ◌++◌, ◌∷◌, [], true, length, length-append, sym, ap, subst, ◌∙◌, arith}
 use Rattle.rt_dict.specs.Values.{IsAscending, is_past_last}
 use Rattle.rt_dict.proofs.Distinct.{ascending_push}
 use Rattle.rt_dict.proofs.dict.Dict.push.Goals as goal
