@@ -14,6 +14,4 @@ mod table;
 
 pub use minute::minute_of;
 pub use name::{NameRefused, SegmentName};
-
-#[cfg(test)]
-mod tests;
+pub use table::is_table_name;

@@ -3,6 +3,7 @@ ghost use Rattle.std.specs.Prelude.{◌≡◌, ◌^◌, ◌<◌, IfOk};
 use crate::parts::Parts;
 use rt_lists::Text;
 use std::alloc::{AllocError, Global};
+use thiserror::Error;
 
 /// The name of a segment.
 #[derive(Drop)]
@@ -18,11 +19,13 @@ pub struct SegmentName {
 }
 
 /// Why a text is not read as a name.
-#[derive(Clone, Copy, Debug, PartialEq, Eq)]
+#[derive(Clone, Copy, Debug, PartialEq, Eq, Error)]
 pub enum NameRefused {
     /// No segment's name has this text.
+    #[error("no segment's name has this text")]
     Shape,
     /// Memory was refused.
+    #[error("out of memory")]
     Memory,
 }
 

@@ -1,10 +1,14 @@
 pub mod Decoding
 pub mod Digits
 pub mod Fields
+pub mod JsonTexts
 pub mod Lists
 pub mod Members
 pub mod Names
+pub mod Picks
+pub mod RowTexts
 pub mod Rows
 pub mod Schemas
 pub mod TableNames
 pub mod Tables
+pub mod Times

@@ -4,6 +4,7 @@ use Rattle.std.proofs.lemmas.Bool.{leb-true, and_from}
 use Rattle.serde_json.specs.Data.{Data, null, boolean, number, string, array, object}
 use Rattle.serde_json.specs.Find.{get}
 use Rattle.serde_json.specs.Read.{read}
+use Rattle.rt_base.specs.declared.limits.TheConstants.{MOST_COLUMNS}
 use Rattle.rt_schema.specs.Json.{map_all, items_of, if_object, text_at}
 use Rattle.rt_schema.specs.Schema.{names_of, are_distinct, is_taken, are_taken, are_named, IsSchema}
 use Rattle.rt_schema.specs.Field.{is_plain, kind_named, taken_by, kind_in, field_of, fields_at, fields_after, all_fields, column_of}
@@ -95,7 +96,7 @@ columns_taken : (fields : List Field) → Each IsTakenField fields → IfSome (m
 columns_taken [] h = refl
 columns_taken (field ∷ fields) h = first_part _ (column_taken field field.kind (map_all column_of fields) h.0 (columns_taken fields h.1))
 
-schema_at : (name : List ℕ) (columns : List Column) (d l n : Bool) → are_distinct (names_of columns) ≡ d → leb (length columns) 256 ≡ l → are_named columns ≡ n → (are_taken columns ≡ true) × (1 ≤ length columns)
+schema_at : (name : List ℕ) (columns : List Column) (d l n : Bool) → are_distinct (names_of columns) ≡ d → leb (length columns) MOST_COLUMNS ≡ l → are_named columns ≡ n → (are_taken columns ≡ true) × (1 ≤ length columns)
     → IfOk (cond d (cond (l && n) (Ok (record { name = name; columns = columns })) (Err Limit)) (Err DuplicateColumn)) IsSchema
 schema_at name columns true true true d l n h = record { few = (h.1, leb-true _ _ l); named = n; distinct = d; taken = h.0 }
 schema_at name columns true true false d l n h = tt

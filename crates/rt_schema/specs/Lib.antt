@@ -1,8 +1,10 @@
 pub mod Field
 pub mod Json
+pub mod Refused
 pub mod Row
 pub mod Schema
 pub mod SchemaText
 pub mod Setting
+pub mod Spelling
 pub mod TableText
 pub mod Value

@@ -1,5 +1,5 @@
 -- The row of a message, and the rows of a range of a log.
-use Rattle.std.specs.Prelude.{◌≡◌, ℕ, ◌-◌, List, [], map, take, drop, filter_map, slice_index_or, Option, None, option_map, option_and_then, if◌then◌else◌}
+use Rattle.std.specs.Prelude.{◌≡◌, ◌≤◌, ℕ, ◌-◌, All, List, [], length, map, take, drop, filter_map, slice_index_or, Option, None, option_map, option_and_then, if◌then◌else◌}
 use Rattle.std.specs.Str.{is_utf8}
 use Rattle.serde_json.specs.Data.{Data, null, boolean, number, string, array, object, Members}
 use Rattle.serde_json.specs.Find.{get_member}
@@ -10,6 +10,7 @@ use Rattle.rt_schema.specs.declared.column.Column.{Column}
 use Rattle.rt_schema.specs.declared.schema.Schema.{Schema}
 use Rattle.rt_schema.specs.declared.row.Row.{Row}
 use Rattle.rt_schema.specs.declared.value.Value.{Value}
+use Rattle.rt_schema.specs.declared.value.Value.TheVariants.{Int, Long, Text, Bool as Truth, Time}
 
 -- the values of the columns in an object, where each column has one
 abbrev pub cells_of : List Column → Members → Option (List Value)
@@ -30,6 +31,17 @@ row_of schema message = if is_utf8 message then option_and_then (row_in schema.c
 -- a row of these columns: a value of each column's kind
 abbrev pub IsRowOf : Schema → Row → Type 0
 IsRowOf schema row = map kind_of row.values ≡ map (λ column. column.kind) schema.columns
+
+-- a value that is no text longer than this
+abbrev pub IsTextWithin : ℕ → Value → Type 0
+IsTextWithin most (Int z) = Unit {0}
+IsTextWithin most (Long z) = Unit {0}
+IsTextWithin most (Text s) = length s ≤ most
+IsTextWithin most (Truth b) = Unit {0}
+IsTextWithin most (Time z) = Unit {0}
+
+abbrev pub AreTextsWithin : ℕ → Row → Type 0
+AreTextsWithin most row = All (IsTextWithin most) row.values
 
 -- the rows of the decodable messages of a partition at the offsets from start to end - 1, in order
 abbrev pub rows_in : Schema → List (List ℕ) → ℕ → ℕ → List Row

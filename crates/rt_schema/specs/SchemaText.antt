@@ -2,6 +2,7 @@
 use Rattle.std.specs.Prelude.{◌≡◌, ℕ, ◌&&◌, List, [], ◌∷◌, length, nat_le, codes, Option, Some, None, option_and_then, Result, Ok, Err, if◌then◌else◌}
 use Rattle.serde_json.specs.Data.{Data}
 use Rattle.serde_json.specs.Read.{read}
+use Rattle.rt_base.specs.declared.limits.TheConstants.{MOST_COLUMNS}
 use Rattle.rt_schema.specs.Json.{map_all, if_object, text_at}
 use Rattle.rt_schema.specs.Schema.{names_of, are_distinct, are_named}
 use Rattle.rt_schema.specs.Field.{all_fields, column_of}
@@ -30,7 +31,7 @@ where_given refused (Some a) f = f a
 abbrev pub schema_with : List ℕ → List Column → Result Schema SchemaRefused
 schema_with name columns =
     if are_distinct (names_of columns) then
-    (if nat_le (length columns) 256 && are_named columns then Ok (record { name = name; columns = columns }) else Err Limit)
+    (if nat_le (length columns) MOST_COLUMNS && are_named columns then Ok (record { name = name; columns = columns }) else Err Limit)
     else Err DuplicateColumn
 
 -- at least one field, and each of a type that is taken

@@ -1,10 +1,12 @@
 -- The table settings that a text has, or the first refusal that applies.
-use Rattle.std.specs.Prelude.{◌≡◌, ◌≤◌, ℕ, ◌-◌, ◌==◌, ◌&&◌, ◌||◌, min, List, [], ◌∷◌, length, filter, take, Bool, true, false, nat_lt, nat_le, nat_eq, codes, Option, Some, None, option_map, option_and_then, Result, Ok, Err, if◌then◌else◌}
+use Rattle.std.specs.Prelude.{◌≡◌, ◌≤◌, ℕ, All, IsTrue, ◌-◌, ◌==◌, ◌&&◌, min, List, [], ◌∷◌, length, filter, take, Bool, true, false, nat_lt, nat_eq, codes, Option, Some, None, option_map, option_and_then, Result, Ok, Err, if◌then◌else◌}
 use Rattle.std.specs.List.{ends_with}
 use Rattle.std.specs.Str.{bytes_eq}
 use Rattle.serde_json.specs.Data.{Data, null, boolean, number, string, array, object}
 use Rattle.serde_json.specs.Find.{get, as_str, as_array}
 use Rattle.serde_json.specs.Read.{read}
+use Rattle.rt_names.specs.Table.{is_table_name, IsTableName}
+use Rattle.rt_base.specs.declared.limits.TheConstants.{MOST_ROWS}
 use Rattle.rt_schema.specs.Json.{map_all, items_of, if_object, text_at, is_given}
 use Rattle.rt_schema.specs.Schema.{names_of, is_among}
 use Rattle.rt_schema.specs.SchemaText.{where_given}
@@ -38,12 +40,12 @@ first_number first second = if is_given first then option_and_then number_of fir
 abbrev pub replication_of : Option Data → Option ℕ
 replication_of section = first_number (inside (codes "replicasPerPartition") section) (inside (codes "replication") section)
 
--- the row limit: 0 and larger numbers count as 1,000,000
+-- the row limit: 0 and larger numbers count as the most rows
 abbrev pub row_limit : ℕ → ℕ
-row_limit n = if n == 0 then 1000000 else min n 1000000
+row_limit n = if n == 0 then MOST_ROWS else min n MOST_ROWS
 
 abbrev pub rows_of : Option Data → Option ℕ
-rows_of found = if is_given found then option_map row_limit (option_and_then number_of found) else Some 1000000
+rows_of found = if is_given found then option_map row_limit (option_and_then number_of found) else Some MOST_ROWS
 
 -- the time limit, six hours where none is given
 abbrev pub millis_of : Option Data → Option ℕ
@@ -82,18 +84,6 @@ index_of names section =
 abbrev pub base_name : List ℕ → List ℕ
 base_name name = if ends_with nat_eq name (codes "_REALTIME") then take (length name - 9) name else name
 
--- a letter, a digit, `_` or `-` of ASCII
-abbrev pub is_name_byte : ℕ → Bool
-is_name_byte b = (nat_le 48 b && nat_le b 57) || (nat_le 65 b && nat_le b 90) || (nat_le 97 b && nat_le b 122) || b == 95 || b == 45
-
-abbrev pub are_name_bytes : List ℕ → Bool
-are_name_bytes [] = true
-are_name_bytes (b ∷ bs) = is_name_byte b && are_name_bytes bs
-
--- 1 to 128 such bytes
-abbrev pub is_table_name : List ℕ → Bool
-is_table_name name = nat_le 1 (length name) && nat_le (length name) 128 && are_name_bytes name
-
 -- a name and a replication within their limits; a larger replication is kept as 4,294,967,295
 abbrev pub table_named : List ℕ → ℕ → IndexConfig → Result Table SchemaRefused
 table_named name replication index =
@@ -115,8 +105,10 @@ table_in names d =
 abbrev pub table_of : Schema → List ℕ → Result Table SchemaRefused
 table_of schema text = where_given NotJson (option_and_then if_object (read text)) (table_in (names_of schema.columns))
 
--- table settings as `read_table` gives them
-pub record IsTable (table : Table) : Type 0 where
-  pub named : is_table_name table.name ≡ true
+-- table settings as `read_table` gives them for a schema: the indexed columns are those columns of the schema, in its order, whose names are among the indexed
+pub record IsTable (schema : Schema) (table : Table) : Type 0 where
+  pub named : IsTableName table.name
   pub replicated : (1 ≤ table.replication) × (table.replication ≤ 4294967295)
-  pub rows : (1 ≤ table.rows) × (table.rows ≤ 1000000)
+  pub rows : (1 ≤ table.rows) × (table.rows ≤ MOST_ROWS)
+  pub columns : All (λ name. IsTrue (is_among name (names_of schema.columns))) table.indexed
+  pub ordered : table.indexed ≡ filter (λ name. is_among name table.indexed) (names_of schema.columns)

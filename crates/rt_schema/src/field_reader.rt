@@ -6,7 +6,7 @@ ghost use Rattle.rt_schema.specs.Schema.{is_taken};
 ghost use Rattle.rt_schema.specs.Field.{kind_named, kind_in, is_plain, field_of, fields_after, all_fields};
 
 use crate::field::Field;
-use crate::json::{is_false, is_given, text_at};
+use crate::object::{is_false, is_given, text_at};
 use crate::{Kind, Role};
 use rt_lists::{Items, Text};
 use serde_json::Value as Json;

@@ -5,7 +5,8 @@ mod column;
 mod field;
 mod field_reader;
 mod index_config;
-mod json;
+mod laws;
+mod object;
 mod row;
 mod row_reader;
 mod schema;
@@ -14,11 +15,10 @@ mod schema_refused;
 mod setting;
 mod table;
 mod table_reader;
-#[cfg(test)]
-mod tests;
 mod value;
 
 pub use column::{Column, Kind, Role};
+pub use laws::times_are_what_they_spell;
 pub use row::Row;
 pub use row_reader::read_row;
 pub use schema::Schema;

@@ -1,10 +1,10 @@
-ghost use Rattle.std.specs.Prelude.{◌≡◌, true, IfOk, IfSome, option_map};
+ghost use Rattle.std.specs.Prelude.{◌≡◌, true, IfOk, IfSome, length, max, option_map};
 ghost use Rattle.serde_json.specs.Data.{object};
 ghost use Rattle.rt_schema.specs.Schema.{names_of, are_distinct, IsSchema};
 ghost use Rattle.serde_json.specs.Find.{as_str};
 ghost use Rattle.serde_json.specs.View.{view, members_view};
 ghost use Rattle.rt_schema.specs.Value.{in_32_bits, value_of, cell_of};
-ghost use Rattle.rt_schema.specs.Row.{row_in, row_of, IsRowOf};
+ghost use Rattle.rt_schema.specs.Row.{row_in, row_of, AreTextsWithin, IsRowOf};
 
 use crate::{Column, Kind, Row, Schema, Value};
 use rt_lists::{Items, Text};
@@ -13,11 +13,13 @@ use std::alloc::{AllocError, Global};
 
 /// The row of a message. None where the message isn't decodable: it isn't UTF-8, isn't JSON or isn't an
 /// object, or a column's key has a value that is neither null nor of the column's kind. A key that is
-/// absent or null gives the missing value of its kind and role, and other keys are passed over.
+/// absent or null gives the missing value of its kind and role, and other keys are passed over. A text of the row has
+/// no more bytes than the message, or than the text `null` of a missing value.
 pub fn read_row(alloc: Global, schema: &Schema, message: &[u8]) -> Result<Option<Row>, AllocError>
     requires { IsSchema schema.now }
     ensures row { IfOk result (λ row. row ≡ row_of schema.now message.now) }
     ensures kinds { IfOk result (λ row. IfSome row (IsRowOf schema.now)) }
+    ensures texts { IfOk result (λ row. IfSome row (AreTextsWithin (max 4 (length message.now)))) }
 {
     match Json::from_slice(alloc, message) {
         Ok(json) => row_in(alloc, schema.columns.as_slice(), json),

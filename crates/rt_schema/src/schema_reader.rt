@@ -6,8 +6,9 @@ ghost use Rattle.rt_schema.specs.SchemaText.{Answers, schema_of};
 
 use crate::field::Field;
 use crate::field_reader::read_fields;
-use crate::json::{read_object, text_at};
+use crate::object::{read_object, text_at};
 use crate::{Column, Schema, SchemaRefused};
+use rt_base::limits::{LONGEST_NAME, MOST_COLUMNS};
 use rt_lists::{Items, Text};
 use std::alloc::{AllocError, Global};
 use std::collections::BTreeSet;
@@ -44,7 +45,7 @@ fn read_text(alloc: Global, text: &str) -> Result<Schema, SchemaRefused>
     if !are_distinct(alloc, columns.as_slice())? {
         return Err(SchemaRefused::DuplicateColumn);
     }
-    if columns.len() > 256 || !are_named(columns.as_slice()) {
+    if columns.len() > MOST_COLUMNS || !are_named(columns.as_slice()) {
         return Err(SchemaRefused::Limit);
     }
     let name = Text::copied_from(alloc, name)?;
@@ -86,7 +87,7 @@ fn are_named(columns: &[Column]) -> bool
     ensures { result ≡ are_named columns.now }
 {
     for column in columns {
-        if column.name.is_empty() || column.name.len() > 128 {
+        if column.name.is_empty() || column.name.len() > LONGEST_NAME {
             return false;
         }
     }

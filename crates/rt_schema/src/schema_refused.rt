@@ -1,4 +1,5 @@
 ghost use Rattle.std.specs.Prelude.{◌≡◌};
+ghost use Rattle.rt_schema.specs.Refused.{number_of};
 ghost use Rattle.rt_schema.specs.declared.schema_refused.SchemaRefused.TheVariants.{Memory};
 
 use std::alloc::AllocError;
@@ -18,6 +19,22 @@ pub enum SchemaRefused {
     Limit,
     /// Memory ran out.
     Memory,
+}
+
+impl SchemaRefused {
+    /// The number by which a refusal of the text is reported; want of memory has none.
+    pub fn number(self) -> Option<u32>
+        ensures { result ≡ number_of self }
+    {
+        match self {
+            SchemaRefused::NotJson => Some(1),
+            SchemaRefused::MissingField => Some(2),
+            SchemaRefused::UnknownType => Some(3),
+            SchemaRefused::DuplicateColumn => Some(4),
+            SchemaRefused::Limit => Some(5),
+            SchemaRefused::Memory => None,
+        }
+    }
 }
 
 impl From<AllocError> for SchemaRefused {

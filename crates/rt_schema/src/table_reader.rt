@@ -1,16 +1,19 @@
 ghost use Rattle.std.specs.Prelude.{◌≡◌, IfOk, map, option_map, option_and_then};
 ghost use Rattle.serde_json.specs.Find.{as_str, as_array};
 ghost use Rattle.serde_json.specs.View.{view, items_view};
+ghost use Rattle.rt_names.specs.Table.{is_table_name};
 ghost use Rattle.rt_schema.specs.Json.{map_all};
 ghost use Rattle.rt_schema.specs.Schema.{names_of, is_among};
 ghost use Rattle.rt_schema.specs.SchemaText.{Answers};
-ghost use Rattle.rt_schema.specs.TableText.{is_section, inside, first_number, replication_of, row_limit, rows_of, millis_of, stream_of, texts_at, all_among, chosen_of, indexed_of, index_of, base_name, are_name_bytes, is_table_name, table_with, table_in, table_of, IsTable};
+ghost use Rattle.rt_schema.specs.TableText.{is_section, inside, first_number, replication_of, row_limit, rows_of, millis_of, stream_of, texts_at, all_among, chosen_of, indexed_of, index_of, base_name, table_with, table_in, table_of, IsTable};
 
 use crate::index_config::{IndexConfig, StreamConfig};
-use crate::json::{is_given, read_object, text_at};
+use crate::object::{is_given, read_object, text_at};
 use crate::setting::{number_of, time_of};
 use crate::{Column, Schema, SchemaRefused, Table};
-use rt_lists::{Items, Text};
+use rt_base::limits::MOST_ROWS;
+use rt_lists::{Items, Text, is_among};
+use rt_names::is_table_name;
 use serde_json::Value as Json;
 use std::alloc::{AllocError, Global};
 
@@ -18,7 +21,7 @@ use std::alloc::{AllocError, Global};
 /// applies is answered, by their order and not by their places in the text.
 pub fn read_table(alloc: Global, text: &str, schema: &Schema) -> Result<Table, SchemaRefused>
     ensures table { Answers (table_of schema.now text.now) result }
-    ensures limits { IfOk result IsTable }
+    ensures limits { IfOk result (IsTable schema.now) }
 {
     read_text(alloc, text, schema)
 }
@@ -143,16 +146,16 @@ fn rows_of(found: Option<&Json>) -> Option<u32>
     if is_given(found) {
         found.and_then(number_of).map(row_limit)
     } else {
-        Some(1_000_000)
+        Some(MOST_ROWS)
     }
 }
 
-// 0 and larger numbers count as 1,000,000.
+// 0 and larger numbers count as the most rows.
 fn row_limit(rows: u64) -> u32
     ensures { result ≡ row_limit rows }
 {
-    if rows == 0 || rows > 1_000_000 {
-        1_000_000
+    if rows == 0 || rows > u64::from(MOST_ROWS) {
+        MOST_ROWS
     } else {
         rows as u32
     }
@@ -256,17 +259,6 @@ fn is_column(name: &str, columns: &[Column]) -> bool
     false
 }
 
-fn is_among(name: &str, texts: &[Text]) -> bool
-    ensures { result ≡ is_among name.now texts.now }
-{
-    for text in texts {
-        if name == text.as_str() {
-            return true;
-        }
-    }
-    false
-}
-
 // One suffix is removed.
 fn base_name(name: &str) -> &str
     ensures { result.now ≡ base_name name.now }
@@ -275,21 +267,4 @@ fn base_name(name: &str) -> &str
         Some(base) => base,
         None => name,
     }
-}
-
-fn is_table_name(name: &str) -> bool
-    ensures { result ≡ is_table_name name.now }
-{
-    !name.is_empty() && name.len() <= 128 && are_name_bytes(name.as_bytes())
-}
-
-fn are_name_bytes(bytes: &[u8]) -> bool
-    ensures { result ≡ are_name_bytes bytes.now }
-{
-    for byte in bytes {
-        if !matches!(byte, b'0'..=b'9' | b'A'..=b'Z' | b'a'..=b'z' | b'_' | b'-') {
-            return false;
-        }
-    }
-    true
 }

@@ -1,10 +1,11 @@
-use Rattle.std.proofs.Common.{◌∙◌, sym, subst, Option, IfSome}
+use Rattle.std.proofs.Common.{◌∙◌, length, max, sym, subst, Option, IfSome}
 use Rattle.std.proofs.lemmas.Result.{IfOk-weaker}
 use Rattle.std.proofs.lemmas.Bool.{false≢true}
 use Rattle.serde_json.specs.View.{view}
-use Rattle.rt_schema.specs.Row.{IsRowOf}
+use Rattle.rt_schema.specs.Row.{AreTextsWithin, IsRowOf}
 use Rattle.rt_schema.specs.declared.row.Row.{Row}
 use Rattle.rt_schema.proofs.Decoding.{row_of_text, no_row}
+use Rattle.rt_schema.proofs.RowTexts.{row_of_short}
 use Rattle.rt_schema.proofs.Rows.{row_of_kinds}
 use Rattle.rt_schema.proofs.row_reader.read_row.Goals as goal
 
@@ -14,6 +15,7 @@ returns-in-Ok c =
     record {
       row = IfOk-weaker c.row_in.result _ _ (λ row h. h ∙ is) c.row_in.ensures;
       kinds = IfOk-weaker c.row_in.result _ _ (λ row h. subst (λ (o : Option Row). IfSome o (IsRowOf c.args.schema.now)) (sym (h ∙ is)) (row_of_kinds c.args.schema.now c.args.message.now)) c.row_in.ensures;
+      texts = IfOk-weaker c.row_in.result _ _ (λ row h. subst (λ (o : Option Row). IfSome o (AreTextsWithin (max 4 (length c.args.message.now)))) (sym (h ∙ is)) (row_of_short c.args.schema.now c.args.message.now)) c.row_in.ensures;
     }
 
 pub returns-else-is_memory-clause-row : goal.returns-else-is_memory-clause-row

@@ -23,7 +23,7 @@ returns-in_err-pieces-clause-one c name has is =
 pub returns-then-not-is_table_name-clause-one : goal.returns-then-not-is_table_name-clause-one
 returns-then-not-is_table_name-clause-one c name has is =
     let pieces = c.in_ok-pieces.ensures.last name.table (decimal name.partition) (decimal name.sequence) name.minute (decimal_without name.partition has.partition) (decimal_without name.sequence has.sequence) (minute_without name.minute has.minute) (sym is) in
-    true≢false (sym (c.is_table_name.ensures.1 (subst IsTableName (sym pieces.0) has.table)) ∙ c.if-not-is_table_name.true)
+    true≢false (sym (c.is_table_name.ensures ∙ subst IsTableName (sym pieces.0) has.table) ∙ c.if-not-is_table_name.true)
 
 pub returns-in_err-partition-clause-one : goal.returns-in_err-partition-clause-one
 returns-in_err-partition-clause-one c name has is =
