@@ -1,11 +1,14 @@
 -- The replicas of one partition lie on different servers of the ring.
-use Rattle.std.proofs.Common.{◌≡◌, ℕ, ◌+◌, ◌*◌, ◌/◌, ◌%◌, ◌<◌, ◌≤◌, [], ◌∷◌, ◌++◌, map, length, arith, sym, ap, ◌∙◌, get_or, ⊎_elim}
-use Rattle.std.specs.List.{range_with_len}
+use Rattle.std.proofs.Common.{◌≡◌, ℕ, suc, ◌+◌, ◌*◌, ◌/◌, ◌%◌, ◌<◌, ◌≤◌, List, [], ◌∷◌, ◌++◌, map, length, arith, sym, ap, ◌∙◌, get_or, ⊎_elim}
+use Rattle.std.specs.List.{AllPairs, range_with_len}
 use Rattle.std.proofs.lemmas.List.FromFn.{length-map-range_with_len, get_or-map-range_with_len, map-range_with_len_more}
 use Rattle.std.proofs.lemmas.Nat.{div-add-mod', mul-le, mod_below}
 use Rattle.std.proofs.lemmas.Bool.{cases_lt}
 use Rattle.rt_base.specs.declared.numbers.Partition.{Partition}
 use Rattle.rt_base.specs.declared.numbers.Instance.{Instance}
+use Rattle.rt_model.specs.declared.setup.Setup.{Setup}
+use Rattle.rt_model.specs.Order.{IsNoneOf, AreDistinct}
+use Rattle.rt_model.specs.Setup.{IsSetup}
 use Rattle.rt_assign.specs.Placement.{replica_of, replicas_of, IsPlaced}
 
 -- two places less than one round apart are different servers
@@ -32,3 +35,32 @@ replicas_placed p replication servers some enough =
 -- one replica more
 pub replicas_more : (p : Partition) (replication servers k : ℕ) → map (replica_of p replication servers) (range_with_len 0 (k + 1)) ≡ map (replica_of p replication servers) (range_with_len 0 k) ++ replica_of p replication servers k ∷ []
 replicas_more p replication servers k = map-range_with_len_more (replica_of p replication servers) 0 k k (omega arith)
+
+-- ---- distinct instances
+
+none_at : (i : Instance) (is : List Instance) → ((k : ℕ) (d : Instance) → k < length is → i ≡ get_or is k d → ⊥) → IsNoneOf i is
+none_at i [] h = tt
+none_at i (j ∷ is) h = (h 0 j (omega arith), none_at i is (λ k d lt. h (suc k) d (omega arith)))
+
+distinct : (is : List Instance) → AllPairs (λ i j. i ≡ j → ⊥) is → AreDistinct is
+distinct [] h = tt
+distinct (i ∷ is) h = (
+  none_at i is (λ k d lt. h 0 (suc k) d (omega arith) (omega arith)),
+  distinct is (λ a b d after within. h (suc a) (suc b) d (omega arith) (omega arith)),
+)
+
+pub replicas_distinct :
+    (p : Partition) (replication servers : ℕ) → 1 ≤ replication → replication ≤ servers → AreDistinct (replicas_of p replication servers)
+replicas_distinct p replication servers some enough =
+    distinct (replicas_of p replication servers) (replicas_placed p replication servers some enough).differ
+
+-- ---- a cluster within the limits
+
+pub setup_placed :
+    (setup : Setup) (p : Partition) → IsSetup setup
+    → IsPlaced setup.table.replication setup.servers (replicas_of p setup.table.replication setup.servers)
+setup_placed setup p k = replicas_placed p setup.table.replication setup.servers k.some_replicas k.enough_servers
+
+pub setup_distinct :
+    (setup : Setup) (p : Partition) → IsSetup setup → AreDistinct (replicas_of p setup.table.replication setup.servers)
+setup_distinct setup p k = replicas_distinct p setup.table.replication setup.servers k.some_replicas k.enough_servers

@@ -5,6 +5,3 @@
 mod placement;
 
 pub use placement::{replica, replicas, replicas_are_placed};
-
-#[cfg(test)]
-mod tests;

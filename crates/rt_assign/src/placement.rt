@@ -1,5 +1,8 @@
 ghost use Rattle.std.specs.Prelude.{◌≡◌, ◌≤◌, ℕ, IfOk};
 ghost use Rattle.rt_base.specs.declared.numbers.Partition.{Partition};
+ghost use Rattle.rt_model.specs.declared.setup.Setup.{Setup};
+ghost use Rattle.rt_model.specs.Order.{AreDistinct};
+ghost use Rattle.rt_model.specs.Setup.{IsSetup};
 ghost use Rattle.rt_assign.specs.Placement.{replica_of, replicas_of, IsPlaced};
 
 use rt_base::{Instance, Partition};
@@ -36,9 +39,14 @@ pub fn replicas(
     Ok(listed)
 }
 
-/// The replicas of a partition are as many as asked for, on different servers, all of which exist.
-#[tactic(auto, using(crate::proofs::Ring::replicas_placed))]
+/// The replicas of a partition are as many as asked for, on different servers, all of which exist; so are those of
+/// each cluster within the limits.
+#[tactic(auto, using(crate::proofs::Ring::replicas_placed, crate::proofs::Ring::setup_placed, crate::proofs::Ring::setup_distinct))]
 pub fn replicas_are_placed()
-    ensures { (p : Partition) (replication servers : ℕ) → 1 ≤ replication → replication ≤ servers
+    ensures placed { (p : Partition) (replication servers : ℕ) → 1 ≤ replication → replication ≤ servers
         → IsPlaced replication servers (replicas_of p replication servers) }
+    ensures of_a_setup { (setup : Setup) (p : Partition) → IsSetup setup
+        → IsPlaced setup.table.replication setup.servers (replicas_of p setup.table.replication setup.servers) }
+    ensures distinct { (setup : Setup) (p : Partition) → IsSetup setup
+        → AreDistinct (replicas_of p setup.table.replication setup.servers) }
 {}

@@ -1,5 +1,5 @@
 -- A replica that stopped before the pick has no note, and so isn't picked before it consumes again.
-use Rattle.std.proofs.Common.{◌≡◌, ℕ, true, ◌==◌, nat_lt, Option, Some, None, List, [], ◌∷◌, map, unwrap_or, inl, inr, refl, ap, sym, ◌∙◌, subst}
+use Rattle.std.proofs.Common.{◌≡◌, ◌<◌, ◌≤◌, ℕ, true, ◌==◌, nat_lt, Option, Some, None, List, [], ◌∷◌, map, unwrap_or, inl, inr, refl, ap, sym, ◌∙◌, subst, arith}
 use Rattle.std.specs.Prelude.{All}
 use Rattle.std.proofs.lemmas.Bool.{eq-eqb}
 use Rattle.std.proofs.lemmas.List.Elements.{All-head, All-tail}
@@ -74,62 +74,68 @@ winner_other i j x rs other none =
     (ap (λ (v : Instance). v.0) e))
 
 -- `i` has no note before the pick, and wasn't picked
-record IsOut (i : Instance) (m : Completion) : Type 0 where
+record IsOut (start : ℕ) (i : Instance) (m : Completion) : Type 0 where
+  segment : m.seen.meta.start.0 ≡ start
   before : IsBeforePick m.state → HasNoNote i m.reporters
   after : IsAfterPick m.state → m.winner ≡ i → ⊥
 
-deciding : (i : Instance) (n : Completion) (j : Instance) (x : Offset) → (n.winner ≡ i → ⊥) → IsOut i (decided n j x).1
-deciding i n j x other =
-    by_test (λ (y : Reaction × Completion). IsOut i y.1) (j.0 == n.winner.0) (Answer (Commit n.offset), goes n CommitterNotified) _
-    (λ _. record { before = λ p. absurd p; after = λ _. other })
-    (λ _. by_test (λ (y : Reaction × Completion). IsOut i y.1) (x.0 == n.offset.0) (Answer Hold, goes n CommitterDecided) (Answer (CatchUp n.offset), goes n CommitterDecided)
-    (λ _. record { before = λ p. absurd p; after = λ _. other })
-    (λ _. record { before = λ p. absurd p; after = λ _. other }))
+deciding : (start : ℕ) (i : Instance) (n : Completion) (j : Instance) (x : Offset) → n.seen.meta.start.0 ≡ start → (n.winner ≡ i → ⊥) → IsOut start i (decided n j x).1
+deciding start i n j x at other =
+    by_test (λ (y : Reaction × Completion). IsOut start i y.1) (j.0 == n.winner.0) (Answer (Commit n.offset), goes n CommitterNotified) _
+    (λ _. record { segment = at; before = λ p. absurd p; after = λ _. other })
+    (λ _. by_test (λ (y : Reaction × Completion). IsOut start i y.1) (x.0 == n.offset.0) (Answer Hold, goes n CommitterDecided) (Answer (CatchUp n.offset), goes n CommitterDecided)
+    (λ _. record { segment = at; before = λ p. absurd p; after = λ _. other })
+    (λ _. record { segment = at; before = λ p. absurd p; after = λ _. other }))
 
-other_sender : (i j : Instance) (ask : Ask) (x : Offset) (r : _) → (j ≡ i → IsNoReport ask) → ask ≡ Consumed x r → j ≡ i → ⊥
-other_sender i j ask x r silent e same = subst IsNoReport e (silent same)
+other_sender : (start : ℕ) (i j : Instance) (ask : Ask) (x : Offset) (r : _) → (j ≡ i → IsNoReport start ask) → ask ≡ Consumed x r → start < x.0 → j ≡ i → ⊥
+other_sender start i j ask x r silent e past same =
+    let none : x.0 ≤ start = subst (IsNoReport start) e (silent same) in omega arith
 
-kept_out : (i : Instance) (m : Completion) (message : Message) → IsNoReportOf i message → IsOut i m → IsOut i (step m message).after
-kept_out i m message silent out =
+kept_out : (start : ℕ) (i : Instance) (m : Completion) (message : Message) → IsNoReportOf start i message → IsOut start i m → IsOut start i (step m message).after
+kept_out start i m message silent out =
     elim (before_or_after m.state) [
       | inl p ↦
-          by_opened (λ y. IsOut i y.1) m message.sender message.ask message.now p (record {
+          by_opened (λ y. IsOut start i y.1) m message.sender message.ask message.now p (record {
             stays = λ said q. out;
             notes = λ x r e past. record {
-              before = λ _. no_note_noted message.sender i x m.reporters (other_sender i message.sender message.ask x r silent e) (out.before p);
+              segment = out.segment;
+              before = λ _. no_note_noted message.sender i x m.reporters (other_sender start i message.sender message.ask x r silent e (omega (arith, past, out.segment))) (out.before p);
               after = λ q. absurd q;
             };
             stops = λ e. record {
+              segment = out.segment;
               before = λ _. no_note_without message.sender i m.reporters (out.before p);
               after = λ q. absurd (not_both m.state p q);
             };
             decides = λ x r e past.
-                let other = other_sender i message.sender message.ask x r silent e in
-                deciding i (with_pick (with_note m message.sender x) message.sender x message.now) message.sender x
+                let other = other_sender start i message.sender message.ask x r silent e (omega (arith, past, out.segment)) in
+                deciding start i (with_pick (with_note m message.sender x) message.sender x message.now) message.sender x out.segment
                 (winner_other i message.sender x (map (noted message.sender x) m.reporters) other
                 (no_note_noted message.sender i x m.reporters other (out.before p)));
           })
       | inr q ↦
           let here : Settled m message.sender message.ask (react m message.sender message.ask message.now) = settled m message.sender message.ask message.now q in
           record {
+            segment = ap (λ (s : SeenMeta). s.meta.start.0) here.seen ∙ out.segment;
             before = λ b. absurd (not_both (step m message).after.state b here.after);
             after = λ _ e. out.after q (sym here.winner ∙ e);
           }
     ]
 
-out_after : (i : Instance) (m : Completion) (messages : List Message) → All (IsNoReportOf i) messages → IsOut i m → IsOut i (machine_after m messages)
-out_after i m [] silent out = out
-out_after i m (message ∷ messages) silent out =
-    out_after i (step m message).after messages (All-tail (IsNoReportOf i) message messages silent)
-    (kept_out i m message (All-head (IsNoReportOf i) message messages silent) out)
+out_after : (start : ℕ) (i : Instance) (m : Completion) (messages : List Message) → All (IsNoReportOf start i) messages → IsOut start i m → IsOut start i (machine_after m messages)
+out_after start i m [] silent out = out
+out_after start i m (message ∷ messages) silent out =
+    out_after start i (step m message).after messages (All-tail (IsNoReportOf start i) message messages silent)
+    (kept_out start i m message (All-head (IsNoReportOf start i) message messages silent) out)
 
-out_without : (i : Instance) (m : Completion) → IsBeforePick m.state → IsOut i (without m i)
+out_without : (i : Instance) (m : Completion) → IsBeforePick m.state → IsOut m.seen.meta.start.0 i (without m i)
 out_without i m p = record {
+  segment = refl;
   before = λ _. no_note_left_out i m.reporters;
   after = λ q. absurd (not_both m.state p q);
 }
 
-stopped_at : (s : MachineState) (i : Instance) (m : Completion) → IsBeforePick s → IsOut i (without m i) → IsOut i (stopped_in s m i).1
+stopped_at : (s : MachineState) (i : Instance) (m : Completion) → IsBeforePick s → IsOut m.seen.meta.start.0 i (without m i) → IsOut m.seen.meta.start.0 i (stopped_in s m i).1
 stopped_at PartialConsuming i m p out = out
 stopped_at Holding i m p out = out
 stopped_at CommitterDecided i m p out = absurd p
@@ -139,9 +145,9 @@ stopped_at Committing i m p out = absurd p
 stopped_at Committed i m p out = absurd p
 stopped_at Aborted i m p out = absurd p
 
-out_stopped : (i : Instance) (m : Completion) (now : Moment) → IsBeforePick m.state → IsOut i (react m i Stopped now).1
+out_stopped : (i : Instance) (m : Completion) (now : Moment) → IsBeforePick m.state → IsOut m.seen.meta.start.0 i (react m i Stopped now).1
 out_stopped i m now p =
-    by_test (λ (y : Reaction × Completion). IsOut i y.1) (is_late m now) _ (stopped_in m.state m i)
+    by_test (λ (y : Reaction × Completion). IsOut m.seen.meta.start.0 i y.1) (is_late m now) _ (stopped_in m.state m i)
     (λ late. absurd (not_late m.state (nat_lt m.deadline.0 now.0) p late))
     (λ _. stopped_at m.state i m p (out_without i m p))
 
@@ -151,4 +157,4 @@ pub stays_out : (seen : SeenMeta) (replicas : List Instance) (state : MachineSta
 stays_out seen replicas state made messages i now later_messages p silent picked e =
     let m = machine_after (first seen replicas state made) messages in
     let n = machine_after (react m i Stopped now).1 later_messages in
-    (out_after i (react m i Stopped now).1 later_messages silent (out_stopped i m now p)).after (picked_after n.state picked) e
+    (out_after m.seen.meta.start.0 i (react m i Stopped now).1 later_messages silent (out_stopped i m now p)).after (picked_after n.state picked) e

@@ -120,21 +120,22 @@ HasNoLateJob ss = All (λ s. StartsInTime s.reaction s.message.now s.before.dead
 
 -- Exclusion.
 
-abbrev pub IsNoReport : Ask → Type 0
-IsNoReport (Consumed x reason) = ⊥
-IsNoReport (CommitStart x) = Unit {0}
-IsNoReport (CommitEnd x) = Unit {0}
-IsNoReport Stopped = Unit {0}
-IsNoReport (Extend millis) = Unit {0}
+-- the ask reports no offset past the segment's start
+abbrev pub IsNoReport : ℕ → Ask → Type 0
+IsNoReport start (Consumed x reason) = x.0 ≤ start
+IsNoReport start (CommitStart x) = Unit {0}
+IsNoReport start (CommitEnd x) = Unit {0}
+IsNoReport start Stopped = Unit {0}
+IsNoReport start (Extend millis) = Unit {0}
 
--- the message is no Consumed of `i`
-abbrev pub IsNoReportOf : Instance → Message → Type 0
-IsNoReportOf i message = message.sender ≡ i → IsNoReport message.ask
+-- the message is no Consumed of `i` at an offset past the segment's start
+abbrev pub IsNoReportOf : ℕ → Instance → Message → Type 0
+IsNoReportOf start i message = message.sender ≡ i → IsNoReport start message.ask
 
--- where `i` has stopped before a pick, and hasn't consumed again, it isn't the committer
+-- where `i` has stopped before a pick, and hasn't consumed past the segment's start again, it isn't the committer
 abbrev pub StaysOut : Completion → Instance → Moment → List Message → Type 0
 StaysOut m i now later_messages =
-    IsBeforePick m.state → All (IsNoReportOf i) later_messages
+    IsBeforePick m.state → All (IsNoReportOf m.seen.meta.start.0 i) later_messages
     → HasPick (machine_after (react m i Stopped now).1 later_messages).state
     → (machine_after (react m i Stopped now).1 later_messages).winner ≡ i → ⊥
 

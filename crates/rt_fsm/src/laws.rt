@@ -47,7 +47,8 @@ pub fn one_job()
         → HasOneJobAtMost (life seen replicas state made messages) }
 {}
 
-/// A replica that stopped before a pick, and hasn't consumed again, isn't the committer.
+/// A replica that stopped before a pick, and hasn't reported an offset past the segment's start again, isn't the
+/// committer.
 #[tactic(auto, using(crate::proofs::Exclusion::stays_out))]
 pub fn stays_out()
     ensures { (seen : SeenMeta) (replicas : List Instance) (state : MachineState) (made : Moment) (messages : List Message)

@@ -5,8 +5,6 @@
 mod laws;
 mod machine;
 mod reporters;
-#[cfg(test)]
-mod tests;
 
 pub use laws::{
     commits_agree, commits_the_pick, no_late_job, offsets_stay_within, one_committer, one_job,

@@ -4,12 +4,7 @@ use Rattle.rt_base.specs.declared.numbers.Partition.{Partition}
 use Rattle.rt_base.specs.declared.numbers.Sequence.{Sequence}
 use Rattle.rt_base.specs.declared.numbers.Instance.{Instance}
 use Rattle.rt_model.specs.declared.ideal_state.IdealEntry.{IdealEntry}
-use Rattle.rt_model.specs.declared.ideal_state.Mode.TheVariants.{Consuming}
-use Rattle.rt_model.specs.Ideal.{with_entry, with_consuming}
-
--- an instance's CONSUMING entry of a segment
-abbrev pub consuming : Partition → Sequence → Instance → IdealEntry
-consuming p s i = record { partition = p; sequence = s; instance = i; mode = Consuming }
+use Rattle.rt_model.specs.Ideal.{with_entry, consuming, with_consuming}
 
 -- the last instance is added first
 pub with_consuming_last :

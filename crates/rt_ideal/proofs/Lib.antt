@@ -1,3 +1,3 @@
 pub mod Added
-pub mod Ascending
 pub mod Members
+pub mod Unnamed

@@ -10,11 +10,8 @@ mod places;
 mod steps;
 mod written;
 
-pub use laws::steps_keep_the_order;
-pub use lookup::mode;
+pub use laws::{steps_change_named_entries_alone, steps_keep_the_order};
+pub use lookup::{has_entry, mode};
 pub use places::add_segment;
-pub use steps::{add_consuming, commit_step, remove_segment, set_offline};
+pub use steps::{add_consuming, comes_next, commit_step, remove_segment, set_offline};
 pub use written::text;
-
-#[cfg(test)]
-mod tests;

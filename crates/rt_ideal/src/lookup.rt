@@ -29,7 +29,7 @@ pub(crate) fn is_of(entry: &IdealEntry, partition: Partition, sequence: Sequence
 }
 
 /// Whether a segment has an entry.
-pub(crate) fn has_entry(entries: &[IdealEntry], partition: Partition, sequence: Sequence) -> bool
+pub fn has_entry(entries: &[IdealEntry], partition: Partition, sequence: Sequence) -> bool
     ensures { result ≡ has_entry entries.now partition sequence }
 {
     for entry in entries {

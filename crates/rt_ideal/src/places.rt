@@ -1,4 +1,4 @@
-ghost use Rattle.std.specs.Prelude.{◌≡◌, ◌≤◌, ◌<◌, length, OnOk, insert};
+ghost use Rattle.std.specs.Prelude.{◌≡◌, ◌≤◌, ◌<◌, length, OnOk, OnErr, insert};
 ghost use Rattle.rt_model.specs.Ideal.{is_before, with_entry, with_consuming};
 
 use rt_base::{Instance, Partition, Sequence};
@@ -31,8 +31,8 @@ fn place_of(entries: &[IdealEntry], entry: &IdealEntry) -> usize
     entries.len()
 }
 
-/// Adds a segment's entries, CONSUMING on these instances, each in its place. Where memory runs out, some of them
-/// may have been added.
+/// Adds a segment's entries, CONSUMING on these instances, each in its place. Where memory runs out, the entries are
+/// as before.
 #[tactic(auto, using(crate::proofs::Added::with_consuming_last))]
 pub fn add_segment(
     entries: &mut Vec<IdealEntry>,
@@ -40,9 +40,11 @@ pub fn add_segment(
     sequence: Sequence,
     instances: &[Instance],
 ) -> Result<(), AllocError>
-    ensures { OnOk result
+    ensures added { OnOk result
         (entries.new.items ≡ with_consuming entries.old.items partition sequence instances.now) }
+    ensures err { OnErr result (entries.new.items ≡ entries.old.items) }
 {
+    entries.reserve(instances.len())?;
     for instance in instances.iter().rev() {
         let entry = IdealEntry {
             partition,
@@ -51,7 +53,7 @@ pub fn add_segment(
             mode: Mode::Consuming,
         };
         let place = place_of(entries.as_slice(), &entry);
-        entries.insert(place, entry)?;
+        entries.insert(place, entry).unwrap();
     }
     Ok(())
 }

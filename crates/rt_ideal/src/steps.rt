@@ -162,8 +162,9 @@ fn offline_entry(
     }
 }
 
-/// Whether a sequence follows the entries of its partition.
-fn comes_next(entries: &[IdealEntry], partition: Partition, sequence: Sequence) -> bool
+/// Whether a sequence follows the entries of its partition: the one before it has an entry, or it is sequence 0 and
+/// the partition has none.
+pub fn comes_next(entries: &[IdealEntry], partition: Partition, sequence: Sequence) -> bool
     ensures { result ≡ goes_on entries.now partition sequence.0 }
 {
     if sequence.0 == 0 {

@@ -11,6 +11,3 @@ mod written;
 pub use ending::{abandoned_of, done_of};
 pub use starting::first;
 pub use written::text;
-
-#[cfg(test)]
-mod tests;

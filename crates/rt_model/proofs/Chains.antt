@@ -8,12 +8,14 @@ use Rattle.rt_model.specs.declared.node.Node.TheVariants as node
 use Rattle.rt_model.specs.declared.node.Seen.{Seen}
 use Rattle.rt_model.specs.declared.status.Status.{Status}
 use Rattle.rt_model.specs.declared.status.Status.TheVariants.{InProgress, Done, Abandoned}
-use Rattle.rt_model.specs.History.{Has, last_of, value_by, value_in, value_of}
+use Rattle.rt_lists.specs.Members.{Has}
+use Rattle.rt_model.specs.History.{last_of, value_by, value_in, value_of}
 use Rattle.rt_model.specs.Metadata.{node_key, life_of, sequences_of, IsOpen, IsDone, IsDoneStatus, IsFinal, IsFinalStatus, Ends, Follows}
 use Rattle.rt_model.specs.Chain.{IsLife, start_by, start_in, IsPresent, IsCreation, IsPastStart, IsChainOf, deletions_of}
 use Rattle.rt_model.proofs.Histories.{Has-writes_of, writes_of-Has}
 use Rattle.rt_model.proofs.Lives.{IsLinked, IsFinal-open, Ends-open, Ends-final, gone_not_open, gone_not_final, length_same}
-use Rattle.rt_model.proofs.Partitions.{InOrder, Has-length}
+use Rattle.rt_lists.proofs.Members.{Has-length}
+use Rattle.rt_model.proofs.Partitions.{InOrder}
 
 -- ---- what a life shows
 

@@ -1,5 +1,5 @@
 -- What each step of the ideal state does to its entries.
-use Rattle.std.proofs.Common.{◌≡◌, ℕ, ◌+◌, ◌<◌, ◌≤◌, Bool, true, false, cond, ◌==◌, ◌⊎◌, inl, inr, List, [], ◌∷◌, map, filter, refl, sym, ◌∙◌, ap, subst, arith}
+use Rattle.std.proofs.Common.{◌≡◌, ℕ, ◌+◌, ◌<◌, ◌≤◌, Bool, true, false, cond, ◌==◌, ◌⊎◌, inl, inr, List, [], ◌∷◌, refl, sym, ◌∙◌, ap, subst, arith}
 use Rattle.std.proofs.lemmas.Bool.{eqb-true, eq-eqb, both_ways, cases_eq, or_cases, or_left, or_right, and_parts, and_from}
 use Rattle.rt_base.specs.declared.numbers.Partition.{Partition}
 use Rattle.rt_base.specs.declared.numbers.Sequence.{Sequence}
@@ -7,7 +7,7 @@ use Rattle.rt_base.specs.declared.numbers.Instance.{Instance}
 use Rattle.rt_model.specs.declared.ideal_state.IdealEntry.{IdealEntry}
 use Rattle.rt_model.specs.declared.ideal_state.Mode.TheVariants.{Consuming}
 use Rattle.rt_model.specs.Ideal.{is_of, has_entry, is_before, with_entry, with_consuming}
-use Rattle.rt_model.specs.History.{Has}
+use Rattle.rt_lists.specs.Members.{Has}
 use Rattle.rt_model.proofs.Histories.{same_partition}
 
 -- ---- an entry of a segment, by itself
@@ -85,7 +85,7 @@ Has-with_entry x [] e (inl a) = inl a
 Has-with_entry x [] e (inr a) = absurd a
 Has-with_entry x (d ∷ es) e a = with_entry_at x d es e (is_before x d) (Has-with_entry x es e) a
 
-with_entry-Has :
+pub with_entry-Has :
     (x : IdealEntry) (es : List IdealEntry) (e : IdealEntry) → (x ≡ e) ⊎ Has es e → Has (with_entry x es) e
 with_entry-Has x [] e (inl a) = inl a
 with_entry-Has x [] e (inr a) = absurd a
@@ -125,45 +125,6 @@ with_consuming-Has es p s (i ∷ is) e a =
     (with_consuming es p s is)
     e
     (inr (with_consuming-Has es p s is e a))
-
-pub Has-map :
-    (f : IdealEntry → IdealEntry) (es : List IdealEntry) (e : IdealEntry) → Has (map f es) e
-    → (d : IdealEntry) × Has es d × (f d ≡ e)
-Has-map f [] e a = absurd a
-Has-map f (d ∷ es) e (inl a) = (d, inl refl, a)
-Has-map f (d ∷ es) e (inr a) = let r = Has-map f es e a in (r.0, inr r.1, r.2)
-
-pub map-Has :
-    (f : IdealEntry → IdealEntry) (es : List IdealEntry) (d : IdealEntry) → Has es d → Has (map f es) (f d)
-map-Has f [] d a = absurd a
-map-Has f (x ∷ es) d (inl a) = inl (ap f a)
-map-Has f (x ∷ es) d (inr a) = inr (map-Has f es d a)
-
-filter_at :
-    (f : IdealEntry → Bool) (d : IdealEntry) (es : List IdealEntry) (e : IdealEntry) (b : Bool) → f d ≡ b
-    → (Has (filter f es) e → Has es e × (f e ≡ true))
-    → Has (cond b (d ∷ filter f es) (filter f es)) e → Has (d ∷ es) e × (f e ≡ true)
-filter_at f d es e false t further a = let r = further a in (inr r.0, r.1)
-filter_at f d es e true t further (inl a) = (inl a, ap f (sym a) ∙ t)
-filter_at f d es e true t further (inr a) = let r = further a in (inr r.0, r.1)
-
-at_filter :
-    (f : IdealEntry → Bool) (d : IdealEntry) (es : List IdealEntry) (e : IdealEntry) (b : Bool) → f d ≡ b → f e ≡ true
-    → (Has es e → Has (filter f es) e) → Has (d ∷ es) e → Has (cond b (d ∷ filter f es) (filter f es)) e
-at_filter f d es e true t passes further (inl a) = inl a
-at_filter f d es e true t passes further (inr a) = inr (further a)
-at_filter f d es e false t passes further (inl a) = absurd (both_ways (f d) t (ap f a ∙ passes))
-at_filter f d es e false t passes further (inr a) = further a
-
-pub Has-filter :
-    (f : IdealEntry → Bool) (es : List IdealEntry) (e : IdealEntry) → Has (filter f es) e → Has es e × (f e ≡ true)
-Has-filter f [] e a = absurd a
-Has-filter f (d ∷ es) e a = filter_at f d es e (f d) refl (Has-filter f es e) a
-
-pub filter-Has :
-    (f : IdealEntry → Bool) (es : List IdealEntry) (e : IdealEntry) → Has es e → f e ≡ true → Has (filter f es) e
-filter-Has f [] e a t = absurd a
-filter-Has f (d ∷ es) e a t = at_filter f d es e (f d) refl t (λ b. filter-Has f es e b t) a
 
 -- ---- what a step may do to the sequences of a partition
 

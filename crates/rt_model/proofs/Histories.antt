@@ -1,4 +1,4 @@
--- Facts on histories: membership, the writes of a key, the last write, versions.
+-- Facts on histories: keys, the writes of a key, the last write, versions.
 use Rattle.std.proofs.Common.{◌≡◌, ℕ, zero, suc, ◌+◌, Bool, true, false, cond, ◌==◌, ◌⊎◌, inl, inr, List, [], ◌∷◌, ◌++◌, length, Option, Some, None, refl, sym, ◌∙◌, ap, subst, arith, unwrap_or, slice_get}
 use Rattle.std.proofs.lemmas.Bool.{eqb-true, eq-eqb, and_parts, and_from, cond_both, cond-true, cond-false, false_from_ne_true, both_ways}
 use Rattle.std.proofs.lemmas.List.{append-nil}
@@ -12,52 +12,9 @@ use Rattle.rt_model.specs.declared.node.Key.TheVariants as key
 use Rattle.rt_model.specs.declared.node.Node.{Node}
 use Rattle.rt_model.specs.declared.node.Node.TheVariants as node
 use Rattle.rt_model.specs.declared.node.Seen.{Seen}
-use Rattle.rt_model.specs.History.{same_key, Has, writes_of, last_of, last_write, next_version, IsVersioned, value_by, value_in, value_of, HasVersion, Stands}
-
--- ---- membership
-
-pub Has-append_left : {X : Type 0} (xs ys : List X) (x : X) → Has xs x → Has (xs ++ ys) x
-Has-append_left [] ys x h = absurd h
-Has-append_left (z ∷ xs) ys x (inl e) = inl e
-Has-append_left (z ∷ xs) ys x (inr h) = inr (Has-append_left xs ys x h)
-
-pub Has-append_right : {X : Type 0} (xs ys : List X) (x : X) → Has ys x → Has (xs ++ ys) x
-Has-append_right [] ys x h = h
-Has-append_right (z ∷ xs) ys x h = inr (Has-append_right xs ys x h)
-
-pub Has-append_cases : {X : Type 0} (xs ys : List X) (x : X) → Has (xs ++ ys) x → Has xs x ⊎ Has ys x
-Has-append_cases [] ys x h = inr h
-Has-append_cases (z ∷ xs) ys x (inl e) = inl (inl e)
-Has-append_cases (z ∷ xs) ys x (inr h) = further z xs ys x (Has-append_cases xs ys x h)
-  where
-    further : {X : Type 0} (z : X) (xs ys : List X) (x : X) → Has xs x ⊎ Has ys x → Has (z ∷ xs) x ⊎ Has ys x
-    further z xs ys x (inl h) = inl (inr h)
-    further z xs ys x (inr h) = inr h
-
-pub Has-push : {X : Type 0} (xs : List X) (x : X) → Has (xs ++ x ∷ []) x
-Has-push xs x = Has-append_right xs (x ∷ []) x (inl refl)
-
-one : {X : Type 0} (P : Type 0) (x y : X) → P ⊎ Has (y ∷ []) x → P ⊎ (y ≡ x)
-one P x y (inl p) = inl p
-one P x y (inr (inl e)) = inr e
-one P x y (inr (inr h)) = absurd h
-
-pub Has-push_cases : {X : Type 0} (xs : List X) (y x : X) → Has (xs ++ y ∷ []) x → Has xs x ⊎ (y ≡ x)
-Has-push_cases xs y x h = one (Has xs x) x y (Has-append_cases xs (y ∷ []) x h)
-
--- an item stands at some place
-pub Has-place : {X : Type 0} (xs : List X) (x : X) → Has xs x → (i : ℕ) × (slice_get xs i ≡ Some x)
-Has-place [] x h = absurd h
-Has-place (y ∷ xs) x (inl e) = (0, ap Some e)
-Has-place (y ∷ xs) x (inr h) = let r = Has-place xs x h in (suc r.0, r.1)
-
-pub place-Has : {X : Type 0} (xs : List X) (i : ℕ) (x : X) → slice_get xs i ≡ Some x → Has xs x
-place-Has [] i x e = absurd (none-some x e)
-place-Has (y ∷ xs) zero x e = inl (same_Some y x e)
-place-Has (y ∷ xs) (suc i) x e = inr (place-Has xs i x e)
-
-pub Has-same : {X : Type 0} (xs ys : List X) (x : X) → xs ≡ ys → Has xs x → Has ys x
-Has-same {X = X} xs ys x e h = let P : List X → Type 0 = λ zs. Has zs x in subst P e h
+use Rattle.rt_lists.specs.Members.{Has}
+use Rattle.rt_lists.proofs.Members.{Has-place}
+use Rattle.rt_model.specs.History.{same_key, writes_of, last_of, last_write, next_version, IsVersioned, value_by, value_in, value_of, HasVersion, Stands}
 
 -- ---- keys
 

@@ -11,12 +11,14 @@ use Rattle.rt_model.specs.declared.node.Key.TheVariants as key
 use Rattle.rt_model.specs.declared.node.Node.{Node}
 use Rattle.rt_model.specs.declared.node.Node.TheVariants as node
 use Rattle.rt_model.specs.declared.node.Seen.{Seen}
-use Rattle.rt_model.specs.History.{Has, writes_of, last_of, last_write, next_version, IsVersioned}
+use Rattle.rt_lists.specs.Members.{Has}
+use Rattle.rt_model.specs.History.{writes_of, last_of, last_write, next_version, IsVersioned}
 use Rattle.rt_model.specs.Metadata.{node_key, IsDeleted, IsOpen, IsDone, IsCreated}
 use Rattle.rt_model.specs.Entries.{entries_by, entries_in, entries_of, IsIdealWrite, HasEntry, IsGrounded, AreGrounded}
 use Rattle.rt_model.specs.Lawful.{Write, create, set, delete, create_after, bump, IsLawful, IsLawfulCreate, IsAfter, Sets, StepsIdeal, IsIdealStep, IsOpenFromZero, Retires, IdealHasLeft, TakesEffect, written_by, write_of, IsLawfulStep, AreLawfulAfter, IsLawfulHistory}
 use Rattle.rt_model.specs.Starting.{Starting, starting_ideal, starting_entries, starting_contents}
-use Rattle.rt_model.proofs.Histories.{Has-append_left, Has-push_cases, Has-writes_of, writes_of-Has, last_of-place, place-Has, last_write-more, last_write-other, IsVersioned-more, Stands-last}
+use Rattle.rt_lists.proofs.Members.{Has-append_left, Has-push_cases, place-Has}
+use Rattle.rt_model.proofs.Histories.{Has-writes_of, writes_of-Has, last_of-place, last_write-more, last_write-other, IsVersioned-more, Stands-last}
 use Rattle.rt_model.proofs.Lives.{Ends-final, Follows-open, gone_not_final, gone_not_open}
 use Rattle.rt_model.proofs.Partitions.{InOrder, InOrder-call, HasNode-more}
 use Rattle.rt_model.proofs.Starts.{IsCreated-start, start_there, starting_entry, IsVersioned-start, InOrder-start, HasFirst-start, ideal_start}
@@ -85,13 +87,13 @@ left_passed es p t v whole none lt has = record { some = (v, has); all = λ u at
     above u at_u (inl lt) = lt
     above u at_u (inr le) = absurd (none (whole u t v le (omega arith) at_u has))
 
-entries_of-last : (h : List Seen) (w : Seen) → last_write h key.Ideal ≡ Some w → entries_of h ≡ entries_by w.node
+pub entries_of-last : (h : List Seen) (w : Seen) → last_write h key.Ideal ≡ Some w → entries_of h ≡ entries_by w.node
 entries_of-last h w e = ap entries_in e
 
-same_entries : (es fs : List IdealEntry) → fs ≡ es → (P : List IdealEntry → Type 0) → P es → P fs
+pub same_entries : (es fs : List IdealEntry) → fs ≡ es → (P : List IdealEntry → Type 0) → P es → P fs
 same_entries es fs e P x = subst P (sym e) x
 
-same_by : (v w : Seen) → v ≡ w → (P : Seen → Type 0) → P v → P w
+pub same_by : (v w : Seen) → v ≡ w → (P : Seen → Type 0) → P v → P w
 same_by v w e P x = subst P e x
 
 -- the last write of a key is one of the history
@@ -101,7 +103,7 @@ last_of-Has ws w e = let r = last_of-place ws w e in place-Has ws r.0 w r.2
 pub last_write-Has : (h : List Seen) (k : Key) (w : Seen) → last_write h k ≡ Some w → Has h w × (w.key ≡ k)
 last_write-Has h k w e = writes_of-Has h w k (last_of-Has (writes_of h k) w e)
 
-present_is : (h : List Seen) (w : Seen) → last_write h key.Ideal ≡ Some w → IsIdealWrite h w
+pub present_is : (h : List Seen) (w : Seen) → last_write h key.Ideal ≡ Some w → IsIdealWrite h w
 present_is h w e = let r = last_write-Has h key.Ideal w e in record { has = r.0; is_ideal = r.1 }
 
 -- ---- a write of another key
@@ -243,18 +245,18 @@ by_ideal (key.Meta p s) P same other = other (λ e. cc)
 by_ideal (key.Boot i) P same other = other (λ e. cc)
 
 -- both nodes of a step of the ideal state are ideal states
-ideal_nodes :
+pub ideal_nodes :
     (seen : List Seen) (a b : Node) → StepsIdeal seen a b
     → (j : IdealState) × (i : IdealState) × (a ≡ node.Ideal j) × (b ≡ node.Ideal i) × IsIdealStep seen j.entries i.entries
 ideal_nodes seen (node.Ideal j) (node.Ideal i) s = (j, i, refl, refl, s)
 ideal_nodes seen _ _ s = absurd s
 
-not_after_ideal : (j : Key) → IsAfter j key.Ideal → ⊥
+pub not_after_ideal : (j : Key) → IsAfter j key.Ideal → ⊥
 not_after_ideal (key.Meta p s) a = a
 not_after_ideal key.Ideal a = a
 not_after_ideal (key.Boot i) a = a
 
-key_family : (P : Key → Type 0) (j k : Key) → j ≡ k → P j → P k
+pub key_family : (P : Key → Type 0) (j k : Key) → j ≡ k → P j → P k
 key_family P j k e x = subst P e x
 
 node_family : (P : Node → Type 0) (a b : Node) → a ≡ b → P a → P b
@@ -380,7 +382,7 @@ start_entries : (s : Starting) → entries_of (starting_contents s) ≡ starting
 start_entries s = ap entries_in (start_last s)
 
 -- the one ideal state of the starting contents
-start_ideal_is : (s : Starting) (w : Seen) → IsIdealWrite (starting_contents s) w → starting_ideal s ≡ w
+pub start_ideal_is : (s : Starting) (w : Seen) → IsIdealWrite (starting_contents s) w → starting_ideal s ≡ w
 start_ideal_is s w is = only (subst P (ideal_start s) (Has-writes_of (starting_contents s) w key.Ideal is.has is.is_ideal))
   where
     P : List Seen → Type 0

@@ -7,7 +7,8 @@ use Rattle.std.proofs.lemmas.Option.{same_Some}
 use Rattle.rt_base.specs.declared.numbers.Partition.{Partition}
 use Rattle.rt_model.specs.declared.node.Node.TheVariants as node
 use Rattle.rt_model.specs.declared.node.Seen.{Seen}
-use Rattle.rt_model.specs.History.{Has, last_of, last_write, value_by, value_in, IsVersioned}
+use Rattle.rt_lists.specs.Members.{Has}
+use Rattle.rt_model.specs.History.{last_of, last_write, value_by, value_in, IsVersioned}
 use Rattle.rt_model.specs.Metadata.{node_key, life_of, Ends, IsDeleted}
 use Rattle.rt_model.specs.Chain.{IsLife, deletions_of}
 use Rattle.rt_model.specs.Tiled.{done_ranges_of}
@@ -129,7 +130,7 @@ pub has_endings : (s : Starting) (h : List Seen) → IsLawfulHistory s h → Has
 has_endings s h l p q lt = InOrder-endings h p q ((lawful_kept s h l).order p lt)
 
 -- a life that is over was ended by a deletion
-over_deleted : (ws : List Seen) → IsLife ws → length ws ≡ 3 → (g : Seen) × Has ws g × (g.node ≡ node.Gone)
+pub over_deleted : (ws : List Seen) → IsLife ws → length ws ≡ 3 → (g : Seen) × Has ws g × (g.node ≡ node.Gone)
 over_deleted [] l e = absurd (omega arith)
 over_deleted (c ∷ []) l e = absurd (omega arith)
 over_deleted (c ∷ d ∷ []) l e = absurd (omega arith)

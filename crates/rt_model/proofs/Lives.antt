@@ -10,7 +10,7 @@ use Rattle.rt_model.specs.declared.node.Seen.{Seen}
 use Rattle.rt_model.specs.declared.status.Status.{Status}
 use Rattle.rt_model.specs.declared.status.Status.TheVariants.{InProgress, Done, Abandoned}
 use Rattle.rt_model.specs.History.{last_of, value_by, value_in}
-use Rattle.rt_model.specs.Metadata.{IsInProgress, IsOpen, IsFinalStatus, IsFinal, IsEndFrom, Ends, StartsAfter, Follows}
+use Rattle.rt_model.specs.Metadata.{IsInProgress, IsOpen, IsDoneStatus, IsDone, IsFinalStatus, IsFinal, IsEndFrom, Ends, StartsAfter, Follows}
 pub use Rattle.rt_model.specs.Chain.{IsLinked, IsOrdered}
 use Rattle.rt_model.specs.Chain.{IsLife, start_in}
 
@@ -33,6 +33,15 @@ IsFinalStatus-open Abandoned e o = o
 pub IsFinal-open : (n : Node) → IsFinal n → IsOpen n → ⊥
 IsFinal-open (node.Meta a) e o = IsFinalStatus-open a.status e o
 IsFinal-open _ e o = absurd e
+
+IsDoneStatus-open : (s : Status) → IsInProgress s → IsDoneStatus s → ⊥
+IsDoneStatus-open InProgress o d = d
+IsDoneStatus-open (Done c) o d = o
+IsDoneStatus-open Abandoned o d = o
+
+pub open_undone : (n : Node) → IsOpen n → IsDone n → ⊥
+open_undone (node.Meta a) o d = IsDoneStatus-open a.status o d
+open_undone _ o d = absurd o
 
 StartsAfter-final : (s : Status) (a b : Offset) → StartsAfter s a b → IsFinalStatus s
 StartsAfter-final InProgress a b e = e

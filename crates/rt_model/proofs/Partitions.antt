@@ -9,12 +9,14 @@ use Rattle.rt_model.specs.declared.node.Key.TheVariants as key
 use Rattle.rt_model.specs.declared.node.Node.{Node}
 use Rattle.rt_model.specs.declared.node.Node.TheVariants as node
 use Rattle.rt_model.specs.declared.node.Seen.{Seen}
-use Rattle.rt_model.specs.History.{Has, writes_of, last_of, last_write, IsVersioned, value_of, Stands}
+use Rattle.rt_lists.specs.Members.{Has}
+use Rattle.rt_model.specs.History.{writes_of, last_of, last_write, IsVersioned, value_of, Stands}
 use Rattle.rt_model.specs.Metadata.{node_key, life_of, past_key, sequences_of, IsOpen, IsFinal, Ends, Follows, IsDeleted, IsCreated, HasNode}
 pub use Rattle.rt_model.specs.Chain.{InOrder}
 use Rattle.rt_model.specs.Chain.{IsLife, is_gone, is_node_of, deletions_of}
 use Rattle.rt_model.specs.Lawful.{Write, create, set, delete, create_after, bump, IsLawful, IsLawfulCreate, IsAfter, Sets, Retires, TakesEffect, written_by, write_of}
-use Rattle.rt_model.proofs.Histories.{Has-append_left, Has-writes_of, writes_of-more, writes_of-other, Stands-last, same_partition}
+use Rattle.rt_lists.proofs.Members.{Has-length, Has-append_left}
+use Rattle.rt_model.proofs.Histories.{Has-writes_of, writes_of-more, writes_of-other, Stands-last, same_partition}
 use Rattle.rt_model.proofs.Lives.{IsOrdered, Adds, IsOrdered-creates, IsOrdered-ends, IsOrdered-deletes, Ends-from_open, Ends-final, Follows-final, Follows-open, gone_not_open, gone_not_final, life_open, life_final, life_absent, length_same}
 
 pub IsOrdered-same :
@@ -209,10 +211,6 @@ gone_in_life (c ∷ d ∷ []) w l (inr (inl a)) g =
 gone_in_life (c ∷ d ∷ []) w l (inr (inr a)) g = absurd a
 gone_in_life (c ∷ d ∷ e ∷ []) w l a g = refl
 gone_in_life (c ∷ d ∷ e ∷ v ∷ ws) w l a g = absurd l
-
-pub Has-length : {X : Type 0} (ws : List X) (w : X) → Has ws w → 0 < length ws
-Has-length [] w a = absurd a
-Has-length (v ∷ ws) w a = omega arith
 
 -- a segment that was deleted has lived to the end
 pub deleted_over :

@@ -1,23 +1,27 @@
 -- The starting contents: their versions, and the first segments.
 use Rattle.std.proofs.Common.{◌≡◌, ℕ, zero, suc, ◌+◌, ◌<◌, ◌≤◌, max, ◌⊎◌, inl, inr, List, [], ◌∷◌, ◌++◌, length, refl, sym, ◌∙◌, ap, subst, arith}
-use Rattle.std.proofs.lemmas.Bool.{cases_eq}
+use Rattle.std.proofs.lemmas.Bool.{cases_eq, cases_lt}
 use Rattle.std.proofs.lemmas.List.{append-nil, append_assoc}
 use Rattle.std.proofs.lemmas.Option.{none-some}
 use Rattle.rt_base.specs.declared.numbers.Partition.{Partition}
 use Rattle.rt_model.specs.declared.node.Key.{Key}
 use Rattle.rt_model.specs.declared.node.Key.TheVariants as key
 use Rattle.rt_base.specs.declared.numbers.Sequence.{Sequence}
+use Rattle.rt_base.specs.declared.numbers.Instance.{Instance}
 use Rattle.rt_model.specs.declared.ideal_state.IdealEntry.{IdealEntry}
+use Rattle.rt_model.specs.declared.ideal_state.IdealState.{IdealState}
 use Rattle.rt_model.specs.declared.ideal_state.Mode.TheVariants.{Consuming}
 use Rattle.rt_model.specs.declared.node.Node.{Node}
 use Rattle.rt_model.specs.declared.node.Node.TheVariants as node
 use Rattle.rt_model.specs.declared.node.Seen.{Seen}
-use Rattle.rt_model.specs.History.{Has, writes_of, IsVersioned}
-use Rattle.rt_model.specs.Metadata.{node_key, life_of, past_key, sequences_of, IsOpen, IsCreated}
+use Rattle.rt_lists.specs.Members.{Has}
+use Rattle.rt_model.specs.History.{writes_of, next_version, IsVersioned}
+use Rattle.rt_model.specs.Metadata.{node_key, life_of, past_key, sequences_of, IsOpen, IsDone, IsCreated}
 use Rattle.rt_model.specs.Chain.{IsLife, start_in, deletions_of}
 use Rattle.rt_model.specs.Starting.{Starting, starting_boot, starting_meta, starting_ideal, starting_boots, starting_metas, starting_entries, starting_contents}
-use Rattle.rt_model.proofs.Histories.{Has-push_cases, Has-append_cases, writes_of-more, writes_of-other, writes_of-append, writes_of-Has, IsVersioned-more}
-use Rattle.rt_model.proofs.Lives.{either, IsLife-same, IsLinked-same, linked_to_none, length_same}
+use Rattle.rt_lists.proofs.Members.{Has-append_left, Has-append_cases, Has-push, Has-push_cases, Has-length}
+use Rattle.rt_model.proofs.Histories.{writes_of-more, writes_of-other, writes_of-append, writes_of-Has, Has-writes_of, IsVersioned-more}
+use Rattle.rt_model.proofs.Lives.{gone_not_open, open_undone, either, IsLife-same, IsLinked-same, linked_to_none, length_same}
 use Rattle.rt_model.proofs.Entries.{Has-with_consuming}
 use Rattle.rt_model.proofs.Partitions.{InOrder, HasFirst, IsOrdered-same, sequence_by, partition_by, sequences_of-more, deletions_of-kept, past_other, past_same}
 
@@ -160,41 +164,78 @@ IsCreated-start s p lt =
 pub HasFirst-start : (s : Starting) (p : Partition) → p.0 < s.partitions → HasFirst (starting_contents s) p
 HasFirst-start s p lt = let r = IsCreated-start s p lt in (r.0, r.1, r.2)
 
--- nothing is deleted yet
-boots_there : (n : ℕ) (w : Seen) → Has (starting_boots n) w → w.node ≡ node.Gone → ⊥
-boots_there zero w has gone = has
-boots_there (suc n) w has gone =
-    at_case (Has-push_cases (starting_boots n) (starting_boot n) w has) (λ h. boots_there n w h gone)
+-- ---- what no node of the starting contents is
+
+boots_apart :
+    (Q : Node → Type 0) → (Q node.Boot → ⊥) → (n : ℕ) (w : Seen) → Has (starting_boots n) w → Q w.node → ⊥
+boots_apart Q never zero w has is = has
+boots_apart Q never (suc n) w has is =
+    at_case (Has-push_cases (starting_boots n) (starting_boot n) w has) (λ h. boots_apart Q never n w h is)
   where
     at_case : Has (starting_boots n) w ⊎ (starting_boot n ≡ w) → (Has (starting_boots n) w → ⊥) → ⊥
     at_case (inl h) further = further h
-    at_case (inr e) further =
-        let clash : node.Boot ≡ node.Gone = ap (λ (x : Seen). x.node) e ∙ gone in absurd (cc)
+    at_case (inr e) further = never (subst Q (sym (ap (λ (x : Seen). x.node) e)) is)
 
-metas_there : (s : Starting) (n : ℕ) (w : Seen) → Has (starting_metas s n) w → w.node ≡ node.Gone → ⊥
-metas_there s zero w has gone = has
-metas_there s (suc n) w has gone =
-    at_case (Has-push_cases (starting_metas s n) (starting_meta s n) w has) (λ h. metas_there s n w h gone)
+metas_apart :
+    (Q : Node → Type 0) (s : Starting) → ((n : Node) → IsOpen n → Q n → ⊥)
+    → (n : ℕ) (w : Seen) → Has (starting_metas s n) w → Q w.node → ⊥
+metas_apart Q s never zero w has is = has
+metas_apart Q s never (suc n) w has is =
+    at_case (Has-push_cases (starting_metas s n) (starting_meta s n) w has) (λ h. metas_apart Q s never n w h is)
   where
     at_case : Has (starting_metas s n) w ⊎ (starting_meta s n ≡ w) → (Has (starting_metas s n) w → ⊥) → ⊥
     at_case (inl h) further = further h
-    at_case (inr e) further =
-        let P : Node → Type 0 = IsOpen in
-        subst P (ap (λ (x : Seen). x.node) e ∙ gone) tt
+    at_case (inr e) further = never w.node (subst IsOpen (ap (λ (x : Seen). x.node) e) tt) is
 
-pub start_there : (s : Starting) (w : Seen) → Has (starting_contents s) w → w.node ≡ node.Gone → ⊥
-start_there s w has gone = at_case (Has-push_cases (before_ideal s) (starting_ideal s) w has)
+start_apart :
+    (Q : Node → Type 0) (s : Starting) → (Q node.Boot → ⊥) → ((n : Node) → IsOpen n → Q n → ⊥)
+    → ((i : IdealState) → Q (node.Ideal i) → ⊥)
+    → (w : Seen) → Has (starting_contents s) w → Q w.node → ⊥
+start_apart Q s no_boot no_open no_ideal w has is =
+    at_case (Has-push_cases (before_ideal s) (starting_ideal s) w has)
   where
     at_two : Has (starting_boots s.servers) w ⊎ Has (starting_metas s s.partitions) w → ⊥
-    at_two (inl h) = boots_there s.servers w h gone
-    at_two (inr h) = metas_there s s.partitions w h gone
+    at_two (inl h) = boots_apart Q no_boot s.servers w h is
+    at_two (inr h) = metas_apart Q s no_open s.partitions w h is
 
     at_case : Has (before_ideal s) w ⊎ (starting_ideal s ≡ w) → ⊥
     at_case (inl h) = at_two (Has-append_cases (starting_boots s.servers) (starting_metas s s.partitions) w h)
     at_case (inr e) =
-        let clash : node.Ideal (record { entries = starting_entries s s.partitions }) ≡ node.Gone =
-        ap (λ (x : Seen). x.node) e ∙ gone in
-        absurd (cc)
+        no_ideal (record { entries = starting_entries s s.partitions })
+        (subst Q (sym (ap (λ (x : Seen). x.node) e)) is)
+
+-- nothing is deleted yet
+pub start_there : (s : Starting) (w : Seen) → Has (starting_contents s) w → w.node ≡ node.Gone → ⊥
+start_there s w =
+    start_apart (λ n. n ≡ node.Gone) s (λ e. cc) (λ n o e. gone_not_open n e o) (λ i e. cc) w
+
+-- and nothing is committed
+pub start_undone : (s : Starting) (w : Seen) → Has (starting_contents s) w → IsDone w.node → ⊥
+start_undone s w = start_apart IsDone s (λ d. d) open_undone (λ i d. d) w
+
+boots_here : (n i : ℕ) → i < n → Has (starting_boots n) (starting_boot i)
+boots_here zero i lt = absurd (omega arith)
+boots_here (suc n) i lt = at_case (boots_here n i) (cases_eq i n) (cases_lt i n)
+  where
+    at_case :
+        (i < n → Has (starting_boots n) (starting_boot i)) → (i ≡ n) ⊎ (i ≡ n → ⊥) → (i < n) ⊎ (n ≤ i)
+        → Has (starting_boots n ++ starting_boot n ∷ []) (starting_boot i)
+    at_case further (inl e) place =
+        let P : ℕ → Type 0 = λ x. Has (starting_boots n ++ starting_boot n ∷ []) (starting_boot x) in
+        subst P (sym e) (Has-push (starting_boots n) (starting_boot n))
+    at_case further (inr ne) (inl below) =
+        Has-append_left (starting_boots n) (starting_boot n ∷ []) (starting_boot i) (further below)
+    at_case further (inr ne) (inr le) = absurd (ne (omega arith))
+
+-- each server has its boot node
+pub boot_starts : (s : Starting) (i : Instance) → i.0 < s.servers → 0 < next_version (starting_contents s) (key.Boot i)
+boot_starts s i lt =
+    let boot = starting_boot i.0 in
+    let has : Has (starting_contents s) boot =
+    Has-append_left (before_ideal s) (starting_ideal s ∷ []) boot
+    (Has-append_left (starting_boots s.servers) (starting_metas s s.partitions) boot (boots_here s.servers i.0 lt)) in
+    Has-length (writes_of (starting_contents s) (key.Boot i)) boot
+    (Has-writes_of (starting_contents s) boot (key.Boot i) has refl)
 
 -- the starting entries are those of first segments
 pub starting_entry :

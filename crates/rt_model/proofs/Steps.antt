@@ -10,13 +10,14 @@ use Rattle.rt_model.specs.declared.ideal_state.Mode.TheVariants.{Consuming, Onli
 use Rattle.rt_model.specs.declared.node.Node.TheVariants as node
 use Rattle.rt_model.specs.declared.node.Seen.{Seen}
 use Rattle.rt_model.specs.Ideal.{is_of, is_of_instance, has_entry, has_partition, with_consuming, turned_online, commit_step_of, goes_on, add_consuming_of, offline_mode, turned_offline, set_offline_of, remove_segment_of, next_sequence}
-use Rattle.rt_model.specs.History.{Has}
+use Rattle.rt_lists.specs.Members.{Has}
 use Rattle.rt_model.specs.Metadata.{IsCreated, BecameDone, IsDeleted, IsOpen, IsDone}
 use Rattle.rt_model.specs.Entries.{HasEntry, IsGrounded, AreGrounded}
 use Rattle.rt_model.specs.Lawful.{IsIdealStep, commits, adds, turns_offline, removes}
 use Rattle.rt_model.proofs.Partitions.{HasNode-more}
 use Rattle.rt_model.proofs.Histories.{same_partition}
-use Rattle.rt_model.proofs.Entries.{Names, entry_names, names_entry, is_of-true, is_of-same, Has-with_consuming, with_consuming-Has, Has-map, map-Has, Has-filter, filter-Has, Moves, stays, extends, opens, leaves}
+use Rattle.rt_lists.proofs.Members.{Has-map, map-Has, Has-filter, filter-Has}
+use Rattle.rt_model.proofs.Entries.{Names, entry_names, names_entry, is_of-true, is_of-same, Has-with_consuming, with_consuming-Has, Moves, stays, extends, opens, leaves}
 
 abbrev at : ℕ → Sequence
 at t = record { 0 = t }
@@ -101,7 +102,7 @@ same_moves es fs q e =
     (λ t h. let P : List IdealEntry → Type 0 = λ x. HasEntry x q t in subst P e h)
 
 -- a partition is this one, or another
-by_same : (q p : Partition) (P : Type 0) → (q ≡ p → P) → ((q ≡ p → ⊥) → P) → P
+pub by_same : (q p : Partition) (P : Type 0) → (q ≡ p → P) → ((q ≡ p → ⊥) → P) → P
 by_same q p P same other = at_case (cases_eq q.0 p.0)
   where
     at_case : (q.0 ≡ p.0) ⊎ (q.0 ≡ p.0 → ⊥) → P
@@ -140,7 +141,7 @@ consuming_extends es fs p r s is q next has to from =
     back t (inl h) = inl (from t h)
     back t (inr b) = inr (b.1 ∙ next)
 
-commit_moves :
+pub commit_moves :
     (es : List IdealEntry) (p : Partition) (s : Sequence) (next : List Instance) (q : Partition)
     → Moves (HasEntry es q) (HasEntry (commit_step_of es p s next) q)
 commit_moves es p s next q = by_tests (has_entry es p s) (has_entry es p (next_sequence s)) refl
@@ -165,7 +166,7 @@ commit_moves es p s next q = by_tests (has_entry es p s) (has_entry es p (next_s
         (map_to (turned_online p s) es q (turned_online_place p s))
         (map_from (turned_online p s) es q (turned_online_place p s))
 
-offline_moves :
+pub offline_moves :
     (es : List IdealEntry) (p : Partition) (s : Sequence) (i : Instance) (q : Partition)
     → Moves (HasEntry es q) (HasEntry (set_offline_of es p s i) q)
 offline_moves es p s i q =
@@ -184,7 +185,7 @@ has_partition-names (d ∷ es) p t (e, inl same, same_p, same_t) =
 has_partition-names (d ∷ es) p t (e, inr has, same_p, same_t) =
     or_right (d.partition.0 == p.0) (has_partition es p) (has_partition-names es p t (e, has, same_p, same_t))
 
-add_moves :
+pub add_moves :
     (es : List IdealEntry) (p : Partition) (s : Sequence) (is : List Instance) (q : Partition)
     → Moves (HasEntry es q) (HasEntry (add_consuming_of es p s is) q)
 add_moves es p s is q = by_tests (has_entry es p s) (goes_on es p s.0) refl
@@ -381,7 +382,7 @@ pub StepsOn-ideal :
     (seen unseen : List Seen) (old new : List IdealEntry)
     → ((p : Partition) (t u : ℕ) → IsDeleted (seen ++ unseen) p t → HasEntry old p u → t < u)
     → IsIdealStep seen old new → StepsOn (seen ++ unseen) old new
-StepsOn-ideal seen unseen old new passed (commits p s next done created e) =
+StepsOn-ideal seen unseen old new passed (commits p s next distinct done created e) =
     StepsOn-same (seen ++ unseen) old (commit_step_of old p s next) new e
     (record {
       moves = commit_moves old p s next;
@@ -389,7 +390,7 @@ StepsOn-ideal seen unseen old new passed (commits p s next done created e) =
           (HasNode-more seen unseen p s.0 IsDone done)
           (HasNode-more seen unseen p (s.0 + 1) IsOpen created);
     })
-StepsOn-ideal seen unseen old new passed (adds p s is created e) =
+StepsOn-ideal seen unseen old new passed (adds p s is distinct created e) =
     StepsOn-same (seen ++ unseen) old (add_consuming_of old p s is) new e
     (record {
       moves = add_moves old p s is;

@@ -7,7 +7,8 @@ use Rattle.rt_model.specs.declared.node.Key.TheVariants as key
 use Rattle.rt_model.specs.declared.node.Node.{Node}
 use Rattle.rt_model.specs.declared.node.Node.TheVariants as node
 use Rattle.rt_model.specs.declared.node.Seen.{Seen}
-use Rattle.rt_model.specs.History.{Has, value_of}
+use Rattle.rt_lists.specs.Members.{Has}
+use Rattle.rt_model.specs.History.{value_of}
 use Rattle.rt_model.specs.Metadata.{node_key, life_of, sequences_of, IsOpen, IsDone, Ends, Follows, IsEndFrom}
 
 -- the life of a node, from all its writes: it is created in progress, it ends once, with its name and its

@@ -17,6 +17,7 @@ use Rattle.rt_model.specs.declared.completion.Said.{Said}
 use Rattle.rt_model.specs.declared.completion.Said.TheVariants.{Hold, CatchUp, Commit, CommitContinue, Processed, Failed}
 use Rattle.rt_model.specs.declared.completion.Reaction.{Reaction}
 use Rattle.rt_model.specs.declared.completion.Reaction.TheVariants.{Answer, StartCommit, StartOffline}
+use Rattle.rt_model.specs.Moments.{later, earlier_of}
 
 -- what the completion machine of a segment keeps
 pub record Completion : Type 0 where
@@ -58,13 +59,6 @@ goes m s = record m { state = s }
 -- the machine ends with this answer
 abbrev pub aborts : Completion → Said → Reaction × Completion
 aborts m said = (Answer said, goes m Aborted)
-
--- a moment so many milliseconds later, or the last one that there is
-abbrev pub later : Moment → ℕ → Moment
-later now millis = record { 0 = min (now.0 + millis) 18446744073709551615 }
-
-abbrev pub earlier_of : Moment → Moment → Moment
-earlier_of a b = record { 0 = min a.0 b.0 }
 
 -- how long, in milliseconds, a machine waits for all replicas before it picks among those that reported
 abbrev pub patience : ℕ

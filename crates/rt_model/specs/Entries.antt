@@ -8,7 +8,8 @@ use Rattle.rt_model.specs.declared.node.Node.{Node}
 use Rattle.rt_model.specs.declared.node.Node.TheVariants as node
 use Rattle.rt_model.specs.declared.node.Seen.{Seen}
 use Rattle.rt_model.specs.Ideal.{has_entry}
-use Rattle.rt_model.specs.History.{Has, last_write}
+use Rattle.rt_lists.specs.Members.{Has}
+use Rattle.rt_model.specs.History.{last_write}
 use Rattle.rt_model.specs.Metadata.{IsCreated, BecameDone}
 
 abbrev pub entries_by : Node → List IdealEntry

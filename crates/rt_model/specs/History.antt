@@ -1,6 +1,6 @@
 -- A history of the store is the list of all its writes, the earliest first. A deletion is a write
 -- whose node is `Gone`.
-use Rattle.std.specs.Prelude.{◌≡◌, ℕ, Bool, true, false, List, [], ◌∷◌, ◌==◌, ◌&&◌, ◌⊎◌, length, Option, Some, None, unwrap_or, slice_get}
+use Rattle.std.specs.Prelude.{◌≡◌, ℕ, Bool, true, false, List, [], ◌∷◌, ◌==◌, ◌&&◌, length, Option, Some, None, unwrap_or, slice_get}
 use Rattle.std.specs.List.{filter}
 use Rattle.rt_model.specs.declared.node.Key.{Key}
 use Rattle.rt_model.specs.declared.node.Key.TheVariants as key
@@ -14,11 +14,6 @@ same_key (key.Meta p s) (key.Meta q t) = (p.0 == q.0) && (s.0 == t.0)
 same_key (key.Boot i) (key.Boot j) = i.0 == j.0
 same_key key.Ideal key.Ideal = true
 same_key _ _ = false
-
--- a list has this item
-abbrev pub Has : {X : Type 0} → List X → X → Type 0
-Has [] x = ⊥
-Has (y ∷ ys) x = (y ≡ x) ⊎ Has ys x
 
 -- the writes of a key, the earliest first
 abbrev pub writes_of : List Seen → Key → List Seen

@@ -49,14 +49,15 @@ abbrev pub with_entry : IdealEntry → List IdealEntry → List IdealEntry
 with_entry x [] = x ∷ []
 with_entry x (e ∷ es) = if is_before x e then x ∷ e ∷ es else e ∷ with_entry x es
 
+-- an instance's CONSUMING entry of a segment
+abbrev pub consuming : Partition → Sequence → Instance → IdealEntry
+consuming p s i = record { partition = p; sequence = s; instance = i; mode = Consuming }
+
 -- the entries with the segment CONSUMING on each of these instances too
 abbrev pub with_consuming :
     List IdealEntry → Partition → Sequence → List Instance → List IdealEntry
 with_consuming es p s [] = es
-with_consuming es p s (i ∷ is) =
-    with_entry
-    (record { partition = p; sequence = s; instance = i; mode = Consuming })
-    (with_consuming es p s is)
+with_consuming es p s (i ∷ is) = with_entry (consuming p s i) (with_consuming es p s is)
 
 -- an entry after its segment is committed
 abbrev pub turned_online : Partition → Sequence → IdealEntry → IdealEntry

@@ -11,8 +11,10 @@ use Rattle.rt_model.specs.declared.node.Node.{Node}
 use Rattle.rt_model.specs.declared.node.Node.TheVariants as node
 use Rattle.rt_model.specs.declared.node.Seen.{Seen}
 use Rattle.rt_model.specs.Ideal.{has_entry, commit_step_of, add_consuming_of, set_offline_of, remove_segment_of}
-use Rattle.rt_model.specs.History.{Has, writes_of, next_version, value_of, Stands}
+use Rattle.rt_lists.specs.Members.{Has}
+use Rattle.rt_model.specs.History.{writes_of, next_version, value_of, Stands}
 use Rattle.rt_model.specs.Metadata.{IsOpen, IsFinal, Ends, Follows, IsCreated, BecameDone, BecameFinal, IsDeleted}
+use Rattle.rt_model.specs.Order.{AreDistinct}
 use Rattle.rt_model.specs.Starting.{Starting, starting_contents}
 
 -- a write call, as its caller gives it
@@ -52,16 +54,18 @@ AreDeletedBelow seen p s = (t : ℕ) → t < s → IsDeleted seen p t
 
 -- a step of the ideal state's entries
 pub data IsIdealStep (seen : List Seen) (old new : List IdealEntry) : Type 0 where
-  -- the segment was seen Done, and the next one created
+  -- the segment was seen Done, and the next one created, which goes to distinct instances
   commits :
       (p : Partition) (s : Sequence) (next : List Instance)
+      → AreDistinct next
       → BecameDone seen p s.0
       → IsCreated seen p (s.0 + 1)
       → new ≡ commit_step_of old p s next
       → IsIdealStep seen old new
-  -- the segment was seen created
+  -- the segment was seen created, and goes to distinct instances
   adds :
       (p : Partition) (s : Sequence) (instances : List Instance)
+      → AreDistinct instances
       → IsCreated seen p s.0
       → new ≡ add_consuming_of old p s instances
       → IsIdealStep seen old new

@@ -1,13 +1,17 @@
 -- The laws of a lawful history: what is true of each, over its list of writes alone.
-use Rattle.std.specs.Prelude.{◌≡◌, ℕ, ◌+◌, ◌<◌, ◌≤◌, ◌⊎◌, List, ◌++◌, Some}
+use Rattle.std.specs.Prelude.{◌≡◌, ℕ, ◌+◌, ◌-◌, ◌<◌, ◌≤◌, ◌⊎◌, List, ◌∷◌, ◌++◌, map, length, Some}
 use Rattle.std.specs.List.{range_with_len}
 use Rattle.rt_base.specs.declared.numbers.Partition.{Partition}
 use Rattle.rt_model.specs.declared.ideal_state.IdealState.{IdealState}
 use Rattle.rt_model.specs.declared.node.Key.TheVariants as key
+use Rattle.rt_model.specs.declared.node.Listed.{Listed}
 use Rattle.rt_model.specs.declared.node.Node.TheVariants as node
 use Rattle.rt_model.specs.declared.node.Seen.{Seen}
-use Rattle.rt_model.specs.History.{Has, last_write, value_of}
-use Rattle.rt_model.specs.Metadata.{node_key, life_of, sequences_of, IsFinal, Ends, IsCreated, IsDeleted}
+use Rattle.rt_lists.specs.Members.{Has}
+use Rattle.rt_model.specs.History.{last_write, value_of}
+use Rattle.rt_model.specs.Metadata.{node_key, life_of, listed_write, metadata_of, sequences_of, IsFinal, IsFinalStatus, Ends, IsCreated, IsDeleted}
+use Rattle.rt_model.specs.Lawful.{IsLawfulHistory}
+use Rattle.rt_model.specs.Order.{IsAscending, NamesOnce}
 use Rattle.rt_model.specs.Starting.{Starting, starting_contents}
 use Rattle.rt_model.specs.Chain.{IsLife, IsCreation, IsChainOf, deletions_of}
 use Rattle.rt_model.specs.Tiled.{done_ranges_of, mark_of, offsets_of, IsTiledTo}
@@ -92,3 +96,41 @@ HasRisingRuns h = (w : Seen) (p : Partition) → IsIdealWrite h w → GoesOn (en
 -- the entries have passed each segment that was deleted
 abbrev pub HasPassedDeletions : List Seen → Type 0
 HasPassedDeletions h = (p : Partition) (q r : ℕ) → IsDeleted h p q → HasEntry (entries_of h) p r → q < r
+
+-- the entries of each ideal state ascend, and name no instance twice in a segment
+abbrev pub HasOrderedEntries : List Seen → Type 0
+HasOrderedEntries h =
+    (w : Seen) → IsIdealWrite h w → IsAscending (entries_by w.node) × NamesOnce (entries_by w.node)
+
+-- each ideal state has an entry of each partition of the setup
+abbrev pub HasEveryPartition : Starting → List Seen → Type 0
+HasEveryPartition s h =
+    (w : Seen) (p : Partition) → IsIdealWrite h w → p.0 < s.partitions
+    → (q : ℕ) × HasEntry (entries_by w.node) p q
+
+-- what is listed of a partition
+pub record IsListing (h : List Seen) (p : Partition) : Type 0 where
+  -- one run of sequences, from the lowest that isn't deleted to the last that was created
+  pub run :
+      map (λ l. l.sequence.0) (metadata_of h p)
+      ≡ range_with_len (deletions_of h p) (sequences_of h p - deletions_of h p)
+  -- the value of each key
+  pub values :
+      (l : Listed) → Has (metadata_of h p) l
+      → value_of h (node_key p l.sequence.0) ≡ Some (listed_write p l)
+  -- all below are deleted
+  pub below : (q : ℕ) → q < deletions_of h p → IsDeleted h p q
+
+abbrev pub HasListings : Starting → List Seen → Type 0
+HasListings s h = (p : Partition) → p.0 < s.partitions → IsListing h p
+
+-- what a retirement has read of a partition: its metadata list at some front of the history, of which the first
+-- segment has ended and isn't the last, and the ideal state at a front no shorter
+pub record HasRead (s : Starting) (h more : List Seen) (p : Partition) (first : Listed) (rest : List Listed) (state : IdealState) : Type 0 where
+  pub begins : Begins s h
+  pub lawful : IsLawfulHistory s (h ++ more)
+  pub within : p.0 < s.partitions
+  pub listed : metadata_of h p ≡ first ∷ rest
+  pub followed : 0 < length rest
+  pub ended : IsFinalStatus first.seen.meta.status
+  pub read : (w : Seen) × (value_of (h ++ more) key.Ideal ≡ Some w) × (w.node ≡ node.Ideal state)

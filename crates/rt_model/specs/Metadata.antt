@@ -10,7 +10,8 @@ use Rattle.rt_model.specs.declared.node.Seen.{Seen}
 use Rattle.rt_model.specs.declared.node.Listed.{Listed}
 use Rattle.rt_model.specs.declared.status.Status.{Status}
 use Rattle.rt_model.specs.declared.status.Status.TheVariants.{InProgress, Done, Abandoned}
-use Rattle.rt_model.specs.History.{Has, writes_of, value_of}
+use Rattle.rt_lists.specs.Members.{Has}
+use Rattle.rt_model.specs.History.{writes_of, value_of}
 
 -- the key of a segment's node
 abbrev pub node_key : Partition → ℕ → Key
@@ -41,6 +42,11 @@ listed_by s version node.Gone = None
 abbrev pub listed_in : ℕ → Option Seen → Option Listed
 listed_in s None = None
 listed_in s (Some w) = listed_by s w.version w.node
+
+-- the write that a listed node of a partition is
+abbrev pub listed_write : Partition → Listed → Seen
+listed_write p l =
+    record { key = node_key p l.sequence.0; version = l.seen.version; node = node.Meta l.seen.meta }
 
 -- the values of the present nodes below a sequence, by sequence
 abbrev pub metadata_below : List Seen → Partition → ℕ → List Listed

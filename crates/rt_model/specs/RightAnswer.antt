@@ -1,5 +1,6 @@
 -- When an answer is right: it names what was served and what wasn't, and aggregates each row of the ranges that it names once.
 use Rattle.std.specs.Prelude.{◌≡◌, ◌≤◌, ℕ, List, [], ◌∷◌, ◌++◌, length, map, All, Option, Some, None, option_to_list, ◌==◌, if◌then◌else◌, slice_index_or}
+use Rattle.std.specs.List.{range_with_len}
 use Rattle.rt_base.specs.declared.numbers.Partition.{Partition}
 use Rattle.rt_base.specs.declared.numbers.Sequence.{Sequence}
 use Rattle.rt_base.specs.declared.range.Range.{Range}
@@ -11,21 +12,21 @@ use Rattle.rt_model.specs.declared.piece.Piece.{Piece}
 use Rattle.rt_model.specs.declared.query.Query.{Query}
 use Rattle.rt_model.specs.Aggregate.{aggregate}
 
--- a piece of a plan, and the range over which it was served, if it was
-pub record Asked : Type 0 where
+-- a piece of a plan that was asked for, and the range over which it was served, if it was
+pub record AskedPiece : Type 0 where
   pub piece : Piece
   pub served : Option Range
 
 -- a partition, and the pieces of its plan, if it could be routed
 pub record Routed : Type 0 where
   pub partition : Partition
-  pub pieces : Option (List Asked)
+  pub pieces : Option (List AskedPiece)
 
-abbrev pub pieces_of : Option (List Asked) → List Asked
+abbrev pub pieces_of : Option (List AskedPiece) → List AskedPiece
 pieces_of None = []
 pieces_of (Some pieces) = pieces
 
-abbrev pub served_ranges : List Asked → List Range
+abbrev pub served_ranges : List AskedPiece → List Range
 served_ranges [] = []
 served_ranges (a ∷ rest) = option_to_list a.served ++ served_ranges rest
 
@@ -52,11 +53,11 @@ abbrev pub missing_if : Partition → Piece → Option Range → List (Partition
 missing_if partition piece None = (partition, Some piece.sequence) ∷ []
 missing_if partition piece (Some range) = []
 
-abbrev pub unserved : Partition → List Asked → List (Partition × Option Sequence)
+abbrev pub unserved : Partition → List AskedPiece → List (Partition × Option Sequence)
 unserved partition [] = []
 unserved partition (a ∷ rest) = missing_if partition a.piece a.served ++ unserved partition rest
 
-abbrev pub missing_in : Partition → Option (List Asked) → List (Partition × Option Sequence)
+abbrev pub missing_in : Partition → Option (List AskedPiece) → List (Partition × Option Sequence)
 missing_in partition None = (partition, None) ∷ []
 missing_in partition (Some pieces) = unserved partition pieces
 
@@ -80,8 +81,10 @@ abbrev pub rows_of : Schema → List (List (List ℕ)) → List (Partition × Ra
 rows_of schema log [] = []
 rows_of schema log (r ∷ rest) = rows_between schema log r.0.0 r.1.start.0 r.1.end.0 ++ rows_of schema log rest
 
--- an answer to a query is right for what came of each partition, over a log
+-- an answer to a query is right for what came of each partition, over a log. The partitions are all those of the log,
+-- each once and in order, so that no offset is named or counted twice
 pub record IsRightAnswer (schema : Schema) (log : List (List (List ℕ))) (query : Query) (routed : List Routed) (answer : Answer) : Type 0 where
+  pub partitions : map (λ r. r.partition.0) routed ≡ range_with_len 0 (length log)
   pub served : All (IsServed log) routed
   pub ranges : answer.ranges ≡ named_ranges routed
   pub missing : answer.missing ≡ missing_of routed

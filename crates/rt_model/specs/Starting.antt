@@ -1,5 +1,5 @@
 -- The starting contents of the store.
-use Rattle.std.specs.Prelude.{ℕ, zero, suc, List, [], ◌∷◌, ◌++◌}
+use Rattle.std.specs.Prelude.{ℕ, zero, suc, ◌<◌, List, [], ◌∷◌, ◌++◌, length}
 use Rattle.rt_base.specs.declared.numbers.Partition.{Partition}
 use Rattle.rt_base.specs.declared.numbers.Instance.{Instance}
 use Rattle.rt_base.specs.declared.numbers.Moment.{Moment}
@@ -9,6 +9,7 @@ use Rattle.rt_model.specs.declared.node.Node.TheVariants as node
 use Rattle.rt_model.specs.declared.node.Seen.{Seen}
 use Rattle.rt_model.specs.declared.status.Status.TheVariants.{InProgress}
 use Rattle.rt_model.specs.Ideal.{with_consuming}
+use Rattle.rt_model.specs.Order.{AreDistinct}
 
 -- what the starting contents are made of: the counts of servers and partitions, the first moment, and
 -- for each partition the name of its first segment and the instances to which it is assigned
@@ -18,6 +19,11 @@ pub record Starting : Type 0 where
   pub moment : Moment
   pub name : Partition → List ℕ
   pub instances : Partition → List Instance
+
+-- each partition is assigned to some instances, all distinct
+pub record IsAssigned (s : Starting) : Type 0 where
+  pub some : (p : Partition) → p.0 < s.partitions → 0 < length (s.instances p)
+  pub distinct : (p : Partition) → p.0 < s.partitions → AreDistinct (s.instances p)
 
 abbrev pub starting_boot : ℕ → Seen
 starting_boot i = record { key = key.Boot (record { 0 = i }); version = 0; node = node.Boot }

@@ -1,4 +1,7 @@
-use crate::{Commit, IdealEntry, IdealState, Listed, Node, Seen, SeenMeta, SegMeta, Status};
+use crate::{
+    Commit, IdealEntry, IdealState, Listed, Node, Reply, ReplyStatus, Request, RequestKind, Seen,
+    SeenMeta, SegMeta, Sent, Status,
+};
 use rt_lists::Copied;
 use std::alloc::{AllocError, Global};
 
@@ -84,5 +87,73 @@ impl Copied for Seen {
             version: self.version,
             node: self.node.copied(alloc)?,
         })
+    }
+}
+
+impl Copied for RequestKind {
+    fn copied(&self, alloc: Global) -> Result<Self, AllocError> {
+        match self {
+            RequestKind::Consumed(reason) => Ok(RequestKind::Consumed(*reason)),
+            RequestKind::Stopped => Ok(RequestKind::Stopped),
+            RequestKind::CommitStart => Ok(RequestKind::CommitStart),
+            RequestKind::Upload { path, bytes } => Ok(RequestKind::Upload {
+                path: path.copy(alloc)?,
+                bytes: bytes.copy(alloc)?,
+            }),
+            RequestKind::CommitEnd { path } => Ok(RequestKind::CommitEnd {
+                path: path.copy(alloc)?,
+            }),
+            RequestKind::Extend { millis } => Ok(RequestKind::Extend { millis: *millis }),
+        }
+    }
+}
+
+impl Copied for Request {
+    fn copied(&self, alloc: Global) -> Result<Self, AllocError> {
+        Ok(Request {
+            number: self.number,
+            partition: self.partition,
+            sequence: self.sequence,
+            offset: self.offset,
+            kind: self.kind.copied(alloc)?,
+        })
+    }
+}
+
+impl Copied for ReplyStatus {
+    fn copied(&self, alloc: Global) -> Result<Self, AllocError> {
+        match self {
+            ReplyStatus::Hold => Ok(ReplyStatus::Hold),
+            ReplyStatus::CatchUp(target) => Ok(ReplyStatus::CatchUp(*target)),
+            ReplyStatus::Keep(seen) => Ok(ReplyStatus::Keep(seen.copied(alloc)?)),
+            ReplyStatus::Discard => Ok(ReplyStatus::Discard),
+            ReplyStatus::Commit(offset) => Ok(ReplyStatus::Commit(*offset)),
+            ReplyStatus::NotLeader => Ok(ReplyStatus::NotLeader),
+            ReplyStatus::CommitContinue => Ok(ReplyStatus::CommitContinue),
+            ReplyStatus::UploadSuccess(path) => Ok(ReplyStatus::UploadSuccess(path.copy(alloc)?)),
+            ReplyStatus::CommitSuccess(seen) => Ok(ReplyStatus::CommitSuccess(seen.copied(alloc)?)),
+            ReplyStatus::Processed => Ok(ReplyStatus::Processed),
+            ReplyStatus::Failed(cause) => Ok(ReplyStatus::Failed(*cause)),
+        }
+    }
+}
+
+impl Copied for Reply {
+    fn copied(&self, alloc: Global) -> Result<Self, AllocError> {
+        Ok(Reply {
+            number: self.number,
+            partition: self.partition,
+            sequence: self.sequence,
+            status: self.status.copied(alloc)?,
+        })
+    }
+}
+
+impl Copied for Sent {
+    fn copied(&self, alloc: Global) -> Result<Self, AllocError> {
+        match self {
+            Sent::Request(request) => Ok(Sent::Request(request.copied(alloc)?)),
+            Sent::Reply(reply) => Ok(Sent::Reply(reply.copied(alloc)?)),
+        }
     }
 }

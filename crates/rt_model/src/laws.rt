@@ -2,17 +2,23 @@
 //! every starting contents and every list of writes. A history is lawful where it has the starting
 //! contents and then writes of which each was lawful over some front of the writes before it, which its
 //! writer had seen, and took effect by the rules of the store on all of them.
-ghost use Rattle.std.specs.Prelude.{◌≡◌, ◌↔◌, ◌<◌, ℕ, List, ◌++◌, ◌∷◌, [], Some};
+ghost use Rattle.std.specs.Prelude.{◌≡◌, ◌<◌, ℕ, ◌⊎◌, List, ◌++◌, ◌∷◌, [], IsTrue, IsFalse};
+ghost use Rattle.rt_base.specs.declared.numbers.Instance.{Instance};
 ghost use Rattle.rt_base.specs.declared.numbers.Partition.{Partition};
-ghost use Rattle.rt_base.specs.declared.range.Range.{Range};
+ghost use Rattle.rt_base.specs.declared.numbers.Sequence.{Sequence};
+ghost use Rattle.rt_lists.specs.Members.{Has};
+ghost use Rattle.rt_model.specs.declared.ideal_state.IdealState.{IdealState};
+ghost use Rattle.rt_model.specs.declared.node.Listed.{Listed};
+ghost use Rattle.rt_model.specs.declared.node.Key.TheVariants as key;
+ghost use Rattle.rt_model.specs.declared.node.Node.TheVariants as node;
 ghost use Rattle.rt_model.specs.declared.node.Seen.{Seen};
-ghost use Rattle.rt_model.specs.History.{IsVersioned};
-ghost use Rattle.rt_model.specs.Metadata.{sequences_of};
-ghost use Rattle.rt_model.specs.Chain.{InOrder, IsChainOf, deletions_of};
-ghost use Rattle.rt_model.specs.Tiled.{IsTiled, Tiles};
-ghost use Rattle.rt_model.specs.Tests.{tiles_to};
-ghost use Rattle.rt_model.specs.Starting.{Starting, starting_contents};
-ghost use Rattle.rt_model.specs.Lawful.{IsLawfulStep, IsLawfulHistory};
+ghost use Rattle.rt_model.specs.History.{IsVersioned, next_version};
+ghost use Rattle.rt_model.specs.Chain.{InOrder};
+ghost use Rattle.rt_model.specs.Entries.{HasEntry};
+ghost use Rattle.rt_model.specs.Ideal.{has_entry, next_sequence, remove_segment_of};
+ghost use Rattle.rt_model.specs.Metadata.{IsDone, listed_write};
+ghost use Rattle.rt_model.specs.Starting.{Starting, IsAssigned, starting_contents};
+ghost use Rattle.rt_model.specs.Lawful.{IsIdealStep, IsLawfulDelete, IsLawfulStep, IsLawfulHistory};
 ghost use Rattle.rt_model.specs.Laws.{
   Begins,
   HasChains,
@@ -26,11 +32,26 @@ ghost use Rattle.rt_model.specs.Laws.{
   HasUnbrokenRuns,
   HasRisingRuns,
   HasPassedDeletions,
+  HasOrderedEntries,
+  HasEveryPartition,
+  HasListings,
+  HasRead,
 };
 
 /// The starting contents alone are a lawful history.
 pub fn the_starting_contents_are_lawful()
     ensures { (s : Starting) → IsLawfulHistory s (starting_contents s) }
+{}
+
+/// Each server's boot node is among the starting contents.
+pub fn every_server_starts_with_its_boot_node()
+    ensures { (s : Starting) (i : Instance) → i.0 < s.servers
+        → 0 < next_version (starting_contents s) (key.Boot i) }
+{}
+
+/// Nothing is committed in the starting contents.
+pub fn no_starting_node_is_done()
+    ensures { (s : Starting) (w : Seen) → Has (starting_contents s) w → IsDone w.node → ⊥ }
 {}
 
 /// One lawful write more keeps a history lawful.
@@ -56,27 +77,11 @@ pub fn every_partition_has_its_chain()
     ensures { (s : Starting) (h : List Seen) → IsLawfulHistory s h → HasChains s h }
 {}
 
-/// The nodes of every partition are in order, as the plain call `is_in_order` tells.
+/// The nodes of every partition are in order: each below the lowest present one was created, ended and deleted, each
+/// from there on was created and has ended or not, and each begins where the one before it left off.
 pub fn lawful_nodes_are_in_order()
     ensures { (s : Starting) (h : List Seen) → IsLawfulHistory s h → (p : Partition) → p.0 < s.partitions
         → InOrder h p }
-{}
-
-/// Nodes in order form a chain.
-pub fn nodes_in_order_form_a_chain()
-    ensures { (h : List Seen) (p : Partition) → InOrder h p
-        → IsChainOf h p (deletions_of h p) (sequences_of h p) }
-{}
-
-/// The ranges of nodes in order tile the offsets.
-pub fn nodes_in_order_tile_the_offsets()
-    ensures { (h : List Seen) (p : Partition) → InOrder h p → IsTiled h p }
-{}
-
-/// The end that the plain call `tiled_to` computes is that up to which the ranges tile.
-pub fn a_tiled_end_is_that_of_tiles()
-    ensures { (from to : ℕ) (ranges : List Range)
-        → (tiles_to from ranges ≡ Some to) ↔ Tiles from ranges to }
 {}
 
 /// Each segment's node is created once, ends at most once, and is deleted at most once after that.
@@ -130,4 +135,47 @@ pub fn runs_of_entries_only_rise()
 /// No entry is of a segment that was deleted, or of one below it.
 pub fn entries_have_passed_deleted_segments()
     ensures { (s : Starting) (h : List Seen) → IsLawfulHistory s h → HasPassedDeletions h }
+{}
+
+/// The entries of each ideal state ascend, and name no instance twice in a segment, where the partitions start on
+/// distinct instances.
+pub fn entries_ascend()
+    ensures { (s : Starting) (h : List Seen) → IsAssigned s → IsLawfulHistory s h → HasOrderedEntries h }
+{}
+
+/// Each ideal state has an entry of each partition, where each partition starts on some instance.
+pub fn every_partition_has_an_entry()
+    ensures { (s : Starting) (h : List Seen) → IsAssigned s → IsLawfulHistory s h → HasEveryPartition s h }
+{}
+
+/// What is listed of a partition is one run of segments, from the lowest that isn't deleted to the last, and of
+/// each the value of its key.
+pub fn the_listed_segments_are_one_run()
+    ensures { (s : Starting) (h : List Seen) → IsLawfulHistory s h → HasListings s h }
+{}
+
+/// A retirement that found no entry of the first listed segment may delete it: the ideal state that it read is one
+/// that has left the segment.
+pub fn a_retirement_deletes_lawfully()
+    ensures { (s : Starting) (h more later : List Seen) (p : Partition) (first : Listed) (rest : List Listed) (state : IdealState)
+        → IsAssigned s → HasRead s h more p first rest state
+        → IsFalse (has_entry state.entries p first.sequence)
+        → IsLawfulDelete ((h ++ more) ++ later) (listed_write p first) }
+{}
+
+/// A retirement that found entries of the segment after the first listed one may remove the first one's.
+pub fn a_retirement_removes_lawfully()
+    ensures { (s : Starting) (h more later : List Seen) (p : Partition) (first : Listed) (rest : List Listed) (state : IdealState)
+        → HasRead s h more p first rest state
+        → IsTrue (has_entry state.entries p (next_sequence first.sequence))
+        → IsIdealStep ((h ++ more) ++ later) state.entries (remove_segment_of state.entries p first.sequence) }
+{}
+
+/// An ideal state from before a segment's entries is no witness for its deletion: where each one that was seen has
+/// entries of the segment, or of earlier ones alone, the deletion isn't lawful.
+pub fn an_older_ideal_state_is_no_witness()
+    ensures { (seen : List Seen) (from : Seen) (p : Partition) (q : Sequence) → from.key ≡ key.Meta p q
+        → ((w : Seen) (i : IdealState) → Has seen w → w.node ≡ node.Ideal i
+        → HasEntry i.entries p q.0 ⊎ ((t : ℕ) → HasEntry i.entries p t → t < q.0))
+        → IsLawfulDelete seen from → ⊥ }
 {}

@@ -1,3 +1,7 @@
+ghost use Rattle.std.specs.Prelude.{◌≡◌, ◌↔◌, IsTrue};
+ghost use Rattle.rt_model.specs.Messages.{asked_of, same_number};
+
+use crate::Asked;
 use rt_base::{Instance, Offset, Partition, Sequence};
 use rt_lists::{Bytes, Text};
 
@@ -7,6 +11,16 @@ pub struct RequestNumber {
     pub instance: Instance,
     pub incarnation: u64,
     pub count: u64,
+}
+
+impl RequestNumber {
+    /// Whether this is that number.
+    pub fn is(self, other: RequestNumber) -> bool
+        ensures same { result ≡ same_number self other }
+        ensures one { IsTrue result ↔ (self ≡ other) }
+    {
+        self == other
+    }
 }
 
 /// Why a replica stopped to consume.
@@ -38,4 +52,17 @@ pub struct Request {
     /// How far the sender has consumed.
     pub offset: Offset,
     pub kind: RequestKind,
+}
+
+impl Request {
+    /// What an answer to it says of it.
+    pub fn asked(&self) -> Asked
+        ensures { result ≡ asked_of self.now }
+    {
+        Asked {
+            number: self.number,
+            partition: self.partition,
+            sequence: self.sequence,
+        }
+    }
 }

@@ -1,6 +1,0 @@
-use Rattle.rt_model.proofs.Readings.{iff_by, created_iff}
-use Rattle.rt_model.proofs.reading.is_created.Goals as goal
-
-pub returns : goal.returns
-returns c =
-    iff_by _ _ _ c.some_write.ensures (created_iff c.args.history.now c.args.partition c.args.sequence.0)
