@@ -3,8 +3,9 @@ use Rattle.std.proofs.Common.{◌≡◌, ℕ, List, [], ◌∷◌, ◌++◌, Opt
 use Rattle.std.specs.Option.{option_or}
 use Rattle.std.proofs.lemmas.Cmp.{nat_list_eq_equiv}
 use Rattle.std.proofs.lemmas.List.Folds.{find-append}
+use Rattle.rt_lists.specs.Members.{IsFront}
 use Rattle.rt_deep.specs.declared.deep_put.DeepPut.{DeepPut}
-use Rattle.rt_deep.specs.Files.{file_of, AreOnce, Grows}
+use Rattle.rt_deep.specs.Files.{file_of, AreOnce}
 
 abbrev stands_at : List ℕ → DeepPut → Bool
 stands_at path file = bytes_eq file.path path
@@ -28,7 +29,7 @@ file_of-other files put path other =
     ∙ option_or-none (file_of files path)
 
 -- what stands at a path stays there
-pub file_of-stays : (old new : List DeepPut) (path : List ℕ) (file : DeepPut) → Grows old new → file_of old path ≡ Some file → file_of new path ≡ Some file
+pub file_of-stays : (old new : List DeepPut) (path : List ℕ) (file : DeepPut) → IsFront old new → file_of old path ≡ Some file → file_of new path ≡ Some file
 file_of-stays old new path file g e =
     ap (λ (files : List DeepPut). file_of files path) g.1
     ∙ find-append (stands_at path) old g.0

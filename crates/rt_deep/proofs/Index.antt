@@ -1,8 +1,9 @@
 -- What the map beside the list says.
-use Rattle.std.proofs.Common.{◌≡◌, ℕ, zero, suc, List, [], ◌∷◌, ◌++◌, length, Option, Some, None, slice_get, Bool, true, false, cond, BTreeMap, String, bytes_eq, refl, sym, ap, subst, ◌∙◌, string_cmp, string_bytes}
+use Rattle.std.proofs.Common.{◌≡◌, ℕ, List, [], ◌∷◌, ◌++◌, length, Option, Some, None, slice_get, Bool, true, false, cond, BTreeMap, String, bytes_eq, refl, sym, ap, subst, ◌∙◌, string_cmp, string_bytes}
 use Rattle.std.specs.BTreeMap.{get_by_text, Updates, IsEmpty}
 use Rattle.std.proofs.lemmas.Map.Text.{btree_map_updates_text}
 use Rattle.std.proofs.lemmas.Slice.Eq.{bytes_eq-Decides}
+use Rattle.rt_lists.proofs.Members.{slice_get-append, slice_get-push}
 use Rattle.rt_deep.specs.declared.deep_put.DeepPut.{DeepPut}
 use Rattle.rt_deep.specs.Files.{file_of}
 use Rattle.rt_deep.specs.Index.{IsPlace, IsPlaceIn, IsIndex}
@@ -20,20 +21,11 @@ place_some files path (Some other) place i e = let same : place ≡ other = cc i
 
 -- ---- one file more
 
-slice_get_push : (files : List DeepPut) (put : DeepPut) → slice_get (files ++ put ∷ []) (length files) ≡ Some put
-slice_get_push [] put = refl
-slice_get_push (file ∷ files) put = slice_get_push files put
-
-slice_get_before : (files : List DeepPut) (put : DeepPut) (i : ℕ) (file : DeepPut) → slice_get files i ≡ Some file → slice_get (files ++ put ∷ []) i ≡ Some file
-slice_get_before [] put i file e = absurd (cc)
-slice_get_before (x ∷ files) put zero file e = e
-slice_get_before (x ∷ files) put (suc i) file e = slice_get_before files put i file e
-
 at_put : (files : List DeepPut) (put : DeepPut) (place : ℕ) → file_of files put.path ≡ None → place ≡ length files → IsPlace (files ++ put ∷ []) put.path place
 at_put files put place free is = record {
   file = put;
   is = file_of-put files put free;
-  stands = rw is (slice_get_push files put);
+  stands = rw is (slice_get-push files put);
 }
 
 elsewhere : (files : List DeepPut) (put : DeepPut) (path : List ℕ) (o : Option ℕ) → bytes_eq put.path path ≡ false → IsPlaceIn files path o → IsPlaceIn (files ++ put ∷ []) path o
@@ -41,7 +33,7 @@ elsewhere files put path None other i = file_of-other files put path other ∙ i
 elsewhere files put path (Some place) other i = record {
   file = i.file;
   is = file_of-other files put path other ∙ i.is;
-  stands = slice_get_before files put place i.file i.stands;
+  stands = slice_get-append files (put ∷ []) place i.file i.stands;
 }
 
 by_path : (b : Bool) (files : List DeepPut) (put : DeepPut) (path : List ℕ) (place : ℕ) (o : Option ℕ) → bytes_eq put.path path ≡ b

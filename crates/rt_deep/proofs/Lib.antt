@@ -1,4 +1,4 @@
-pub mod Faults
 pub mod Files
 pub mod Index
 pub mod Seeing
+pub mod Told

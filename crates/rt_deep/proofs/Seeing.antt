@@ -2,45 +2,40 @@
 use Rattle.std.proofs.Common.{◌≡◌, ℕ, ◌⊎◌, inl, inr, List, [], ◌∷◌, ◌++◌, Option, Some, None, unwrap_or, Result, Ok, Err, Bool, true, false, cond, bytes_eq, refl, sym, ◌∙◌, ap, subst, append_assoc}
 use Rattle.sha2.specs.Sha256.{sha256}
 use Rattle.std.proofs.lemmas.Slice.Eq.{bytes_eq-Decides}
+use Rattle.rt_lists.specs.Members.{IsFront}
 use Rattle.rt_deep.specs.declared.deep_put.DeepPut.{DeepPut}
 use Rattle.rt_deep.specs.declared.refused.DeepRefused.{DeepRefused}
 use Rattle.rt_deep.specs.declared.refused.DeepRefused.TheVariants.{Absent, OtherBytes, Failed, Memory}
 use Rattle.rt_deep.specs.Meaning.{Told, Meaning}
 use Rattle.rt_deep.specs.Memory.{means}
-use Rattle.rt_deep.specs.Files.{file_of, AreOnce, Grows}
-use Rattle.rt_deep.specs.Answers.{found_in, getting, compared_in, putting, after_beside, after_put}
-use Rattle.rt_deep.specs.Calls.{Goes, Fault, Nothing, Lost, Kept, GoesBy, Calls, Gets, Puts, PutsFile, answer_under, files_under, fault_of, told_after, answer_on, told_on, IsExact}
+use Rattle.rt_deep.specs.Files.{file_of, AreOnce}
+use Rattle.rt_deep.specs.Answers.{found_in, getting, compared_in, putting, after_beside, after_put, Leaves}
+use Rattle.rt_base.specs.declared.fault.Fault.{Fault}
+use Rattle.rt_base.specs.Faults.{fault_of, answer_under, left_under}
+use Rattle.rt_base.proofs.Planned.{left_cases, without_fault}
+use Rattle.rt_deep.specs.Calls.{Goes, GoesBy, Calls, Gets, Puts, PutsFile, told_after, answer_on, told_on, IsExact}
 use Rattle.rt_deep.proofs.Files.{file_of-put, once_more}
 
 -- ---- the files after a call
 
-by_fault : (fault : Fault) (base after now : List DeepPut) → now ≡ files_under fault base after → (now ≡ base) ⊎ (now ≡ after)
-by_fault Nothing base after now e = inr e
-by_fault Lost base after now e = inl e
-by_fault Kept base after now e = inr e
-
 -- either nothing was put, or what the call puts
 seen_after : {X : Type 0} (old new : Meaning) (fault : Fault) (base after : List DeepPut) (answer result : Result X DeepRefused)
     → GoesBy old new fault base after answer result → (new.seen ≡ base) ⊎ (new.seen ≡ after)
-seen_after old new fault base after answer (Ok x) g = by_fault fault base after new.seen g.seen
-seen_after old new fault base after answer (Err Absent) g = by_fault fault base after new.seen g.seen
-seen_after old new fault base after answer (Err (OtherBytes kept offered)) g = by_fault fault base after new.seen g.seen
-seen_after old new fault base after answer (Err Failed) g = by_fault fault base after new.seen g.seen
+seen_after old new fault base after answer (Ok x) g = left_cases fault base after new.seen g.seen
+seen_after old new fault base after answer (Err Absent) g = left_cases fault base after new.seen g.seen
+seen_after old new fault base after answer (Err (OtherBytes kept offered)) g = left_cases fault base after new.seen g.seen
+seen_after old new fault base after answer (Err Failed) g = left_cases fault base after new.seen g.seen
 seen_after old new fault base after answer (Err Memory) g = inl g.seen
 
--- nothing was put, or a file where nothing stood
-abbrev Put : DeepPut → List DeepPut → List DeepPut → Type 0
-Put put base now = (now ≡ base) ⊎ ((file_of base put.path ≡ None) × (now ≡ base ++ put ∷ []))
-
-put_beside : (o : Option DeepPut) (put : DeepPut) (base now : List DeepPut) → file_of base put.path ≡ o → now ≡ after_beside o base put → Put put base now
+put_beside : (o : Option DeepPut) (put : DeepPut) (base now : List DeepPut) → file_of base put.path ≡ o → now ≡ after_beside o base put → Leaves put base now
 put_beside None put base now free e = inr (free, e)
 put_beside (Some file) put base now there e = inl e
 
-put_by : (put : DeepPut) (base now : List DeepPut) → (now ≡ base) ⊎ (now ≡ after_put put base) → Put put base now
+pub put_by : (put : DeepPut) (base now : List DeepPut) → (now ≡ base) ⊎ (now ≡ after_put put base) → Leaves put base now
 put_by put base now (inl e) = inl e
 put_by put base now (inr e) = put_beside (file_of base put.path) put base now refl e
 
-call_put : (old new : Meaning) (put : DeepPut) (result : Result (Unit {0}) DeepRefused) (c : PutsFile old new put result) → Put put c.base new.seen
+call_put : (old new : Meaning) (put : DeepPut) (result : Result (Unit {0}) DeepRefused) (c : PutsFile old new put result) → Leaves put c.base new.seen
 call_put old new put result c = put_by put c.base new.seen (seen_after old new c.fault c.base (after_put put c.base) (putting put c.base) result c.goes)
 
 got : (base now : List DeepPut) → (now ≡ base) ⊎ (now ≡ base) → now ≡ base
@@ -52,22 +47,22 @@ call_got old new path result c = got c.base new.seen (seen_after old new c.fault
 
 -- ---- what was seen stays seen
 
-put_grows : (put : DeepPut) (old base now : List DeepPut) → Grows old base → Put put base now → Grows old now
+pub put_grows : (put : DeepPut) (old base now : List DeepPut) → IsFront old base → Leaves put base now → IsFront old now
 put_grows put old base now g (inl e) = (g.0, e ∙ g.1)
 put_grows put old base now g (inr w) =
     (g.0 ++ put ∷ [], w.1 ∙ ap (λ (b : List DeepPut). b ++ put ∷ []) g.1 ∙ append_assoc old g.0 (put ∷ []))
 
-pub get_grows : (old new : Meaning) (path : List ℕ) (result : Result (List ℕ) DeepRefused) → Gets old new path result → Grows old.seen new.seen
+pub get_grows : (old new : Meaning) (path : List ℕ) (result : Result (List ℕ) DeepRefused) → Gets old new path result → IsFront old.seen new.seen
 get_grows old new path result c = (c.sees.grows.0, call_got old new path result c ∙ c.sees.grows.1)
 
-pub puts_grow : (old new : Meaning) (path bytes : List ℕ) (result : Result (Unit {0}) DeepRefused) → Puts old new path bytes result → Grows old.seen new.seen
+pub puts_grow : (old new : Meaning) (path bytes : List ℕ) (result : Result (Unit {0}) DeepRefused) → Puts old new path bytes result → IsFront old.seen new.seen
 puts_grow old new path bytes result c =
     let put : DeepPut = record { path = path; bytes = bytes } in
     put_grows put old.seen c.base new.seen c.sees.grows (call_put old new put result c)
 
 -- ---- a path has one file
 
-put_once : (put : DeepPut) (base now : List DeepPut) → AreOnce base → Put put base now → AreOnce now
+pub put_once : (put : DeepPut) (base now : List DeepPut) → AreOnce base → Leaves put base now → AreOnce now
 put_once put base now once (inl e) = subst AreOnce (sym e) once
 put_once put base now once (inr w) = subst AreOnce (sym w.1) (once_more base put once w.0)
 
@@ -82,7 +77,7 @@ puts_once old new path bytes result c =
 -- ---- what an answer shows
 
 -- a file from its parts
-made : List ℕ → List ℕ → DeepPut
+unfoldable pub made : List ℕ → List ℕ → DeepPut
 made path bytes = record { path = path; bytes = bytes }
 
 first_or_later : (b : Bool) (first file : DeepPut) (files : List DeepPut) (path : List ℕ) → bytes_eq first.path path ≡ b → (file_of files path ≡ Some file → file.path ≡ path)
@@ -101,44 +96,38 @@ same_file : (file : DeepPut) (path bytes : List ℕ) → file.path ≡ path → 
 unfolding made
 same_file file path bytes p b = ap (λ x. made x file.bytes) p ∙ ap (made path) b
 
-answered_without_fault : {X : Type 0} (fault : Fault) (answer result : Result X DeepRefused) (base after now : List DeepPut)
-    → (result ≡ Err Failed → ⊥) → result ≡ answer_under fault answer → now ≡ files_under fault base after → (result ≡ answer) × (now ≡ after)
-answered_without_fault Nothing answer result base after now never e s = (e, s)
-answered_without_fault Lost answer result base after now never e s = absurd (never e)
-answered_without_fault Kept answer result base after now never e s = absurd (never e)
-
-found_file : (files : List DeepPut) (path bytes : List ℕ) (o : Option DeepPut) → file_of files path ≡ o → Ok bytes ≡ found_in o → file_of files path ≡ Some (made path bytes)
+pub found_file : (files : List DeepPut) (path bytes : List ℕ) (o : Option DeepPut) → file_of files path ≡ o → Ok bytes ≡ found_in o → file_of files path ≡ Some (made path bytes)
 found_file files path bytes None is e = absurd (cc)
 found_file files path bytes (Some file) is e =
     let same : file.bytes ≡ bytes = cc in
     is ∙ ap Some (same_file file path bytes (stands_under files path file is) same)
 
-found_none : (files : List DeepPut) (path : List ℕ) (o : Option DeepPut) → file_of files path ≡ o → Err Absent ≡ found_in o → file_of files path ≡ None
+pub found_none : (files : List DeepPut) (path : List ℕ) (o : Option DeepPut) → file_of files path ≡ o → Err Absent ≡ found_in o → file_of files path ≡ None
 found_none files path None is e = is
 found_none files path (Some file) is e = absurd (cc)
 
 pub get_seen : (old new : Meaning) (path bytes : List ℕ) → Gets old new path (Ok bytes) → file_of new.seen path ≡ Some (record { path = path; bytes = bytes })
 unfolding made
 get_seen old new path bytes c =
-    let told = answered_without_fault c.fault (getting path c.base) (Ok bytes) c.base c.base new.seen (λ e. cc) c.goes.answered c.goes.seen in
+    let told = without_fault Failed c.fault (getting path c.base) (Ok bytes) c.base c.base new.seen (λ e. cc) c.goes.answered c.goes.seen in
     ap (λ (files : List DeepPut). file_of files path) told.1 ∙ found_file c.base path bytes (file_of c.base path) refl told.0
 
 pub absent_seen : (old new : Meaning) (path : List ℕ) → Gets old new path (Err Absent) → file_of new.seen path ≡ None
 absent_seen old new path c =
-    let told = answered_without_fault c.fault (getting path c.base) (Err Absent) c.base c.base new.seen (λ e. cc) c.goes.answered c.goes.seen in
+    let told = without_fault Failed c.fault (getting path c.base) (Err Absent) c.base c.base new.seen (λ e. cc) c.goes.answered c.goes.seen in
     ap (λ (files : List DeepPut). file_of files path) told.1 ∙ found_none c.base path (file_of c.base path) refl told.0
 
-abbrev done : Result (Unit {0}) DeepRefused
+abbrev pub done : Result (Unit {0}) DeepRefused
 done = Ok tt
 
-abbrev other_bytes : List ℕ → List ℕ → Result (Unit {0}) DeepRefused
+abbrev pub other_bytes : List ℕ → List ℕ → Result (Unit {0}) DeepRefused
 other_bytes kept offered = Err (OtherBytes (sha256 kept) (sha256 offered))
 
 same_bytes : (kept offered : List ℕ) (b : Bool) → bytes_eq kept offered ≡ b → done ≡ cond b done (other_bytes kept offered) → kept ≡ offered
 same_bytes kept offered true same e = (bytes_eq-Decides kept offered).0 same
 same_bytes kept offered false other e = absurd (cc)
 
-put_found : (base : List DeepPut) (put : DeepPut) (o : Option DeepPut) → file_of base put.path ≡ o → done ≡ unwrap_or (compared_in o put.bytes) done
+pub put_found : (base : List DeepPut) (put : DeepPut) (o : Option DeepPut) → file_of base put.path ≡ o → done ≡ unwrap_or (compared_in o put.bytes) done
     → file_of (after_beside o base put) put.path ≡ Some put
 unfolding made
 put_found base put None free e = file_of-put base put free
@@ -149,7 +138,7 @@ put_found base put (Some file) is e =
 pub put_seen : (old new : Meaning) (path bytes : List ℕ) → Puts old new path bytes (Ok tt) → file_of new.seen path ≡ Some (record { path = path; bytes = bytes })
 put_seen old new path bytes c =
     let put : DeepPut = record { path = path; bytes = bytes } in
-    let told = answered_without_fault c.fault (putting put c.base) (Ok tt) c.base (after_put put c.base) new.seen (λ e. cc) c.goes.answered c.goes.seen in
+    let told = without_fault Failed c.fault (putting put c.base) (Ok tt) c.base (after_put put c.base) new.seen (λ e. cc) c.goes.answered c.goes.seen in
     ap (λ (files : List DeepPut). file_of files path) told.1 ∙ put_found c.base put (file_of c.base path) refl told.0
 
 -- ---- a deep store that tells everything
@@ -165,8 +154,8 @@ goes_exact : {X : Type 0} (t new : Told) (fault : Fault) (base : List DeepPut) (
     → (result ≡ answer_on t answer) × (new ≡ told_on t after)
 goes_exact t new fault base answer after result all g =
     let told : new ≡ told_after t new.files = same_told (told_after t new.files) new g.meets.1 in (
-      g.answered ∙ ap (λ f. answer_under f (answer base)) g.meets.0 ∙ ap (λ h. answer_under (fault_of t.plan) (answer h)) all,
-      told ∙ ap (told_after t) (g.seen ∙ ap (λ f. files_under f base (after base)) g.meets.0 ∙ ap (λ h. files_under (fault_of t.plan) h (after h)) all),
+      g.answered ∙ ap (λ f. answer_under Failed f (answer base)) g.meets.0 ∙ ap (λ h. answer_under Failed (fault_of t.faults.plan) (answer h)) all,
+      told ∙ ap (told_after t) (g.seen ∙ ap (λ f. left_under f base (after base)) g.meets.0 ∙ ap (λ h. left_under (fault_of t.faults.plan) h (after h)) all),
     )
 
 pub told_exact : {X : Type 0} (t new : Told) (answer : List DeepPut → Result X DeepRefused) (after : List DeepPut → List DeepPut) (result : Result X DeepRefused)

@@ -1,5 +1,5 @@
 -- What a call answers and puts, over the files on which it stands.
-use Rattle.std.specs.Prelude.{ℕ, List, [], ◌∷◌, ◌++◌, if◌then◌else◌, Option, Some, None, unwrap_or, Result, Ok, Err}
+use Rattle.std.specs.Prelude.{◌≡◌, ◌⊎◌, ℕ, List, [], ◌∷◌, ◌++◌, if◌then◌else◌, Option, Some, None, unwrap_or, Result, Ok, Err}
 use Rattle.std.specs.Str.{bytes_eq}
 use Rattle.sha2.specs.Sha256.{sha256}
 use Rattle.rt_deep.specs.declared.deep_put.DeepPut.{DeepPut}
@@ -34,3 +34,7 @@ after_beside (Some file) files put = files
 
 abbrev pub after_put : DeepPut → List DeepPut → List DeepPut
 after_put put files = after_beside (file_of files put.path) files put
+
+-- what a put may leave: what was there, or that and its own file, where nothing stood at its path
+abbrev pub Leaves : DeepPut → List DeepPut → List DeepPut → Type 0
+Leaves put base now = (now ≡ base) ⊎ ((file_of base put.path ≡ None) × (now ≡ base ++ put ∷ []))

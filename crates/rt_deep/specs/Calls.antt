@@ -1,66 +1,23 @@
 -- What each call promises, by what a deep store means before it and after it.
-use Rattle.std.specs.Prelude.{◌≡◌, ℕ, ◌+◌, ◌<◌, ◌≤◌, List, [], ◌∷◌, drop, Bool, true, false, ◌⊎◌, Option, Some, None, Result, Ok, Err, ⊤}
+use Rattle.std.specs.Prelude.{◌≡◌, ℕ, List, ◌⊎◌, Option, Some, None, Result, Ok, Err, ⊤}
+use Rattle.rt_base.specs.declared.fault.Fault.{Fault}
+use Rattle.rt_base.specs.Faults.{fault_of, met_fault, Counts, answer_under, left_under}
+use Rattle.rt_lists.specs.Members.{IsFront}
 use Rattle.rt_deep.specs.declared.deep_put.DeepPut.{DeepPut}
 use Rattle.rt_deep.specs.declared.refused.DeepRefused.{DeepRefused}
 use Rattle.rt_deep.specs.declared.refused.DeepRefused.TheVariants.{Absent, OtherBytes, Failed, Memory}
 use Rattle.rt_deep.specs.Meaning.{Told, Meaning}
-use Rattle.rt_deep.specs.Files.{Grows, AreOnce}
+use Rattle.rt_deep.specs.Files.{AreOnce}
 use Rattle.rt_deep.specs.Answers.{getting, putting, after_put}
-
--- the fault that a call meets: none, one by which the call is lost, or one by which it is carried out and only
--- its answer is lost
-pub data Fault : Type 0 where
-  Nothing : Fault
-  Lost : Fault
-  Kept : Fault
-
-abbrev pub fault_by : Option Bool → Fault
-fault_by None = Nothing
-fault_by (Some true) = Kept
-fault_by (Some false) = Lost
-
--- the first planned fault, if there is one
-abbrev pub planned : List Bool → Option Bool
-planned [] = None
-planned (kept ∷ plan) = Some kept
-
--- the fault that the next call meets
-abbrev pub fault_of : List Bool → Fault
-fault_of plan = fault_by (planned plan)
-
--- what is told once the next call has met its fault
-abbrev pub met_by : Option Bool → Told → Told
-met_by None t = t
-met_by (Some kept) t = record t { plan = drop 1 t.plan; met = t.met + 1 }
-
-abbrev pub told_met : Told → Told
-told_met t = met_by (planned t.plan) t
 
 -- what is told after a call that left these files
 abbrev pub told_after : Told → List DeepPut → Told
-told_after t files = record (told_met t) { files = files }
+told_after t files = record { files = files; faults = met_fault t.faults }
 
 -- the call met this fault and left these files, as far as that is told
 abbrev pub Meets : Option Told → Option Told → Fault → List DeepPut → Type 0
 Meets None new fault files = new ≡ None
-Meets (Some t) new fault files = (fault ≡ fault_of t.plan) × (new ≡ Some (told_after t files))
-
--- a fault raises the count, which never falls
-abbrev pub Counts : ℕ → ℕ → Fault → Type 0
-Counts before now Nothing = before ≤ now
-Counts before now Lost = before < now
-Counts before now Kept = before < now
-
-abbrev pub answer_under : {X : Type 0} → Fault → Result X DeepRefused → Result X DeepRefused
-answer_under Nothing answer = answer
-answer_under Lost answer = Err Failed
-answer_under Kept answer = Err Failed
-
--- the files after a call that stands on `base`, and that would leave `after`
-abbrev pub files_under : Fault → List DeepPut → List DeepPut → List DeepPut
-files_under Nothing base after = after
-files_under Lost base after = base
-files_under Kept base after = after
+Meets (Some t) new fault files = (fault ≡ fault_of t.faults.plan) × (new ≡ Some (told_after t files))
 
 -- all files, where they are told
 abbrev pub AreAll : Option Told → List DeepPut → Type 0
@@ -70,7 +27,7 @@ AreAll (Some t) base = base ≡ t.files
 -- the files on which a call stands: they begin with what its caller has seen, they are all where these are told,
 -- and no path has two of them
 pub record Sees (old : Meaning) (base : List DeepPut) : Type 0 where
-  pub grows : Grows old.seen base
+  pub grows : IsFront old.seen base
   pub all : AreAll old.told base
   pub once : AreOnce base
 
@@ -78,8 +35,8 @@ pub record Sees (old : Meaning) (base : List DeepPut) : Type 0 where
 pub record Goes {X : Type 0} (old new : Meaning) (fault : Fault) (base after : List DeepPut) (answer result : Result X DeepRefused) : Type 0 where
   pub meets : Meets old.told new.told fault new.seen
   pub counts : Counts old.faults new.faults fault
-  pub answered : result ≡ answer_under fault answer
-  pub seen : new.seen ≡ files_under fault base after
+  pub answered : result ≡ answer_under Failed fault answer
+  pub seen : new.seen ≡ left_under fault base after
 
 -- a call that ran out of memory: nothing is put, and no fault is met
 pub record Stays (old new : Meaning) (base : List DeepPut) : Type 0 where
@@ -104,10 +61,10 @@ pub record Calls {X : Type 0} (old new : Meaning) (answer : List DeepPut → Res
 
 -- what a call answers over a deep store that tells everything, and what that tells after it
 abbrev pub answer_on : {X : Type 0} → Told → (List DeepPut → Result X DeepRefused) → Result X DeepRefused
-answer_on t answer = answer_under (fault_of t.plan) (answer t.files)
+answer_on t answer = answer_under Failed (fault_of t.faults.plan) (answer t.files)
 
 abbrev pub told_on : Told → (List DeepPut → List DeepPut) → Told
-told_on t after = told_after t (files_under (fault_of t.plan) t.files (after t.files))
+told_on t after = told_after t (left_under (fault_of t.faults.plan) t.files (after t.files))
 
 -- the call has that one answer and leaves that, but that memory may run out, and then all is as before
 abbrev pub IsExact :

@@ -1,5 +1,5 @@
 -- The files of a deep store, in the order in which they were put.
-use Rattle.std.specs.Prelude.{◌≡◌, ℕ, List, [], ◌∷◌, ◌++◌, Option, None}
+use Rattle.std.specs.Prelude.{◌≡◌, ℕ, List, [], ◌∷◌, Option, None}
 use Rattle.std.specs.List.{find}
 use Rattle.std.specs.Str.{bytes_eq}
 use Rattle.rt_deep.specs.declared.deep_put.DeepPut.{DeepPut}
@@ -12,7 +12,3 @@ file_of files path = find (λ file. bytes_eq file.path path) files
 abbrev pub AreOnce : List DeepPut → Type 0
 AreOnce [] = Unit {0}
 AreOnce (file ∷ files) = (file_of files file.path ≡ None) × AreOnce files
-
--- the later list begins with the earlier one
-abbrev pub Grows : List DeepPut → List DeepPut → Type 0
-Grows old new = (more : List DeepPut) × (new ≡ old ++ more)

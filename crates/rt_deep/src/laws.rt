@@ -1,25 +1,26 @@
 ghost use Rattle.std.specs.Prelude.{◌≡◌, ℕ, List, Some, None, Result, Ok, Err};
+ghost use Rattle.rt_lists.specs.Members.{IsFront};
 ghost use Rattle.rt_deep.specs.declared.deep_put.DeepPut.{DeepPut};
 ghost use Rattle.rt_deep.specs.declared.refused.DeepRefused.{DeepRefused};
 ghost use Rattle.rt_deep.specs.declared.refused.DeepRefused.TheVariants.{Absent};
 ghost use Rattle.rt_deep.specs.Meaning.{Told, Meaning};
 ghost use Rattle.rt_deep.specs.Memory.{means};
-ghost use Rattle.rt_deep.specs.Files.{file_of, AreOnce, Grows};
+ghost use Rattle.rt_deep.specs.Files.{file_of, AreOnce};
 ghost use Rattle.rt_deep.specs.Answers.{getting, putting, after_put};
 ghost use Rattle.rt_deep.specs.Calls.{Gets, Puts, PutsFile, IsExact};
 
 /// What a caller has seen stays seen, whichever call it makes and whatever that answers.
 pub fn what_was_seen_stays_seen()
     ensures gets { (old new : Meaning) (path : List ℕ) (result : Result (List ℕ) DeepRefused)
-        → Gets old new path result → Grows old.seen new.seen }
+        → Gets old new path result → IsFront old.seen new.seen }
     ensures puts { (old new : Meaning) (path bytes : List ℕ) (result : Result (Unit {0}) DeepRefused)
-        → Puts old new path bytes result → Grows old.seen new.seen }
+        → Puts old new path bytes result → IsFront old.seen new.seen }
 {}
 
 /// A file that stands at a path stands there for ever, whatever is put later.
 pub fn what_was_put_stays()
     ensures { (old new : List DeepPut) (path : List ℕ) (file : DeepPut)
-        → Grows old new → file_of old path ≡ Some file → file_of new path ≡ Some file }
+        → IsFront old new → file_of old path ≡ Some file → file_of new path ≡ Some file }
 {}
 
 /// No path has two of the files that a caller has seen, after whichever call.

@@ -9,6 +9,7 @@ mod deep_store;
 mod laws;
 mod memory_deep;
 mod refused;
+mod told_laws;
 
 pub use deep_put::DeepPut;
 pub use deep_store::DeepStore;
@@ -18,6 +19,6 @@ pub use laws::{
 };
 pub use memory_deep::MemoryDeep;
 pub use refused::DeepRefused;
-
-#[cfg(test)]
-mod tests;
+pub use told_laws::{
+    a_fault_raises_the_count, a_refusal_puts_nothing, what_told_answers_show, what_told_calls_leave,
+};

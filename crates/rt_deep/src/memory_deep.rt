@@ -1,11 +1,14 @@
 ghost use Rattle.std.specs.Prelude.{◌≡◌, ◌++◌, ◌∷◌, [], None, OnOk, OnErr, option_copied, string_bytes};
 ghost use Rattle.rt_deep.specs.Files.{file_of, AreOnce};
 ghost use Rattle.rt_deep.specs.Answers.{compared, compared_in};
-ghost use Rattle.rt_deep.specs.Calls.{planned, told_met, fault_of, answer_under, Puts, Gets};
+ghost use Rattle.rt_base.specs.Faults.{fault_of, met_fault, answer_under};
+ghost use Rattle.rt_deep.specs.declared.refused.DeepRefused.TheVariants.{Failed};
+ghost use Rattle.rt_deep.specs.Calls.{Puts, Gets};
 ghost use Rattle.rt_deep.specs.Index.{IsPlaceIn};
 ghost use Rattle.rt_deep.specs.Memory.{means, with_file, PutsNew};
 
 use crate::{DeepPut, DeepRefused, DeepStore};
+use rt_base::{Fault, PlannedFaults};
 use rt_lists::{Bytes, Text};
 use sha2::{Digest, Sha256};
 use std::alloc::{AllocError, Global};
@@ -18,10 +21,7 @@ pub struct MemoryDeep {
     files: Vec<DeepPut>,
     /// The place of each path's file in the list of all files.
     places: BTreeMap<String, usize>,
-    /// Every fault that was ever planned: true where the call is carried out first.
-    faults: Vec<bool>,
-    /// How many of them were met.
-    met: usize,
+    faults: PlannedFaults,
 }
 
 impl Model for MemoryDeep {
@@ -29,56 +29,42 @@ impl Model for MemoryDeep {
 
     ghost Value = { Told };
 
-    ghost use Rattle.std.specs.Prelude.{drop, length, ◌≤◌};
     ghost use Rattle.rt_deep.specs.Files.{AreOnce};
     ghost use Rattle.rt_deep.specs.Index.{IsIndex};
 
-    ghost view = { λ a. record { files = a.files.items; plan = drop a.met a.faults.items; met = a.met } };
+    ghost view = { λ a. record { files = a.files.items; faults = a.faults } };
 
-    ghost invariant = { λ a.
-        IsIndex a.files.items a.places × AreOnce a.files.items × (a.met ≤ length a.faults.items) };
+    ghost invariant = { λ a. IsIndex a.files.items a.places × AreOnce a.files.items };
 }
 
 impl MemoryDeep {
     /// A deep store without any file. It takes no memory yet.
     #[tactic(auto, using(crate::proofs::Index::index_empty))]
     pub fn make(alloc: Global) -> MemoryDeep
-        ensures { result ≡ record { files = []; plan = []; met = 0 } }
+        ensures { result ≡ record { files = []; faults = record { plan = []; met = 0 } } }
     {
         MemoryDeep {
             files: Vec::new(alloc),
             places: BTreeMap::new(alloc),
-            faults: Vec::new(alloc),
-            met: 0,
+            faults: PlannedFaults::make(alloc),
         }
+    }
+
+    /// All files, in the order in which they were put.
+    pub fn files(&self) -> &[DeepPut]
+        ensures files { result.now ≡ self.now.files }
+        ensures once { AreOnce self.now.files }
+    {
+        self.files.as_slice()
     }
 
     /// Plans a fault for the first call that has none planned before it. A kept one carries a put that is not
     /// refused out first, a lost one doesn't.
     pub fn plan_fault(&mut self, kept: bool) -> Result<(), AllocError>
-        ensures ok { OnOk result (self.new ≡ record self.old { plan = self.old.plan ++ kept ∷ [] }) }
+        ensures ok { OnOk result (self.new ≡ record self.old { faults = record self.old.faults { plan = self.old.faults.plan ++ kept ∷ [] } }) }
         ensures err { OnErr result (self.new ≡ self.old) }
     {
-        self.faults.push(kept)?;
-        Ok(())
-    }
-
-    /// The fault that the next call meets.
-    fn next_fault(&self) -> Option<bool>
-        ensures fault { result ≡ planned self.now.plan }
-        ensures once { AreOnce self.now.files }
-    {
-        self.faults.get(self.met).copied()
-    }
-
-    /// Counts the fault that a call meets.
-    #[tactic(auto, using(crate::proofs::Faults::told_more, crate::proofs::Faults::told_none))]
-    fn meet_fault(&mut self)
-        ensures { self.new ≡ told_met self.old }
-    {
-        if self.met < self.faults.len() {
-            self.met += 1;
-        }
+        self.faults.plan(kept)
     }
 
     /// The place of the file at a path in the list of all files.
@@ -113,15 +99,12 @@ impl MemoryDeep {
 
     /// Does a call that puts nothing, under the fault that it meets.
     fn settle(&mut self, answer: Result<(), DeepRefused>) -> Result<(), DeepRefused>
-        ensures answered { result ≡ answer_under (fault_of self.old.plan) answer }
-        ensures told { self.new ≡ told_met self.old }
+        ensures answered { result ≡ answer_under Failed (fault_of self.old.faults.plan) answer }
+        ensures told { self.new ≡ record self.old { faults = met_fault self.old.faults } }
     {
-        match self.next_fault() {
-            None => answer,
-            Some(_) => {
-                self.meet_fault();
-                Err(DeepRefused::Failed)
-            }
+        match self.faults.meet() {
+            Fault::Nothing => answer,
+            Fault::Lost | Fault::Kept => Err(DeepRefused::Failed),
         }
     }
 
@@ -162,16 +145,10 @@ impl MemoryDeep {
         requires { file_of self.old.files path.now ≡ None }
         ensures { PutsNew self.old self.new (record { path = path.now; bytes = bytes.now }) result }
     {
-        match self.next_fault() {
-            None => Ok(self.carry_out(alloc, path, bytes)?),
-            Some(kept) => {
-                if kept {
-                    self.carry_out(alloc, path, bytes)?;
-                }
-                self.meet_fault();
-                Err(DeepRefused::Failed)
-            }
+        if self.faults.next() != Fault::Lost {
+            self.carry_out(alloc, path, bytes)?;
         }
+        self.settle(Ok(()))
     }
 }
 
@@ -192,9 +169,9 @@ impl DeepStore for MemoryDeep {
     fn get(&mut self, alloc: Global, path: &str) -> Result<Bytes, DeepRefused>
         ensures { Gets (means self.old) (means self.new) path.now result }
     {
-        if self.next_fault().is_some() {
-            self.meet_fault();
-            return Err(DeepRefused::Failed);
+        match self.faults.meet() {
+            Fault::Nothing => {}
+            Fault::Lost | Fault::Kept => return Err(DeepRefused::Failed),
         }
         match self.file(path) {
             Some(file) => Ok(file.bytes.copy(alloc)?),

@@ -86,12 +86,12 @@ ideal_last s =
     ap (λ (w : Seen). h ++ w ∷ []) first
 
 told : List Seen → Told
-told ws = record { writes = ws; plan = []; met = 0 }
+told ws = record { writes = ws; faults = record { plan = []; met = 0 } }
 
 -- the steps of a fresh store, one after another
 pub fresh_done :
     (setup : Setup) (empty boots metas done : Told) (state : IdealState)
-    → empty ≡ record { writes = []; plan = []; met = 0 }
+    → empty ≡ record { writes = []; faults = record { plan = []; met = 0 } }
     → boots ≡ record empty { writes = starting_boots setup.servers }
     → metas ≡ record boots { writes = starting_boots setup.servers ++ starting_metas (starting_of setup) setup.partitions }
     → state.entries ≡ starting_entries (starting_of setup) setup.partitions

@@ -1,24 +1,20 @@
--- What the map beside the list says.
-use Rattle.std.proofs.Common.{◌≡◌, ℕ, zero, suc, ◌+◌, ◌≤◌, List, [], ◌∷◌, ◌++◌, length, Option, Some, None, slice_get, Bool, true, false, true≢false, Ordering, Less, Equal, Greater, cond, is_eq, BTreeMap, refl, sym, ap, ◌∙◌, arith, length-append}
-use Rattle.std.specs.BTreeMap.{get, Updates, IsUnchanged, IsEmpty}
-use Rattle.rt_model.specs.declared.node.Key.{Key}
-use Rattle.rt_model.specs.declared.node.Seen.{Seen}
+-- What the index beside the list says.
+use Rattle.std.proofs.Common.{◌≡◌, ◌+◌, ◌≤◌, List, [], ◌∷◌, ◌++◌, length, Option, Some, None, is_some, slice_get, Bool, true, false, true≢false, Ordering, Less, Equal, Greater, cond, is_eq, refl, sym, ap, ◌∙◌, arith, length-append}
+use Rattle.std.specs.BTreeMap.{get}
+use Rattle.std.specs.BTreeSet.{contains}
 use Rattle.std.proofs.lemmas.List.Sums.{length-filter, count_by-le-length}
-use Rattle.rt_model.specs.History.{same_key, last_of, last_write, next_version}
+use Rattle.rt_lists.proofs.Members.{slice_get-append, slice_get-push}
+use Rattle.rt_model.specs.declared.node.Key.{Key}
+use Rattle.rt_model.specs.declared.node.Node.{Node}
+use Rattle.rt_model.specs.declared.node.Node.TheVariants as node
+use Rattle.rt_model.specs.declared.node.Seen.{Seen}
+use Rattle.rt_model.specs.History.{same_key, last_of, last_write, next_version, value_by, value_in, value_of}
 use Rattle.rt_model.proofs.Histories.{writes_of-more, writes_of-other, last_write-more, last_write-other}
-use Rattle.rt_store.specs.declared.memory_store.Latest.{Latest}
+use Rattle.rt_store.specs.declared.index.Index.{Index}
+use Rattle.rt_store.specs.declared.index.Latest.{Latest}
 use Rattle.rt_store.specs.Order.{key_cmp}
-use Rattle.rt_store.specs.Index.{IsLatest, IsLatestIn, IsIndex}
+use Rattle.rt_store.specs.Index.{IsLatest, IsLatestIn, IsIndex, IsBlank, IsSame, Notes, is_there}
 use Rattle.rt_store.proofs.Keys.{same_from_order, order_of_same}
-
-slice_get_push : (h : List Seen) (w : Seen) → slice_get (h ++ w ∷ []) (length h) ≡ Some w
-slice_get_push [] w = refl
-slice_get_push (v ∷ h) w = slice_get_push h w
-
-slice_get_before : (h : List Seen) (w : Seen) (i : ℕ) (v : Seen) → slice_get h i ≡ Some v → slice_get (h ++ w ∷ []) i ≡ Some v
-slice_get_before [] w i v e = absurd (cc)
-slice_get_before (x ∷ h) w zero v e = e
-slice_get_before (x ∷ h) w (suc i) v e = slice_get_before h w i v e
 
 equal_from_is_eq : (o : Ordering) → is_eq o ≡ true → o ≡ Equal
 equal_from_is_eq Less e = absurd (cc)
@@ -54,7 +50,7 @@ at_written : (h : List Seen) (w : Seen) (q : Key) (l : Latest) → w.key ≡ q �
 at_written h w q l is place version next = record {
   write = w;
   last = last_write-more h w q is;
-  stands = rw place (slice_get_push h w);
+  stands = rw place (slice_get-push h w);
   version = version;
   count = rw (writes_of-more h w q is, length-append) (omega (arith, next));
 }
@@ -64,7 +60,7 @@ elsewhere h w q None other i = writes_of-other h w q other ∙ i
 elsewhere h w q (Some l) other i = record {
   write = i.write;
   last = last_write-other h w q other ∙ i.last;
-  stands = slice_get_before h w l.place i.write i.stands;
+  stands = slice_get-append h (w ∷ []) l.place i.write i.stands;
   version = i.version;
   count = rw (writes_of-other h w q other) i.count;
 }
@@ -74,21 +70,47 @@ by_tie : (b : Bool) (h : List Seen) (w : Seen) (q : Key) (l : Latest) (o : Optio
 by_tie true h w q l o e here i = here (same_from_order w.key q (equal_from_is_eq (key_cmp w.key q) e))
 by_tie false h w q l o e here i = elsewhere h w q o (λ same. true≢false (sym (ap is_eq (order_of_same w.key q same)) ∙ e)) i
 
--- the map after a write
-pub index_more : (h : List Seen) (m n : BTreeMap Key Latest) (w : Seen) (l : Latest) → IsIndex h m → l.place ≡ length h → w.version ≡ l.version → l.version ≡ next_version h w.key
-    → Updates key_cmp m n w.key (Some l) → IsIndex (h ++ w ∷ []) n
-index_more h m n w l i place version next u q =
-    rw (u.0 q) (by_tie (is_eq (key_cmp w.key q)) h w q l (get key_cmp m q) refl (λ same. at_written h w q l same place version (next ∙ ap (next_version h) same)) (i q))
+-- ---- which keys are there
 
--- the map after a write, beside the list after it
-pub index_written : (h items : List Seen) (m n : BTreeMap Key Latest) (w : Seen) (l : Latest) → items ≡ h ++ w ∷ [] → IsIndex h m → l.place ≡ length h → w.version ≡ l.version → l.version ≡ next_version h w.key
-    → Updates key_cmp m n w.key (Some l) → IsIndex items n
-index_written h items m n w l e i place version next u q = rw e (index_more h m n w l i place version next u q)
+value_shown : (n : Node) (w : Seen) → is_some (value_by n w) ≡ is_there n
+value_shown (node.Meta m) w = refl
+value_shown (node.Ideal i) w = refl
+value_shown node.Boot w = refl
+value_shown node.Gone w = refl
 
--- the map where nothing was inserted
-pub index_same : (h : List Seen) (m n : BTreeMap Key Latest) → IsIndex h m → IsUnchanged m n → IsIndex h n
-index_same h m n i same q = rw same (i q)
+at_tie : (b there : Bool) (h : List Seen) (w : Seen) (q : Key) (before : Bool) → is_eq (key_cmp w.key q) ≡ b
+    → there ≡ is_there w.node → before ≡ is_some (value_of h q)
+    → cond b there before ≡ is_some (value_of (h ++ w ∷ []) q)
+at_tie true there h w q before e is was =
+    let same : w.key ≡ q = same_from_order w.key q (equal_from_is_eq (key_cmp w.key q) e) in
+    is ∙ sym (value_shown w.node w) ∙ ap (λ o. is_some (value_in o)) (sym (last_write-more h w q same))
+at_tie false there h w q before e is was =
+    let other : w.key ≡ q → ⊥ = λ same. true≢false (sym (ap is_eq (order_of_same w.key q same)) ∙ e) in
+    was ∙ ap (λ o. is_some (value_in o)) (sym (last_write-other h w q other))
+
+-- ---- the index after a write
+
+-- beside the list after it
+pub index_noted : (h items : List Seen) (i j : Index) (w : Seen) (l : Latest) (there : Bool) → items ≡ h ++ w ∷ [] → IsIndex h i → l.place ≡ length h → w.version ≡ l.version → l.version ≡ next_version h w.key
+    → there ≡ is_there w.node → Notes i j w.key l there → IsIndex items j
+index_noted h items i j w l there e index place version next is notes = (
+  λ q. rw (e, (notes q).0) (by_tie (is_eq (key_cmp w.key q)) h w q l (get key_cmp i.latest q) refl (λ same. at_written h w q l same place version (next ∙ ap (next_version h) same)) (index.0 q)),
+  λ q. (notes q).1 ∙ at_tie (is_eq (key_cmp w.key q)) there h w q (contains key_cmp i.present q) refl is (index.1 q) ∙ ap (λ (l : List Seen). is_some (value_of l q)) (sym e),
+)
+
+-- where no key changed
+pub index_same : (h items : List Seen) (i j : Index) → items ≡ h → IsIndex h i → IsSame i j → IsIndex items j
+index_same h items i j e index same = (
+  λ q. rw (e, (same q).0) (index.0 q),
+  λ q. (same q).1 ∙ index.1 q ∙ ap (λ (l : List Seen). is_some (value_of l q)) (sym e),
+)
 
 -- nothing was written
-pub index_empty : (m : BTreeMap Key Latest) → IsEmpty m → IsIndex [] m
-index_empty m none k = rw none
+pub index_empty : (i : Index) → IsBlank i → IsIndex [] i
+index_empty i blank = (λ k. rw ((blank k).0) refl, λ k. (blank k).1)
+
+-- ---- the set, where the map could take no more
+
+pub taken_back : (before after now : Bool) (same : Bool) → (same ≡ true → before ≡ false) → after ≡ cond same true before → now ≡ cond same false after → now ≡ before
+taken_back before after now true is e f = f ∙ sym (is refl)
+taken_back before after now false is e f = f ∙ e

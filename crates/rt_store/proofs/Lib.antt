@@ -1,7 +1,9 @@
+pub mod Assigned
 pub mod Beginnings
-pub mod Faults
 pub mod Fresh
 pub mod Keys
 pub mod Latest
-pub mod Sequences
+pub mod Listing
+pub mod Nodes
 pub mod Seeing
+pub mod Told

@@ -1,5 +1,5 @@
 -- What a call answers and writes, over the writes on which it stands.
-use Rattle.std.specs.Prelude.{ℕ, ◌==◌, List, [], ◌∷◌, ◌++◌, if◌then◌else◌, Option, Some, None, Result, Ok, Err}
+use Rattle.std.specs.Prelude.{◌≡◌, ℕ, ◌==◌, ◌⊎◌, List, [], ◌∷◌, ◌++◌, if◌then◌else◌, Option, Some, None, Result, Ok, Err}
 use Rattle.rt_base.specs.declared.numbers.Partition.{Partition}
 use Rattle.rt_model.specs.declared.node.Key.{Key}
 use Rattle.rt_model.specs.declared.node.Seen.{Seen}
@@ -59,3 +59,8 @@ answer_of tell call h = answer_by (refusal_of h call) (tell (written_by h call))
 
 abbrev pub after_call : Write → List Seen → List Seen
 after_call call h = after_by (refusal_of h call) h (written_by h call)
+
+-- what a write call may leave: what was there, or that and its own write, where it isn't refused
+abbrev pub Leaves : Write → List Seen → List Seen → Type 0
+Leaves call base now =
+    (now ≡ base) ⊎ ((refusal_of base call ≡ None) × (now ≡ base ++ written_by base call ∷ []))

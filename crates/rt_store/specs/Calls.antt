@@ -1,7 +1,10 @@
 -- What each call promises, by what a store means before it and after it.
-use Rattle.std.specs.Prelude.{◌≡◌, ℕ, ◌+◌, ◌<◌, ◌≤◌, List, [], ◌∷◌, drop, Bool, true, false, ◌⊎◌, Option, Some, None, Result, Ok, Err, ⊤}
+use Rattle.std.specs.Prelude.{◌≡◌, ℕ, List, ◌⊎◌, Option, Some, None, Result, Ok, Err, ⊤}
+use Rattle.rt_base.specs.declared.fault.Fault.{Fault}
+use Rattle.rt_base.specs.Faults.{fault_of, met_fault, Counts, answer_under, left_under}
 use Rattle.rt_base.specs.declared.numbers.Partition.{Partition}
 use Rattle.rt_base.specs.declared.numbers.Instance.{Instance}
+use Rattle.rt_lists.specs.Members.{IsFront}
 use Rattle.rt_model.specs.declared.node.Key.{Key}
 use Rattle.rt_model.specs.declared.node.Node.{Node}
 use Rattle.rt_model.specs.declared.node.Seen.{Seen}
@@ -11,63 +14,16 @@ use Rattle.rt_model.specs.Lawful.{Write, create, set, delete, create_after, bump
 use Rattle.rt_store.specs.declared.refused.StoreRefused.{StoreRefused}
 use Rattle.rt_store.specs.declared.refused.StoreRefused.TheVariants.{NoNode, Exists, VersionChanged, Failed, Memory}
 use Rattle.rt_store.specs.Meaning.{Told, Meaning}
-use Rattle.rt_store.specs.Seen.{Grows}
 use Rattle.rt_store.specs.Answers.{reading, listing, answer_of, after_call}
-
--- the fault that a call meets: none, one by which the call is lost, or one by which it is carried out and only
--- its answer is lost
-pub data Fault : Type 0 where
-  Nothing : Fault
-  Lost : Fault
-  Kept : Fault
-
-abbrev pub fault_by : Option Bool → Fault
-fault_by None = Nothing
-fault_by (Some true) = Kept
-fault_by (Some false) = Lost
-
--- the first planned fault, if there is one
-abbrev pub planned : List Bool → Option Bool
-planned [] = None
-planned (kept ∷ plan) = Some kept
-
--- the fault that the next call meets
-abbrev pub fault_of : List Bool → Fault
-fault_of plan = fault_by (planned plan)
-
--- what is told once the next call has met its fault
-abbrev pub met_by : Option Bool → Told → Told
-met_by None t = t
-met_by (Some kept) t = record t { plan = drop 1 t.plan; met = t.met + 1 }
-
-abbrev pub told_met : Told → Told
-told_met t = met_by (planned t.plan) t
 
 -- what is told after a call that left these writes
 abbrev pub told_after : Told → List Seen → Told
-told_after t writes = record (told_met t) { writes = writes }
+told_after t writes = record { writes = writes; faults = met_fault t.faults }
 
 -- the call met this fault and left these writes, as far as that is told
 abbrev pub Meets : Option Told → Option Told → Fault → List Seen → Type 0
 Meets None new fault writes = new ≡ None
-Meets (Some t) new fault writes = (fault ≡ fault_of t.plan) × (new ≡ Some (told_after t writes))
-
--- a fault raises the count, which never falls
-abbrev pub Counts : ℕ → ℕ → Fault → Type 0
-Counts before now Nothing = before ≤ now
-Counts before now Lost = before < now
-Counts before now Kept = before < now
-
-abbrev pub answer_under : {X : Type 0} → Fault → Result X StoreRefused → Result X StoreRefused
-answer_under Nothing answer = answer
-answer_under Lost answer = Err Failed
-answer_under Kept answer = Err Failed
-
--- the writes after a call that stands on `base`, and that would leave `after`
-abbrev pub writes_under : Fault → List Seen → List Seen → List Seen
-writes_under Nothing base after = after
-writes_under Lost base after = base
-writes_under Kept base after = after
+Meets (Some t) new fault writes = (fault ≡ fault_of t.faults.plan) × (new ≡ Some (told_after t writes))
 
 -- all writes, where they are told
 abbrev pub AreAll : Option Told → List Seen → Type 0
@@ -77,7 +33,7 @@ AreAll (Some t) base = base ≡ t.writes
 -- the writes on which a call stands: they begin with what its caller has seen, they are all where these are
 -- told, and they are a lawful history where what its caller has seen is one
 pub record Sees (old : Meaning) (base : List Seen) : Type 0 where
-  pub grows : Grows old.seen base
+  pub grows : IsFront old.seen base
   pub all : AreAll old.told base
   pub lawful : (s : Starting) → IsLawfulHistory s old.seen → IsLawfulHistory s base
 
@@ -85,8 +41,8 @@ pub record Sees (old : Meaning) (base : List Seen) : Type 0 where
 pub record Goes {X : Type 0} (old new : Meaning) (fault : Fault) (base after : List Seen) (answer result : Result X StoreRefused) : Type 0 where
   pub meets : Meets old.told new.told fault new.seen
   pub counts : Counts old.faults new.faults fault
-  pub answered : result ≡ answer_under fault answer
-  pub seen : new.seen ≡ writes_under fault base after
+  pub answered : result ≡ answer_under Failed fault answer
+  pub seen : new.seen ≡ left_under fault base after
 
 -- a call that ran out of memory: nothing is written, and no fault is met
 pub record Stays (old new : Meaning) (base : List Seen) : Type 0 where
@@ -112,10 +68,10 @@ pub record Calls {X : Type 0} (old new : Meaning) (answer : List Seen → Result
 
 -- what a call answers over a store that tells everything, and what that tells after it
 abbrev pub answer_on : {X : Type 0} → Told → (List Seen → Result X StoreRefused) → Result X StoreRefused
-answer_on t answer = answer_under (fault_of t.plan) (answer t.writes)
+answer_on t answer = answer_under Failed (fault_of t.faults.plan) (answer t.writes)
 
 abbrev pub told_on : Told → (List Seen → List Seen) → Told
-told_on t after = told_after t (writes_under (fault_of t.plan) t.writes (after t.writes))
+told_on t after = told_after t (left_under (fault_of t.faults.plan) t.writes (after t.writes))
 
 -- the call has that one answer and leaves that, but that memory may run out, and then all is as before
 abbrev pub IsExact :

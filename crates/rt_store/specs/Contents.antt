@@ -19,4 +19,4 @@ starting_of setup =
 
 -- a fresh store: the starting contents, and no planned fault
 abbrev pub fresh : Setup → Told
-fresh setup = record { writes = starting_contents (starting_of setup); plan = []; met = 0 }
+fresh setup = record { writes = starting_contents (starting_of setup); faults = record { plan = []; met = 0 } }

@@ -5,4 +5,4 @@ pub mod Index
 pub mod Meaning
 pub mod Memory
 pub mod Order
-pub mod Seen
+pub mod Outcome

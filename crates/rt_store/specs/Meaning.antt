@@ -1,13 +1,12 @@
 -- What a store means.
-use Rattle.std.specs.Prelude.{ℕ, Bool, List, Option}
+use Rattle.std.specs.Prelude.{ℕ, List, Option}
+use Rattle.rt_base.specs.Faults.{Planned}
 use Rattle.rt_model.specs.declared.node.Seen.{Seen}
 
--- all writes, the faults that are planned, in order (true where the call is carried out first), and how many
--- were met
+-- all writes, and the faults that are planned
 pub record Told : Type 0 where
   pub writes : List Seen
-  pub plan : List Bool
-  pub met : ℕ
+  pub faults : Planned
 
 pub record Meaning : Type 0 where
   -- everything, where it is told

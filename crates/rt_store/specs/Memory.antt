@@ -7,11 +7,14 @@ use Rattle.rt_model.specs.Lawful.{write_of}
 use Rattle.rt_store.specs.declared.refused.StoreRefused.{StoreRefused}
 use Rattle.rt_store.specs.declared.refused.StoreRefused.TheVariants.{NoNode, Exists, VersionChanged, Failed, Memory}
 use Rattle.rt_store.specs.Meaning.{Told, Meaning}
-use Rattle.rt_store.specs.Calls.{Fault, Nothing, Lost, Kept, fault_of, told_after, answer_under, writes_under}
+use Rattle.rt_base.specs.declared.fault.Fault.{Fault}
+use Rattle.rt_base.specs.declared.fault.Fault.TheVariants.{Nothing, Lost, Kept}
+use Rattle.rt_base.specs.Faults.{fault_of, answer_under, left_under}
+use Rattle.rt_store.specs.Calls.{told_after}
 
 -- it tells everything, and whoever calls it sees all writes
 abbrev pub means : Told → Meaning
-means t = record { told = Some t; seen = t.writes; faults = t.met }
+means t = record { told = Some t; seen = t.writes; faults = t.faults.met }
 
 -- a key is written
 abbrev pub with_write : Told → Key → Node → Told
@@ -25,8 +28,8 @@ refusal_under Kept refused = Failed
 
 -- a call that writes this node
 pub record WritesOnce (old new : Told) (k : Key) (n : Node) (result : Result ℕ StoreRefused) : Type 0 where
-  pub answered : result ≡ answer_under (fault_of old.plan) (Ok (next_version old.writes k))
-  pub told : new ≡ told_after old (writes_under (fault_of old.plan) old.writes (old.writes ++ write_of old.writes k n ∷ []))
+  pub answered : result ≡ answer_under Failed (fault_of old.faults.plan) (Ok (next_version old.writes k))
+  pub told : new ≡ told_after old (left_under (fault_of old.faults.plan) old.writes (old.writes ++ write_of old.writes k n ∷ []))
 
 -- the same, but that memory may run out, after which all is as before
 abbrev pub WritesAs : Told → Told → Key → Node → Result ℕ StoreRefused → Type 0

@@ -1,4 +1,5 @@
-ghost use Rattle.std.specs.Prelude.{◌≡◌, ◌≤◌, ◌++◌, [], IfOk, OnOk};
+ghost use Rattle.std.specs.Prelude.{◌≡◌, ◌++◌, [], IfOk, OnOk};
+ghost use Rattle.rt_model.specs.Setup.{IsSetup};
 ghost use Rattle.rt_model.specs.Starting.{starting_boots, starting_metas, starting_entries};
 ghost use Rattle.rt_store.specs.Contents.{starting_of, fresh};
 
@@ -13,11 +14,9 @@ use std::alloc::{AllocError, Global};
 impl MemoryStore {
     /// The store of a fresh cluster: the boot node of each server, the first segment of each partition, in progress
     /// from offset 0, and the ideal state with these segments CONSUMING on their assigned instances. No fault is
-    /// planned. The setup's start is at most 253,402,300,799,999.
+    /// planned. The setup is one within the limits.
     pub fn make(alloc: Global, setup: &Setup) -> Result<Self, AllocError>
-        requires moment { setup.now.start.0 ≤ 253402300799999 }
-        requires some { 1 ≤ setup.now.table.replication }
-        requires enough { setup.now.table.replication ≤ setup.now.servers }
+        requires { IsSetup setup.now }
         ensures { IfOk result (λ store. store ≡ fresh setup.now) }
     {
         let mut store = MemoryStore::empty(alloc);
@@ -44,7 +43,7 @@ fn add_boot_nodes(store: &mut MemoryStore, servers: u32) -> Result<(), AllocErro
 /// Adds the first segment of each partition.
 #[tactic(auto, using(crate::proofs::Fresh::metas_more))]
 fn add_first_nodes(alloc: Global, store: &mut MemoryStore, setup: &Setup) -> Result<(), AllocError>
-    requires moment { setup.now.start.0 ≤ 253402300799999 }
+    requires setup { IsSetup setup.now }
     requires boots { store.old.writes ≡ starting_boots setup.now.servers }
     ensures { OnOk result (store.new ≡ record store.old {
       writes = starting_boots setup.now.servers
@@ -63,8 +62,7 @@ fn add_first_nodes(alloc: Global, store: &mut MemoryStore, setup: &Setup) -> Res
 /// The first ideal state: the first segment of each partition CONSUMING on the instances that it is assigned to.
 #[tactic(auto, using(crate::proofs::Fresh::entries_more))]
 fn first_state(alloc: Global, setup: &Setup) -> Result<IdealState, AllocError>
-    requires some { 1 ≤ setup.now.table.replication }
-    requires enough { setup.now.table.replication ≤ setup.now.servers }
+    requires { IsSetup setup.now }
     ensures { IfOk result (λ state.
         state.entries ≡ starting_entries (starting_of setup.now) setup.now.partitions) }
 {

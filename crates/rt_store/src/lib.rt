@@ -6,18 +6,22 @@
 #![tactic(auto)]
 
 mod contents;
+mod index;
 mod laws;
 mod memory_store;
 mod refused;
 mod store;
+mod told_laws;
 
 pub use laws::{
-    a_history_has_one_beginning, answers_were_seen, calls_of_a_told_store_are_exact,
-    lawful_calls_keep_the_history_lawful, refusals_are_of_no_effect, what_was_seen_stays_seen,
+    a_cluster_starts_assigned, a_history_has_one_beginning, answered_writes_stand_last,
+    answers_were_seen, calls_of_a_told_store_are_exact, lawful_calls_keep_the_history_lawful,
+    refusals_are_of_no_effect, what_was_seen_stays_seen,
 };
 pub use memory_store::MemoryStore;
 pub use refused::StoreRefused;
 pub use store::Store;
-
-#[cfg(test)]
-mod tests;
+pub use told_laws::{
+    a_fault_raises_the_count, a_refusal_writes_nothing, what_told_answers_show,
+    what_told_calls_leave,
+};

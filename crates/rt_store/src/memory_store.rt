@@ -12,16 +12,15 @@ ghost use Rattle.std.specs.Prelude.{
   OnOk,
   OnErr,
   option_copied,
+  option_to_list,
   slice_get,
 };
 ghost use Rattle.rt_model.specs.History.{value_of, value_by, last_write, next_version};
 ghost use Rattle.rt_model.specs.Lawful.{write_of};
-ghost use Rattle.rt_model.specs.Metadata.{metadata_of, sequences_of, past_key, listed_in, listed_by, node_key};
+ghost use Rattle.rt_model.specs.Metadata.{metadata_of, listed_in, listed_by, node_key};
 ghost use Rattle.rt_store.specs.Answers.{change_in, presence_in};
+ghost use Rattle.rt_base.specs.Faults.{fault_of, met_fault};
 ghost use Rattle.rt_store.specs.Calls.{
-  planned,
-  told_met,
-  fault_of,
   Reads,
   Lists,
   Creates,
@@ -30,33 +29,22 @@ ghost use Rattle.rt_store.specs.Calls.{
   CreatesAfter,
   Bumps,
 };
-ghost use Rattle.rt_store.specs.Order.{past_nodes, IsSmall};
 ghost use Rattle.rt_store.specs.Memory.{means, with_write, refusal_under, WritesAs};
 
+use crate::index::{Index, Latest};
 use crate::{Store, StoreRefused};
-use rt_base::{Instance, Partition, Sequence};
+use rt_base::{Fault, Instance, Partition, PlannedFaults, Sequence};
 use rt_lists::{Copied, Items};
 use rt_model::{Key, Listed, Node, Seen, SeenMeta};
 use std::alloc::{AllocError, Global};
-use std::collections::BTreeMap;
 use std::marker::Model;
-
-/// The last write of a key: its version, and its place in the list of all writes.
-#[derive(Clone, Copy)]
-struct Latest {
-    version: u64,
-    place: usize,
-}
 
 /// A store in memory, whose faults are planned.
 #[derive(Drop)]
 pub struct MemoryStore {
     writes: Vec<Seen>,
-    latest: BTreeMap<Key, Latest>,
-    /// Every fault that was ever planned: true where the call is carried out first.
-    faults: Vec<bool>,
-    /// How many of them were met.
-    met: usize,
+    index: Index,
+    faults: PlannedFaults,
 }
 
 impl Model for MemoryStore {
@@ -64,25 +52,23 @@ impl Model for MemoryStore {
 
     ghost Value = { Told };
 
-    ghost use Rattle.std.specs.Prelude.{drop, length, ◌≤◌};
     ghost use Rattle.rt_store.specs.Index.{IsIndex};
 
-    ghost view = { λ a. record { writes = a.writes.items; plan = drop a.met a.faults.items; met = a.met } };
+    ghost view = { λ a. record { writes = a.writes.items; faults = a.faults } };
 
-    ghost invariant = { λ a. IsIndex a.writes.items a.latest × (a.met ≤ length a.faults.items) };
+    ghost invariant = { λ a. IsIndex a.writes.items a.index };
 }
 
 impl MemoryStore {
     /// A store without any write.
     #[tactic(auto, using(crate::proofs::Latest::index_empty))]
     pub(crate) fn empty(alloc: Global) -> Self
-        ensures { result ≡ record { writes = []; plan = []; met = 0 } }
+        ensures { result ≡ record { writes = []; faults = record { plan = []; met = 0 } } }
     {
         MemoryStore {
             writes: Vec::new(alloc),
-            latest: BTreeMap::new(alloc),
-            faults: Vec::new(alloc),
-            met: 0,
+            index: Index::new(alloc),
+            faults: PlannedFaults::make(alloc),
         }
     }
 
@@ -96,35 +82,17 @@ impl MemoryStore {
     /// Plans a fault for the first call that has none planned before it. A kept one carries a write that is not
     /// refused out first, a lost one doesn't.
     pub fn plan_fault(&mut self, kept: bool) -> Result<(), AllocError>
-        ensures ok { OnOk result (self.new ≡ record self.old { plan = self.old.plan ++ kept ∷ [] }) }
+        ensures ok { OnOk result (self.new ≡ record self.old { faults = record self.old.faults { plan = self.old.faults.plan ++ kept ∷ [] } }) }
         ensures err { OnErr result (self.new ≡ self.old) }
     {
-        self.faults.push(kept)?;
-        Ok(())
-    }
-
-    /// The fault that the next call meets.
-    fn next_fault(&self) -> Option<bool>
-        ensures { result ≡ planned self.now.plan }
-    {
-        self.faults.get(self.met).copied()
-    }
-
-    /// Counts the fault that a call meets.
-    #[tactic(auto, using(crate::proofs::Faults::told_more, crate::proofs::Faults::told_none))]
-    fn meet_fault(&mut self)
-        ensures { self.new ≡ told_met self.old }
-    {
-        if self.met < self.faults.len() {
-            self.met += 1;
-        }
+        self.faults.plan(kept)
     }
 
     /// The last write of a key, a deletion among them.
     fn last_write(&self, key: Key) -> Option<&Seen>
         ensures { option_copied result ≡ last_write self.now.writes key }
     {
-        match self.latest.get(&key) {
+        match self.index.latest(key) {
             Some(latest) => self.writes.get(latest.place),
             None => None,
         }
@@ -170,7 +138,7 @@ impl MemoryStore {
     fn next_version(&self, key: Key) -> u64
         ensures { result ≡ next_version self.now.writes key }
     {
-        match self.latest.get(&key) {
+        match self.index.latest(key) {
             Some(latest) => latest.version + 1,
             None => 0,
         }
@@ -193,27 +161,11 @@ impl MemoryStore {
     {
         let version = self.next_version(key);
         let place = self.writes.len();
-        self.writes.push(Seen { key, version, node })?;
-        match self.latest.insert(key, Latest { version, place }) {
-            Ok(_) => Ok(version),
-            Err(_) => {
-                let _ = self.writes.pop();
-                Err(AllocError)
-            }
-        }
-    }
-
-    /// One past the highest sequence of a partition that was ever written, or 0.
-    fn sequences(&self, partition: Partition) -> u64
-        ensures within { result ≤ 4294967296 }
-        ensures count { result ≡ sequences_of self.now.writes partition }
-    {
-        let first = Key::Meta(partition, Sequence(0));
-        let mut nodes = self.latest.range(first..past_nodes(partition));
-        match nodes.next_back() {
-            Some((last, _)) => past_key(last, partition),
-            None => 0,
-        }
+        self.writes.reserve(1)?;
+        let latest = Latest { version, place };
+        self.index.note(key, latest, &node)?;
+        self.writes.push_reserved(Seen { key, version, node });
+        Ok(version)
     }
 
     /// The metadata nodes of a partition that are there, by sequence.
@@ -221,12 +173,29 @@ impl MemoryStore {
         ensures { IfOk result (λ nodes. nodes ≡ metadata_of self.now.writes partition) }
     {
         let mut nodes = Items::new(alloc);
-        for number in 0..self.sequences(partition) {
-            if let Some(node) = self.listed(alloc, partition, Sequence(number as u32))? {
-                nodes.push(node)?;
-            }
+        let mut next = self.index.first_node(partition);
+        while let Some(sequence) = next {
+            self.add_node(alloc, partition, sequence, &mut nodes)?;
+            next = self.index.node_after(partition, sequence);
         }
         Ok(nodes)
+    }
+
+    /// Adds a metadata node to a list, if it is there.
+    fn add_node(
+        &self,
+        alloc: Global,
+        partition: Partition,
+        sequence: Sequence,
+        nodes: &mut Items<Listed>,
+    ) -> Result<(), AllocError>
+        ensures { OnOk result (nodes.new
+            ≡ nodes.old ++ option_to_list (listed_in sequence.0 (value_of self.now.writes (node_key partition sequence.0)))) }
+    {
+        if let Some(node) = self.listed(alloc, partition, sequence)? {
+            nodes.push(node)?;
+        }
+        Ok(())
     }
 
     /// A metadata node as it is listed, if it is there.
@@ -249,29 +218,24 @@ impl MemoryStore {
     fn write(&mut self, alloc: Global, key: Key, node: &Node) -> Result<u64, StoreRefused>
         ensures { WritesAs self.old self.new key node.now result }
     {
-        match self.next_fault() {
-            None => Ok(self.carry_out(alloc, key, node)?),
-            Some(kept) => {
-                if kept {
-                    self.carry_out(alloc, key, node)?;
-                }
-                self.meet_fault();
-                Err(StoreRefused::Failed)
+        match self.faults.next() {
+            Fault::Nothing => Ok(self.carry_out(alloc, key, node)?),
+            Fault::Lost => Err(self.refuse(StoreRefused::Failed)),
+            Fault::Kept => {
+                self.carry_out(alloc, key, node)?;
+                Err(self.refuse(StoreRefused::Failed))
             }
         }
     }
 
     /// Does a call that is refused, under the fault that it meets.
     fn refuse(&mut self, refused: StoreRefused) -> StoreRefused
-        ensures answered { result ≡ refusal_under (fault_of self.old.plan) refused }
-        ensures told { self.new ≡ told_met self.old }
+        ensures answered { result ≡ refusal_under (fault_of self.old.faults.plan) refused }
+        ensures told { self.new ≡ record self.old { faults = met_fault self.old.faults } }
     {
-        match self.next_fault() {
-            None => refused,
-            Some(_) => {
-                self.meet_fault();
-                StoreRefused::Failed
-            }
+        match self.faults.meet() {
+            Fault::Nothing => refused,
+            Fault::Lost | Fault::Kept => StoreRefused::Failed,
         }
     }
 }
@@ -285,8 +249,7 @@ impl Store for MemoryStore {
     fn read(&mut self, alloc: Global, key: Key) -> Result<Seen, StoreRefused>
         ensures { Reads (means self.old) (means self.new) key result }
     {
-        if self.next_fault().is_some() {
-            self.meet_fault();
+        if self.faults.meet() != Fault::Nothing {
             return Err(StoreRefused::Failed);
         }
         match self.value(key) {
@@ -298,8 +261,7 @@ impl Store for MemoryStore {
     fn list(&mut self, alloc: Global, partition: Partition) -> Result<Items<Listed>, StoreRefused>
         ensures { Lists (means self.old) (means self.new) partition result }
     {
-        if self.next_fault().is_some() {
-            self.meet_fault();
+        if self.faults.meet() != Fault::Nothing {
             return Err(StoreRefused::Failed);
         }
         Ok(self.metadata(alloc, partition)?)
@@ -369,36 +331,6 @@ fn unless_gone(seen: &Seen) -> Option<&Seen>
     match seen.node {
         Node::Gone => None,
         _ => Some(seen),
-    }
-}
-
-/// The key after all metadata nodes of a partition.
-fn past_nodes(partition: Partition) -> Key
-    ensures { result ≡ past_nodes partition }
-{
-    if partition.0 == u32::MAX {
-        Key::Ideal
-    } else {
-        Key::Meta(Partition(partition.0 + 1), Sequence(0))
-    }
-}
-
-/// One past the sequence of a key, if it is one of the partition's metadata; else 0.
-fn past_key(key: &Key, partition: Partition) -> u64
-    ensures small { IsSmall key.now }
-    ensures within { result ≤ 4294967296 }
-    ensures past { result ≡ past_key partition key.now }
-{
-    match key {
-        Key::Meta(other, sequence) => {
-            if other.0 == partition.0 {
-                u64::from(sequence.0) + 1
-            } else {
-                0
-            }
-        }
-        Key::Ideal => 0,
-        Key::Boot(_) => 0,
     }
 }
 

@@ -6,15 +6,19 @@ use crate::Message;
 use rt_base::{Offset, Partition};
 use rt_lists::Items;
 use std::alloc::{AllocError, Global};
+use thiserror::Error;
 
 /// Why a call of the stream was refused.
-#[derive(Clone, Copy, Debug, PartialEq, Eq)]
+#[derive(Clone, Copy, Debug, PartialEq, Eq, Error)]
 pub enum FeedRefused {
-    /// 1: the partition isn't below the number of partitions.
+    /// The partition isn't below the number of partitions.
+    #[error("no partition has this number")]
     NoPartition,
-    /// 2: the offset lies past the end of the partition's log.
+    /// The offset lies past the end of the partition's log.
+    #[error("offset {} lies past the end, {}", .from.0, .length.0)]
     PastEnd { from: Offset, length: Offset },
     /// Memory ran out.
+    #[error("out of memory")]
     Memory,
 }
 

@@ -2,14 +2,13 @@
 #![tactic(auto)]
 
 mod feed;
+mod laws;
 mod message;
 mod page;
 mod partition_log;
 mod stream_log;
 
 pub use feed::{Feed, FeedRefused};
+pub use laws::a_log_only_grows;
 pub use message::{MESSAGE_LIMIT, Message};
 pub use stream_log::StreamLog;
-
-#[cfg(test)]
-mod tests;

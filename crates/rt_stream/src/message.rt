@@ -1,11 +1,12 @@
 ghost use Rattle.std.specs.Prelude.{◌≡◌, ◌≤◌, ◌↔◌, [], length, IfOk, IsTrue};
 
+use rt_base::limits::LONGEST_MESSAGE;
 use rt_lists::{Bytes, Copied};
 use std::alloc::{AllocError, Global};
 use std::marker::Model;
 
 /// The greatest number of bytes of a message.
-pub const MESSAGE_LIMIT: usize = 65_536;
+pub const MESSAGE_LIMIT: usize = LONGEST_MESSAGE;
 
 /// A message of the stream: at most `MESSAGE_LIMIT` bytes; contracts see it as the list of them.
 #[derive(Drop)]

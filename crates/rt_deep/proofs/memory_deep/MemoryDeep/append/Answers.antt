@@ -21,5 +21,4 @@ invariant_of-self-in-Ok c =
           (c.len-place.ensures ∙ c.self.inside.files.ok.0)
           c.in-Ok.ensures.updates,
       subst AreOnce (sym items) (once_more files put c.self.invariant.1 free),
-      c.self.invariant.2,
     )
