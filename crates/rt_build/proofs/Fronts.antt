@@ -8,11 +8,11 @@ use Rattle.std.proofs.lemmas.List.Sums.{fold-append}
 use Rattle.std.proofs.lemmas.List.Folds.{list_any_at, Any-from_list_any}
 use Rattle.std.proofs.lemmas.List.Elements.{All-from_recursion}
 use Rattle.std.proofs.lemmas.Option.{slice_get-get_or, slice_get_within, get_or_from_slice_get, slice_get-map, same_Some}
-use Rattle.rt_dict.specs.Values.{AreDistinctValues}
+use Rattle.rt_dict.specs.Values.{AreDistinctValues, AreIdsOf}
 use Rattle.rt_mutable.specs.Arrivals.{arrive, arrivals_of, id_among, ids_of}
 use Rattle.rt_mutable.proofs.Arriving.{AreAmong, kept_one, id_kept, arrived_one, id_arrived, among_arrivals, found, id_within, came, value_of_row, length_arrivals}
 use Rattle.rt_mutable.proofs.RowNumbers.{count_known, count_next}
-use Rattle.rt_build.specs.Renumbered.{next_id, renumbered, AreIdsOf, AreSorted}
+use Rattle.rt_build.specs.Renumbered.{next_id, renumbered, AreSorted}
 
 pub contains_found : {X : Type 0} (xs : List X) (i : ℕ) (x : X) → slice_get xs i ≡ Some x → Contains xs x
 contains_found xs i x h = (i, slice_get_within xs i x h, get_or_from_slice_get xs i x x h)

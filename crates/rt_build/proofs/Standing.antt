@@ -7,12 +7,13 @@ use Rattle.std.proofs.lemmas.Option.{slice_get_within, get_or_from_slice_get, sl
 use Rattle.rt_schema.specs.declared.value.Value.{Value}
 use Rattle.rt_schema.specs.declared.value.Value.TheVariants as value
 use Rattle.rt_dict.specs.Order.{IsStrictOrder}
+use Rattle.rt_dict.specs.Values.{AreIdsOf}
 use Rattle.rt_dict.proofs.Ascending.{same_id}
 use Rattle.rt_mutable.specs.Consuming.{IsShort}
 use Rattle.rt_segment.specs.declared.dictionary.Dictionary.{Dictionary}
 use Rattle.rt_segment.specs.declared.dictionary.Dictionary.TheVariants.{Int, Long, Text, Bool as Truth, Time}
 use Rattle.rt_segment.specs.Column.{count_in, values_in, AreShort}
-use Rattle.rt_build.specs.Renumbered.{AreIdsOf, AreSorted}
+use Rattle.rt_build.specs.Renumbered.{AreSorted}
 use Rattle.rt_build.proofs.Fronts.{found_contains}
 
 head_of : {X : Type 0} (x y : X) (xs ys : List X) → x ∷ xs ≡ y ∷ ys → x ≡ y

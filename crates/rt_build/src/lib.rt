@@ -8,7 +8,5 @@ mod sealed_columns;
 mod sealing;
 mod sorted;
 mod sorted_values;
-#[cfg(test)]
-mod tests;
 
 pub use sealing::{seal, seal_as};

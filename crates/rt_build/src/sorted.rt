@@ -1,5 +1,5 @@
-ghost use Rattle.std.specs.Prelude.{◌≡◌, ◌≤◌, ◌<◌, ◌^◌, ℕ, All, Contains, length, take, IfOk};
-ghost use Rattle.rt_build.specs.Renumbered.{next_id, renumbered, AreIdsOf, AreSorted};
+ghost use Rattle.std.specs.Prelude.{◌≡◌, ◌≤◌, ◌<◌, ◌^◌, ℕ, All, length, take, IfOk};
+ghost use Rattle.rt_build.specs.Renumbered.{next_id, renumbered, AreSorted};
 
 use rt_dict::{Dict, Key};
 use rt_lists::Items;
@@ -24,10 +24,12 @@ pub(crate) fn sort_values<K: ColumnKey>(
 {
     let ids = &arrivals.ids()[..rows as usize];
     let keys = &arrivals.keys()[..count_used(ids)];
-    let dictionary = Dict::build(alloc, keys)?;
-    let table = new_ids(alloc, &dictionary, keys)?;
-    let ids = renumber(alloc, &table, ids)?;
-    Ok(Sorted { dictionary, ids })
+    let identified = Dict::identify(alloc, keys)?;
+    let ids = renumber(alloc, identified.ids.as_slice(), ids)?;
+    Ok(Sorted {
+        dictionary: identified.dictionary,
+        ids,
+    })
 }
 
 /// How many distinct values the ids stand for.
@@ -39,21 +41,6 @@ fn count_used(ids: &[u32]) -> usize
         next = next.max(*id as usize + 1);
     }
     next
-}
-
-/// The id of each key in a dictionary that has them all.
-fn new_ids<K: Key>(alloc: Global, dictionary: &Dict<K>, keys: &[K]) -> Result<Vec<u32>, AllocError>
-    requires { (key : K) → Contains keys.now key → Contains dictionary.now key }
-    ensures { IfOk result (λ ids. AreIdsOf dictionary.now keys.now ids.items) }
-{
-    let mut ids = Vec::with_capacity(alloc, keys.len())?;
-    for key in keys {
-        match dictionary.id_of(key) {
-            Some(id) => ids.push(id)?,
-            None => unreachable!(),
-        }
-    }
-    Ok(ids)
 }
 
 /// Each id as the table has it.

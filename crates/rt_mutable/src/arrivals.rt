@@ -1,8 +1,9 @@
 ghost use Rattle.std.specs.Prelude.{◌≡◌, ◌<◌, ◌-◌, [], ◌∷◌, ◌++◌, Some, length, take, slice_get, position, IfOk, OnOk, OnErr};
 ghost use Rattle.rt_mutable.specs.Arrivals.{arrive, arrivals_of, id_among, ids_of, unless_used};
 
-use crate::{ColumnKey, ROW_LIMIT};
+use crate::ColumnKey;
 use indexmap::IndexSet;
+use rt_base::limits::MOST_ROWS;
 use std::alloc::{AllocError, Global};
 use std::marker::Model;
 
@@ -79,7 +80,7 @@ impl<K: ColumnKey> Arrivals<K> {
 
     /// Adds a row with a value, and answers the value's id. Where memory is refused, all is as before.
     pub(crate) fn push(&mut self, alloc: Global, key: &K) -> Result<u32, AllocError>
-        requires { length self.old < ROW_LIMIT }
+        requires { length self.old < MOST_ROWS }
         ensures values { OnOk result (self.new ≡ self.old ++ key.now ∷ []) }
         ensures id { IfOk result (λ id. id ≡ id_among K.eq (arrivals_of K.eq self.new) key.now) }
         ensures err { OnErr result (self.new ≡ self.old) }

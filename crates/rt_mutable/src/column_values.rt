@@ -4,7 +4,8 @@ ghost use Rattle.rt_schema.specs.declared.value.Value.TheVariants.{Int, Long, Ti
 ghost use Rattle.rt_mutable.specs.Arrivals.{arrivals_of, id_among, ids_of};
 ghost use Rattle.rt_mutable.specs.Column.{same_value, values_in, kind_in};
 
-use crate::{Arrivals, ROW_LIMIT};
+use crate::Arrivals;
+use rt_base::limits::MOST_ROWS;
 use rt_dict::Key;
 use rt_lists::Text;
 use rt_schema::{Kind, Value};
@@ -135,7 +136,7 @@ impl ColumnValues {
     /// Adds a row with a value, and answers the value's id. Where memory is refused, all is as before.
     pub(crate) fn push(&mut self, alloc: Global, value: &Value) -> Result<u32, AllocError>
         requires kind { kind_of value.now ≡ kind_in self.old }
-        requires room { length (values_in self.old) < ROW_LIMIT }
+        requires room { length (values_in self.old) < MOST_ROWS }
         ensures kind { kind_in self.new ≡ kind_in self.old }
         ensures values { OnOk result (values_in self.new ≡ values_in self.old ++ value.now ∷ []) }
         ensures id { IfOk result (λ id. id ≡ id_among same_value (arrivals_of same_value (values_in self.new)) value.now) }

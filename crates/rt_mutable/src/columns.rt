@@ -4,7 +4,8 @@ ghost use Rattle.rt_schema.specs.Schema.{is_among};
 ghost use Rattle.rt_schema.specs.Value.{kind_of};
 ghost use Rattle.rt_mutable.specs.Columns.{cell_at, empty_column, with_values, without_last};
 
-use crate::{MutableColumn, ROW_LIMIT};
+use crate::MutableColumn;
+use rt_base::limits::MOST_ROWS;
 use rt_lists::{Items, Text};
 use rt_schema::{Column, Value};
 use std::alloc::{AllocError, Global};
@@ -45,7 +46,7 @@ pub(crate) fn index_values(
     values: &[Value],
 ) -> Result<(), AllocError>
     requires kinds { map kind_of values.now ≡ map (λ column. column.shape.kind) columns.old }
-    requires room { All (λ column. length column.values < ROW_LIMIT) columns.old }
+    requires room { All (λ column. length column.values < MOST_ROWS) columns.old }
     ensures ok { OnOk result (columns.new ≡ with_values columns.old values.now) }
     ensures err { OnErr result (columns.new ≡ columns.old) }
 {

@@ -13,12 +13,10 @@ mod laws;
 mod mutable_column;
 mod mutable_segment;
 mod row_lists;
-#[cfg(test)]
-mod tests;
 
 pub use arrivals::Arrivals;
 pub use column_key::ColumnKey;
 pub use column_values::ColumnValues;
 pub use laws::{ids_lead_to_values, rows_of_a_schema_fit};
 pub use mutable_column::MutableColumn;
-pub use mutable_segment::{MutableSegment, ROW_LIMIT};
+pub use mutable_segment::MutableSegment;

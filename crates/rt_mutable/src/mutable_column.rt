@@ -4,8 +4,9 @@ ghost use Rattle.rt_mutable.specs.Arrivals.{arrivals_of, ids_of};
 ghost use Rattle.rt_mutable.specs.Column.{same_value, values_in, kind_in};
 ghost use Rattle.rt_mutable.specs.RowLists.{numbers_where};
 
+use crate::ColumnValues;
 use crate::row_lists::{RowLists, forget_row, note_row, rows_at};
-use crate::{ColumnValues, ROW_LIMIT};
+use rt_base::limits::MOST_ROWS;
 use rt_lists::{Items, Text};
 use rt_schema::{Kind, Value};
 use std::alloc::{AllocError, Global};
@@ -126,7 +127,7 @@ impl MutableColumn {
     /// Adds a row with a value. Where memory is refused, all is as before.
     pub(crate) fn index(&mut self, alloc: Global, value: &Value) -> Result<(), AllocError>
         requires kind { kind_of value.now ≡ self.old.shape.kind }
-        requires room { length self.old.values < ROW_LIMIT }
+        requires room { length self.old.values < MOST_ROWS }
         ensures ok { OnOk result (self.new ≡ record self.old { values = self.old.values ++ value.now ∷ [] }) }
         ensures err { OnErr result (self.new ≡ self.old) }
     {

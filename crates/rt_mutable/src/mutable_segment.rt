@@ -9,13 +9,11 @@ ghost use Rattle.rt_mutable.specs.RowLists.{numbers_where};
 use crate::MutableColumn;
 use crate::columns::{empty_columns, index_values, values_of_row};
 use rt_base::Offset;
+use rt_base::limits::MOST_ROWS;
 use rt_lists::{Items, Text};
 use rt_schema::{Row, Schema, Value};
 use std::alloc::{AllocError, Global};
 use std::marker::Model;
-
-/// The greatest number of rows of a segment.
-pub const ROW_LIMIT: usize = 1_000_000;
 
 /// The rows of a consuming segment, each with its message's offset.
 ///
@@ -140,7 +138,7 @@ impl MutableSegment {
     /// Takes the message at the end: its row, or None where it is undecodable. Where memory is
     /// refused, all is as before.
     pub fn index(&mut self, alloc: Global, row: Option<&Row>) -> Result<(), AllocError>
-        requires rows { length self.old.rows < ROW_LIMIT }
+        requires rows { length self.old.rows < MOST_ROWS }
         requires end { self.old.end.0 < 2 ^ 64 - 1 }
         requires fits { IfSome row (λ row. FitsColumns self.old.columns row.now) }
         requires short { IfSome row (λ row. All IsShort row.now.values) }

@@ -9,3 +9,5 @@ pub mod DictionaryLaws
 pub mod ColumnLaws
 pub mod FileLaws
 pub mod OneTable
+pub mod Cuts
+pub mod Sizes

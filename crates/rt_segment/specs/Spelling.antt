@@ -1,5 +1,5 @@
 -- The file of a sealed segment.
-use Rattle.std.specs.Prelude.{ℕ, ◌-◌, ℤ, Bool, true, false, ◌&&◌, ◌==◌, List, [], ◌∷◌, ◌++◌, length, codes, nat_lt, Option, Some, None, slice_get, if◌then◌else◌}
+use Rattle.std.specs.Prelude.{ℕ, ◌-◌, min, ℤ, Bool, true, false, ◌&&◌, ◌==◌, List, [], ◌∷◌, ◌++◌, length, codes, nat_lt, Option, Some, None, slice_get, if◌then◌else◌}
 use Rattle.std.specs.Int.{w16, w32, w64, to_be_bytes, cast_unsigned}
 use Rattle.std.specs.List.{flat_map}
 use Rattle.sha2.specs.Sha256.{sha256}
@@ -50,6 +50,10 @@ dictionary_bytes extremes (Long zs) = values_spelled long_bytes extremes zs
 dictionary_bytes extremes (Text ts) = values_spelled text_bytes extremes ts
 dictionary_bytes extremes (Truth bs) = values_spelled bool_bytes extremes bs
 dictionary_bytes extremes (Time zs) = values_spelled long_bytes extremes zs
+
+-- a number of bytes, or the greatest number of 64 bits
+abbrev pub capped : ℕ → ℕ
+capped n = min n 18446744073709551615
 
 -- ---- columns
 

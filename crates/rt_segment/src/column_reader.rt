@@ -12,12 +12,10 @@ use crate::segment_column::SegmentColumn;
 use crate::segment_refused::SegmentRefused;
 use crate::stored::Stored;
 use crate::texts::text_of;
+use rt_base::limits::LONGEST_NAME;
 use rt_lists::{Items, Text};
 use rt_schema::Kind;
 use std::alloc::Global;
-
-/// The greatest length of a column's name, in bytes.
-const MAX_NAME: u16 = 128;
 
 /// A column of so many rows, which has another name than those before it.
 #[tactic(auto, unfolding(crate::specs::Reading::column_at))]
@@ -82,7 +80,7 @@ fn read_name(
 {
     let wrong = cursor.breach();
     let len = cursor.short()?;
-    if len > MAX_NAME {
+    if usize::from(len) > LONGEST_NAME {
         return Err(SegmentRefused::Limit);
     }
     if len == 0 {

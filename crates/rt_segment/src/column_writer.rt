@@ -42,7 +42,8 @@ fn write_column(
     ensures written { OnOk result (out.new.items ≡ out.old.items ++ column_bytes format column.now) }
     ensures column { OnOk result (IsColumn column.now) }
 {
-    out.reserve(column.size())?;
+    let numbers = column.ids().len().saturating_mul(8);
+    out.reserve(column.size().saturating_add(numbers))?;
     write_head(column, out)?;
     write_dictionary(column.dictionary(), has_extremes(format, rows), out)?;
     write_ids(alloc, column, out)?;

@@ -1,5 +1,7 @@
-ghost use Rattle.std.specs.Prelude.{◌≡◌, ◌<◌, IfOk, Some, slice_get};
+ghost use Rattle.std.specs.Prelude.{◌≡◌, ◌<◌, IfOk, Some, false, length, slice_get};
+ghost use Rattle.std.specs.List.{flat_map};
 ghost use Rattle.rt_segment.specs.Column.{kind_in, count_in, values_in, AreValues, IsDictionary};
+ghost use Rattle.rt_segment.specs.Spelling.{capped, dictionary_bytes};
 
 use crate::stored::Stored;
 use rt_dict::Dict;
@@ -72,9 +74,11 @@ impl Dictionary {
         }
     }
 
-    /// About how many bytes the values take in a file.
+    /// How many bytes the values take in a file, without their extremes.
+    #[tactic(auto, using(crate::proofs::Sizes::no_extremes))]
     pub(crate) fn size(&self) -> usize
-        ensures { IsDictionary self.now }
+        ensures size { result ≡ capped (length (dictionary_bytes false self.now)) }
+        ensures values { IsDictionary self.now }
     {
         match self {
             Dictionary::Int(dict) => size_of(dict),
@@ -86,9 +90,10 @@ impl Dictionary {
     }
 }
 
-// About how many bytes the values take in a file.
+// How many bytes the values take in a file.
 fn size_of<K: Stored>(dict: &Dict<K>) -> usize
-    ensures { AreValues K.below K.fits dict.now }
+    ensures size { result ≡ capped (length (flat_map K.spelled dict.now)) }
+    ensures values { AreValues K.below K.fits dict.now }
 {
     let count = dict.len();
     let mut size = 0usize;

@@ -1,7 +1,6 @@
 ghost use Rattle.std.specs.Prelude.{◌≡◌, IfOk};
 ghost use Rattle.rt_segment.specs.Spelling.{file_of};
 
-use crate::body_writer::write_body;
 use crate::sealed::Sealed;
 use std::alloc::{AllocError, Global};
 
@@ -9,16 +8,7 @@ use std::alloc::{AllocError, Global};
 pub fn encode(alloc: Global, sealed: &Sealed) -> Result<Vec<u8>, AllocError>
     ensures { IfOk result (λ bytes. bytes.items ≡ file_of sealed.now) }
 {
-    let header = sealed.header();
-    let mut out = write_body(
-        alloc,
-        sealed.format(),
-        header.partition,
-        header.sequence,
-        header.range,
-        header.rows,
-        sealed.columns(),
-    )?;
-    out.extend_from_slice(&header.digest)?;
+    let mut out = sealed.body(alloc)?;
+    out.extend_from_slice(&sealed.header().digest)?;
     Ok(out)
 }

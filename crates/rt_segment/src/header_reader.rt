@@ -5,13 +5,8 @@ ghost use Rattle.rt_segment.specs.Reading.{format_of, format_at, range_at, rows_
 
 use crate::cursor::Cursor;
 use crate::segment_refused::SegmentRefused;
+use rt_base::limits::{MOST_COLUMNS, MOST_ROWS};
 use rt_base::{Offset, Range};
-
-/// The greatest row count of a segment.
-const MAX_ROWS: u32 = 1_000_000;
-
-/// The greatest column count of a segment.
-const MAX_COLUMNS: u16 = 256;
 
 /// The format that a file's first bytes name.
 #[tactic(auto, unfolding(crate::specs::Reading::format_at))]
@@ -62,7 +57,7 @@ pub(crate) fn read_rows(range: Range, cursor: &mut Cursor<'_>) -> Result<u32, Se
 {
     let wrong = cursor.breach();
     let rows = cursor.word()?;
-    if rows > MAX_ROWS {
+    if rows > MOST_ROWS {
         Err(SegmentRefused::Limit)
     } else if u64::from(rows) > range.end.0 - range.start.0 {
         Err(wrong)
@@ -78,7 +73,7 @@ pub(crate) fn read_column_count(cursor: &mut Cursor<'_>) -> Result<u16, SegmentR
 {
     let wrong = cursor.breach();
     let count = cursor.short()?;
-    if count > MAX_COLUMNS {
+    if usize::from(count) > MOST_COLUMNS {
         Err(SegmentRefused::Limit)
     } else if count == 0 {
         Err(wrong)

@@ -32,14 +32,15 @@ mod segment_column;
 mod segment_refused;
 mod stored;
 mod table;
-#[cfg(test)]
-mod tests;
 mod texts;
 
 pub use decoder::decode;
 pub use dictionary::Dictionary;
 pub use encoder::encode;
-pub use laws::{a_column_is_its_values, a_file_is_read_as_its_segment, what_is_read_is_its_file};
+pub use laws::{
+    a_column_is_its_values, a_cut_file_is_truncated, a_file_is_read_as_its_segment,
+    nothing_is_wrong_before_a_breach, what_is_read_is_its_file,
+};
 pub use sealed::Sealed;
 pub use segment_column::SegmentColumn;
 pub use segment_refused::SegmentRefused;

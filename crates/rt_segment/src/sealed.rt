@@ -8,7 +8,7 @@ use crate::body_writer::write_body;
 use crate::segment_column::SegmentColumn;
 use crate::table::{are_columns, copies_of, row_in};
 use rt_base::{Header, Partition, Range, Sequence};
-use rt_lists::Items;
+use rt_lists::{Bytes, Items};
 use rt_schema::{Row, Schema};
 use sha2::{Digest, Sha256};
 use std::alloc::{AllocError, Global};
@@ -20,10 +20,12 @@ pub struct Sealed {
     format: u8,
     header: Header,
     columns: Items<SegmentColumn>,
+    // What stands before the digest in the file, kept where it was written for the digest's sake.
+    body: Option<Bytes>,
 }
 
 impl Model for Sealed {
-    ghost use Rattle.std.specs.Prelude.{◌≡◌};
+    ghost use Rattle.std.specs.Prelude.{◌≡◌, IfSome};
     ghost use Rattle.sha2.specs.Sha256.{sha256};
     ghost use Rattle.rt_segment.specs.Segment.{SealedSegment, IsSealed};
     ghost use Rattle.rt_segment.specs.Spelling.{body_of};
@@ -33,7 +35,8 @@ impl Model for Sealed {
     ghost view = { λ a. record { format = a.format; partition = a.header.partition; sequence = a.header.sequence; range = a.header.range; rows = a.header.rows; columns = a.columns } };
 
     ghost invariant = { λ a. IsSealed (record { format = a.format; partition = a.header.partition; sequence = a.header.sequence; range = a.header.range; rows = a.header.rows; columns = a.columns })
-        × (a.header.digest ≡ sha256 (body_of (record { format = a.format; partition = a.header.partition; sequence = a.header.sequence; range = a.header.range; rows = a.header.rows; columns = a.columns }))) };
+        × (a.header.digest ≡ sha256 (body_of (record { format = a.format; partition = a.header.partition; sequence = a.header.sequence; range = a.header.range; rows = a.header.rows; columns = a.columns })))
+        × IfSome a.body (λ bytes. bytes ≡ body_of (record { format = a.format; partition = a.header.partition; sequence = a.header.sequence; range = a.header.range; rows = a.header.rows; columns = a.columns })) };
 }
 
 impl Sealed {
@@ -70,6 +73,7 @@ impl Sealed {
             format,
             header,
             columns,
+            body: Some(Bytes::of(body)),
         })
     }
 
@@ -83,6 +87,7 @@ impl Sealed {
             format,
             header,
             columns,
+            body: None,
         }
     }
 
@@ -106,6 +111,25 @@ impl Sealed {
         ensures { result.now ≡ self.now.columns }
     {
         self.columns.as_slice()
+    }
+
+    /// The bytes before the digest of the segment's file. Fails only where memory is refused.
+    pub(crate) fn body(&self, alloc: Global) -> Result<Vec<u8>, AllocError>
+        ensures { IfOk result (λ bytes. bytes.items ≡ body_of self.now) }
+    {
+        let header = self.header;
+        match &self.body {
+            Some(body) => body.as_slice().to_vec(alloc),
+            None => write_body(
+                alloc,
+                self.format,
+                header.partition,
+                header.sequence,
+                header.range,
+                header.rows,
+                self.columns.as_slice(),
+            ),
+        }
     }
 
     /// The row of a number, counted from 0. Fails only where memory is refused.

@@ -5,7 +5,7 @@ ghost use Rattle.rt_segment.specs.Segment.{is_column};
 ghost use Rattle.rt_segment.specs.Column.{SealedColumn, kind_in, count_in, IsColumn};
 ghost use Rattle.rt_segment.specs.Cursor.{Gives};
 ghost use Rattle.rt_segment.specs.Reading.{postings_at};
-ghost use Rattle.rt_segment.specs.Spelling.{postings_bytes};
+ghost use Rattle.rt_segment.specs.Spelling.{capped, dictionary_bytes, postings_bytes};
 
 use crate::cursor::Cursor;
 use crate::dictionary::Dictionary;
@@ -28,22 +28,24 @@ pub struct SegmentColumn {
     dictionary: Dictionary,
     ids: Items<u32>,
     postings: Option<Postings>,
-    // About how many bytes the dictionary takes in a file.
+    // How many bytes the values take in a file, without their extremes.
     size: usize,
 }
 
 impl Model for SegmentColumn {
-    ghost use Rattle.std.specs.Prelude.{◌≡◌, IfSome};
+    ghost use Rattle.std.specs.Prelude.{◌≡◌, IfSome, false, length};
     ghost use Rattle.std.specs.Option.{is_some};
     ghost use Rattle.rt_postings.specs.Postings.{postings_of};
     ghost use Rattle.rt_segment.specs.Column.{SealedColumn, count_in, IsColumn};
+    ghost use Rattle.rt_segment.specs.Spelling.{capped, dictionary_bytes};
 
     ghost Value = { SealedColumn };
 
     ghost view = { λ a. record { name = a.name; dictionary = a.dictionary; ids = a.ids; indexed = is_some a.postings } };
 
     ghost invariant = { λ a. IsColumn (record { name = a.name; dictionary = a.dictionary; ids = a.ids; indexed = is_some a.postings })
-        × IfSome a.postings (λ p. p ≡ postings_of a.ids (count_in a.dictionary)) };
+        × IfSome a.postings (λ p. p ≡ postings_of a.ids (count_in a.dictionary))
+        × (a.size ≡ capped (length (dictionary_bytes false a.dictionary))) };
 }
 
 impl SegmentColumn {
@@ -143,17 +145,12 @@ impl SegmentColumn {
         )
     }
 
-    /// About how many bytes the column takes in a file.
+    /// How many bytes the values take in a file, without their extremes.
     pub(crate) fn size(&self) -> usize
-        ensures { IsColumn self.now }
+        ensures size { result ≡ capped (length (dictionary_bytes false self.now.dictionary)) }
+        ensures column { IsColumn self.now }
     {
-        let numbers = if self.is_indexed() { 2 } else { 1 };
-        self.ids
-            .len()
-            .saturating_mul(4)
-            .saturating_mul(numbers)
-            .saturating_add(self.size)
-            .saturating_add(256)
+        self.size
     }
 
     /// Writes the postings at the end, where the column has them.

@@ -4,11 +4,12 @@ ghost use Rattle.std.specs.Int.{w32, w64};
 ghost use Rattle.std.specs.Str.{IsUtf8};
 ghost use Rattle.rt_segment.specs.Cursor.{Cursor as Reading, Read, Gives};
 ghost use Rattle.rt_segment.specs.Reading.{int_at, long_at, text_at, bool_at};
-ghost use Rattle.rt_segment.specs.Spelling.{int_bytes, long_bytes, text_bytes, bool_bytes};
+ghost use Rattle.rt_segment.specs.Spelling.{int_bytes, long_bytes, text_bytes, bool_bytes, capped};
 
 use crate::cursor::Cursor;
 use crate::segment_refused::SegmentRefused;
 use crate::texts::text_of;
+use rt_base::limits::LONGEST_MESSAGE;
 use rt_dict::Key;
 use rt_lists::Text;
 use std::alloc::{AllocError, Global};
@@ -36,8 +37,9 @@ pub(crate) trait Stored: Key {
         requires { short self.now }
         ensures { OnOk result (out.new.items ≡ out.old.items ++ spelled self.now) };
 
-    /// About how many bytes it takes.
+    /// How many bytes it takes.
     fn size(&self) -> usize
+        ensures size { result ≡ capped (length (spelled self.now)) }
         ensures fits { fits self.now };
 }
 
@@ -133,7 +135,7 @@ impl Stored for Text {
     fn read(alloc: Global, cursor: &mut Cursor<'_>) -> Result<Text, SegmentRefused> {
         let wrong = cursor.breach();
         let len = cursor.word()?;
-        if len > 65_536 {
+        if len as usize > LONGEST_MESSAGE {
             return Err(SegmentRefused::Limit);
         }
         let bytes = cursor.bytes(len as usize)?;

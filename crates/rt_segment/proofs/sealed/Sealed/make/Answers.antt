@@ -10,7 +10,9 @@ invariant_of-result c =
     let p : Fits w32 c.args.partition.0 = search rules in
     let q : Fits w32 c.args.sequence.0 = search rules in
     let b : Fits w64 c.args.range.end.0 = search rules in
-    let columns : c.as_slice.result.now ≡ c.args.columns = c.as_slice.ensures in (
+    let columns : c.as_slice.result.now ≡ c.args.columns = c.as_slice.ensures in
+    let written = c.in_ok-body.ensures.written ∙ ap (λ cs. body_of (record { format = c.args.format; partition = c.args.partition; sequence = c.args.sequence; range = c.args.range; rows = c.args.rows; columns = cs })) columns in (
       record { sealable = c.requires; columns = subst (All IsColumn) columns c.in_ok-body.ensures.columns; partition = p.fits; sequence = q.fits; end = b.fits },
-      c.digest.ensures ∙ ap sha256 (c.as_slice-2.ensures.value ∙ c.in_ok-body.ensures.written ∙ ap (λ cs. body_of (record { format = c.args.format; partition = c.args.partition; sequence = c.args.sequence; range = c.args.range; rows = c.args.rows; columns = cs })) columns),
+      c.digest.ensures ∙ ap sha256 (c.as_slice-2.ensures.value ∙ written),
+      c.of.ensures ∙ written,
     )
