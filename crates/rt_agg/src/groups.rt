@@ -1,4 +1,4 @@
-ghost use Rattle.std.specs.Prelude.{◌≡◌, ◌∷◌, [], List, slice_get, Some, IfOk, OnOk, OnErr};
+ghost use Rattle.std.specs.Prelude.{◌≡◌, ◌≤◌, ◌∷◌, [], List, length, slice_get, Some, IfOk, OnOk, OnErr};
 ghost use Rattle.rt_schema.specs.declared.value.Value.{Value as AnyValue};
 ghost use Rattle.rt_agg.specs.Accumulators.{all_known_of};
 ghost use Rattle.rt_agg.specs.Grouped.{Adds, AddsUnder, Finishes, Merges, Holds, KeysStay, first_entries, keys_in_order};
@@ -85,8 +85,9 @@ impl Groups {
         }
     }
 
-    /// Adds a row to the group at an index. It takes no memory.
+    /// Adds a row to the group at an index, where there is one; else all is as before. It takes no memory.
     pub fn add_at<R: ReadRow>(&mut self, index: usize, row: &R)
+        ensures past { length self.old.groups ≤ index → self.new ≡ self.old }
         ensures adds { (key : List AnyValue) → slice_get (keys_in_order self.old) index ≡ Some key → AddsUnder key (R.meaning row.now) self.old self.new }
         ensures keys { keys_in_order self.new ≡ keys_in_order self.old }
     {
@@ -135,7 +136,7 @@ impl Groups {
         let mut all = rank_all(alloc, self.items.len(), &self.table)?;
         sort(self.order.as_slice(), &mut all);
         all.truncate(self.limit as usize);
-        let rows = rows_of(alloc, all.as_slice())?;
+        let rows = rows_of(alloc, all)?;
         Ok(rows)
     }
 }

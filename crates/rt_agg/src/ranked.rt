@@ -94,33 +94,13 @@ pub(crate) fn sort(order: &[OrderKey], all: &mut Vec<Ranked>)
     all.sort_unstable_by(|a, b| compare_ranked(order, a, b));
 }
 
-fn copy_cell(alloc: Global, cell: &Cell) -> Result<Cell, AllocError>
-    ensures { IfOk result (λ copy. copy ≡ cell.now) }
-{
-    match cell {
-        Cell::Value(value) => Ok(Cell::Value(value.copied(alloc)?)),
-        Cell::Whole(whole) => Ok(Cell::Whole(*whole)),
-        Cell::Null => Ok(Cell::Null),
-    }
-}
-
-fn copy_row(alloc: Global, row: &ResultRow) -> Result<ResultRow, AllocError>
-    ensures { IfOk result (λ copy. copy ≡ row.now) }
-{
-    let mut cells = Items::new(alloc);
-    for cell in row.cells.as_slice() {
-        cells.push(copy_cell(alloc, cell)?)?;
-    }
-    Ok(ResultRow { cells })
-}
-
 /// The rows of results.
-pub(crate) fn rows_of(alloc: Global, all: &[Ranked]) -> Result<Items<ResultRow>, AllocError>
-    ensures { IfOk result (λ rows. rows ≡ map (λ r. r.row) all.now) }
+pub(crate) fn rows_of(alloc: Global, all: Vec<Ranked>) -> Result<Items<ResultRow>, AllocError>
+    ensures { IfOk result (λ rows. rows ≡ map (λ r. r.row) all.items) }
 {
     let mut rows = Items::new(alloc);
     for one in all {
-        rows.push(copy_row(alloc, &one.row)?)?;
+        rows.push(one.row)?;
     }
     Ok(rows)
 }

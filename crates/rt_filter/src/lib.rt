@@ -2,9 +2,13 @@
 #![tactic(auto)]
 
 mod checking;
+mod comparing;
 mod filter_refused;
 mod matching;
 
 pub use checking::{check, kind_at};
+pub use comparing::{
+    accepted, compares, is_one_of, lies_between, number_against, text_against, truth_against,
+};
 pub use filter_refused::FilterRefused;
-pub use matching::{compares, is_one_of, lies_between, matches, passes};
+pub use matching::{matches, passes};

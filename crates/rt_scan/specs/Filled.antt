@@ -1,5 +1,6 @@
 -- The rows of a file as rows of a schema: a column that the file lacks has its missing value in every row.
-use Rattle.std.specs.Prelude.{ℕ, List, [], ◌∷◌, replicate, Option, Some, None, if◌then◌else◌}
+use Rattle.std.specs.Prelude.{◌≡◌, ℕ, true, List, [], ◌∷◌, replicate, bytes_eq, Option, Some, None, if◌then◌else◌}
+use Rattle.std.specs.List.{AllByRecursion}
 use Rattle.rt_schema.specs.declared.column.Column.{Column}
 use Rattle.rt_schema.specs.declared.row.Row.{Row}
 use Rattle.rt_schema.specs.declared.schema.Schema.{Schema}
@@ -25,3 +26,11 @@ values_as stored rows column = values_or column rows (stored_as column stored)
 -- the rows of a file as rows of a schema
 abbrev pub rows_as : Schema → SealedSegment → List Row
 rows_as schema sealed = rows_by (values_as sealed.columns sealed.rows) schema.columns sealed.rows
+
+-- a column of a file that has the name of a schema's column has its kind
+abbrev pub HasKindOf : Column → SealedColumn → Type 0
+HasKindOf column stored = bytes_eq stored.name column.name ≡ true → is_column stored column ≡ true
+
+-- no column of the file has the name of one of the schema's and another kind
+abbrev pub HasKinds : Schema → SealedSegment → Type 0
+HasKinds schema sealed = AllByRecursion (λ (column : Column). AllByRecursion (HasKindOf column) sealed.columns) schema.columns

@@ -24,6 +24,6 @@ mod standing;
 mod truths;
 
 pub use filling::scan_as;
-pub use laws::skipped_rows_fail;
+pub use laws::{skipped_filled_rows_fail, skipped_rows_fail};
 pub use scanning::{scan, scan_below};
 pub use skipping::skips;

@@ -39,7 +39,7 @@ use Rattle.rt_sql.specs.declared.parts.KeyAt.{KeyAt}
 use Rattle.rt_sql.specs.declared.parts.Parts.{Parts}
 use Rattle.rt_sql.specs.declared.sql_refused.SqlRefused.{SqlRefused}
 use Rattle.rt_sql.specs.declared.token.Token.{Token}
-use Rattle.rt_sql.proofs.Texts.{answered_text}
+use Rattle.rt_sql.proofs.Texts.{answered_text, none_broken}
 
 -- Columns by their names
 
@@ -411,7 +411,7 @@ query_fits s ts _ (query b f n table {w = w} {x = x} {xs = xs} {filter = filter}
 
 -- a query of a text is one over the schema
 pub text_fits : (s : Schema) (t x : List ℕ) (q : Query) → IsTextOf s t x q → checked.IsQuery s q
-text_fits s t x q (p, few, is, of_table, same) = subst (checked.IsQuery s) (sym same) (query_fits s (tokens_of x) p is of_table.known of_table.rules of_table.typed)
+text_fits s t x q (p, few, is, of_table, same) = subst (checked.IsQuery s) (sym same) (query_fits s (tokens_of x) p is of_table.known (none_broken p of_table.rules) of_table.typed)
 
 -- what is answered is a query over the schema
 pub answered_fits : (s : Schema) (t x : List ℕ) (r : Result Query SqlRefused) → Answers (query_of s t x) r → IfOk r (checked.IsQuery s)

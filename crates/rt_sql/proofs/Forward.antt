@@ -38,7 +38,7 @@ use Rattle.rt_sql.specs.declared.test.Tested.{Tested}
 use Rattle.rt_sql.specs.declared.test.Tested.TheVariants.{More, Whole}
 use Rattle.rt_sql.specs.declared.token.Token.{Token}
 
-abbrev run_at : Schema → ℕ → Stage → Parts → List Token → Result Parts SqlRefused
+abbrev pub run_at : Schema → ℕ → Stage → Parts → List Token → Result Parts SqlRefused
 run_at s z stage p ts = run s z (at stage p) ts
 
 -- Tests
@@ -68,7 +68,7 @@ literals_run s z n nots p c none xs (comma b {rest = rest} {x = l} {xs = ls} is 
 list_runs : (s : Schema) (z : ℕ) (n : Nesting) (nots : ℕ) (p : Parts) (c : ColumnAt) (none : Bool) {ts rest : List Token} {ls : List Literal} → IsList ts rest ls → run_at s z (stage.Test n nots (test.List c none)) p ts ≡ test_at s z n nots p (Whole (among c none ls)) rest
 list_runs s z n nots p c none (list b d {l = l} is more) = literal_runs s z n nots p (asked.Among c none []) is ∙ literals_run s z n nots p c none (l ∷ []) more
 
-test_runs : (s : Schema) (z : ℕ) (n : Nesting) (nots : ℕ) (p : Parts) {c : ColumnAt} {ts rest : List Token} {t : Tree} → IsTest c ts rest t → run_at s z (stage.Test n nots (test.Operator c)) p ts ≡ test_at s z n nots p (Whole t) rest
+pub test_runs : (s : Schema) (z : ℕ) (n : Nesting) (nots : ℕ) (p : Parts) {c : ColumnAt} {ts rest : List Token} {t : Tree} → IsTest c ts rest t → run_at s z (stage.Test n nots (test.Operator c)) p ts ≡ test_at s z n nots p (Whole t) rest
 test_runs s z n nots p (compares b c o is) = literal_runs s z n nots p (asked.Compare c o) is
 test_runs s z n nots p (between b d c {low = low} is high) = literal_runs s z n nots p (asked.Lower c) is ∙ literal_runs s z n nots p (asked.Upper c low) high
 test_runs s z n nots p (one_of b c is) = list_runs s z n nots p c false is
@@ -79,7 +79,7 @@ test_runs s z n nots p (none_of b d c is) = list_runs s z n nots p c true is
 deeper_runs : (s : Schema) (z : ℕ) (n : Nesting) (nots : ℕ) (p : Parts) (next : Stage) (b : ℕ) (ts : List Token) → nots < n.level.room → then_read b (deeper n nots next p) (λ state. run s z state ts) ≡ run_at s z next p ts
 deeper_runs s z n nots p next b ts h = ap (λ fits. then_read b (if fits then Ok (at next p) else Err stop.Deep) (λ state. run s z state ts)) (lt-ltb nots n.level.room h)
 
-abbrev after : Level → List Enclosing → Stage
+abbrev pub after : Level → List Enclosing → Stage
 after level outer = stage.AfterTerm (record { level = level; outer = outer })
 
 mutual
@@ -126,7 +126,7 @@ mutual
 
 -- The other parts, from the last on
 
-abbrev go_on : (Lexeme → Parts → Result State Stop) → Schema → ℕ → Parts → List Token → Result Parts SqlRefused
+abbrev pub go_on : (Lexeme → Parts → Result State Stop) → Schema → ℕ → Parts → List Token → Result Parts SqlRefused
 go_on f s z p [] = Ok p
 go_on f s z p (t ∷ ts) = then_read t.byte (f t.lexeme p) (λ next. run s z next ts)
 
@@ -147,11 +147,11 @@ no_limit : (s : Schema) (z : ℕ) (p q : Parts) (ts : List Token) → go_on afte
 no_limit s z p q [] e = e
 no_limit s z p q (t ∷ ts) e = wider_order s z p q t.byte t.lexeme ts e
 
-limit_runs : (s : Schema) (z : ℕ) (p : Parts) {ts m : List Token} {l : Option ℕ} → IsLimit ts m l → IsEnd m → go_on after_order s z p ts ≡ Ok (record p { limit = or_else p.limit l })
+pub limit_runs : (s : Schema) (z : ℕ) (p : Parts) {ts m : List Token} {l : Option ℕ} → IsLimit ts m l → IsEnd m → go_on after_order s z p ts ≡ Ok (record p { limit = or_else p.limit l })
 limit_runs s z p (unlimited rest) e = no_limit s z p p rest (end_runs s z p e)
 limit_runs s z p (limited b c n rest) e = from_limit s z (record p { limit = or_none (rows n) }) rest ∙ end_runs s z (record p { limit = or_none (rows n) }) e
 
-item_runs : (s : Schema) (z : ℕ) (side : Side) (p : Parts) {ts rest : List Token} {i : ItemAt} → IsItem s ts rest i → run_at s z (stage.Wanted side) p ts ≡ run s z (with_item side i p) rest
+pub item_runs : (s : Schema) (z : ℕ) (side : Side) (p : Parts) {ts rest : List Token} {i : ItemAt} → IsItem s ts rest i → run_at s z (stage.Wanted side) p ts ≡ run s z (with_item side i p) rest
 item_runs s z side p (column b _ n rest) = refl
 item_runs s z side p (count b c d e _ rest) = refl
 item_runs s z side p (sum b c d e _ n rest) = refl
@@ -200,7 +200,7 @@ no_order : (s : Schema) (z : ℕ) (p q : Parts) (ts : List Token) → go_on afte
 no_order s z p q [] e = e
 no_order s z p q (t ∷ ts) e = wider_groups s z p q t.byte t.lexeme ts e
 
-order_runs : (s : Schema) (z : ℕ) (p q : Parts) {ts m : List Token} {ks : List KeyAt} → IsOrder s ts m ks → go_on after_order s z (record p { order = p.order ++ ks }) m ≡ Ok q → go_on after_groups s z p ts ≡ Ok q
+pub order_runs : (s : Schema) (z : ℕ) (p q : Parts) {ts m : List Token} {ks : List KeyAt} → IsOrder s ts m ks → go_on after_order s z (record p { order = p.order ++ ks }) m ≡ Ok q → go_on after_groups s z p ts ≡ Ok q
 order_runs s z p q (unordered _ rest) e = no_order s z p q rest (subst (λ xs. go_on after_order s z (record p { order = xs }) rest ≡ Ok q) (append-nil p.order) e)
 order_runs s z p q (ordered b c {rest = rest} {k = k} {ks = ks} is more) e =
     key_runs s z p q is (keys_run s z (record p { order = p.order ++ k ∷ [] }) q more (subst (λ xs. go_on after_order s z (record p { order = xs }) rest ≡ Ok q) (sym (append_assoc p.order (k ∷ []) ks)) e))
@@ -233,7 +233,7 @@ no_groups : (s : Schema) (z : ℕ) (p q : Parts) (ts : List Token) → go_on aft
 no_groups s z p q [] e = e
 no_groups s z p q (t ∷ ts) e = wider_filter s z p q t.byte t.lexeme ts e
 
-groups_run : (s : Schema) (z : ℕ) (p q : Parts) {ts m : List Token} {gs : List GroupAt} → IsGroups s ts m gs → go_on after_groups s z (record p { groups = p.groups ++ gs }) m ≡ Ok q → go_on after_filter s z p ts ≡ Ok q
+pub groups_run : (s : Schema) (z : ℕ) (p q : Parts) {ts m : List Token} {gs : List GroupAt} → IsGroups s ts m gs → go_on after_groups s z (record p { groups = p.groups ++ gs }) m ≡ Ok q → go_on after_filter s z p ts ≡ Ok q
 groups_run s z p q (ungrouped _ rest) e = no_groups s z p q rest (subst (λ xs. go_on after_groups s z (record p { groups = xs }) rest ≡ Ok q) (append-nil p.groups) e)
 groups_run s z p q (grouped b c {rest = rest} {g = g} {gs = gs} is more) e =
     name_runs s z p q is (names_run s z (record p { groups = p.groups ++ g ∷ [] }) q more (subst (λ xs. go_on after_groups s z (record p { groups = xs }) rest ≡ Ok q) (sym (append_assoc p.groups (g ∷ []) gs)) e))
@@ -243,11 +243,11 @@ wider_term s z level p q b (Word word.And) ts e = cc
 wider_term s z level p q b (Word word.Or) ts e = cc
 wider_term s z level p q b other ts e = e
 
-after_runs : (s : Schema) (z : ℕ) (level : Level) (p q : Parts) (ts : List Token) → go_on after_filter s z (record p { filter = Some (predicate_of level) }) ts ≡ Ok q → run_at s z (after level []) p ts ≡ Ok q
+pub after_runs : (s : Schema) (z : ℕ) (level : Level) (p q : Parts) (ts : List Token) → go_on after_filter s z (record p { filter = Some (predicate_of level) }) ts ≡ Ok q → run_at s z (after level []) p ts ≡ Ok q
 after_runs s z level p q [] e = e
 after_runs s z level p q (t ∷ ts) e = wider_term s z level p q t.byte t.lexeme ts e
 
-from_table : (s : Schema) (z : ℕ) (p : Parts) (ts : List Token) → run_at s z stage.AfterTable p ts ≡ go_on after_table s z p ts
+pub from_table : (s : Schema) (z : ℕ) (p : Parts) (ts : List Token) → run_at s z stage.AfterTable p ts ≡ go_on after_table s z p ts
 from_table s z p [] = refl
 from_table s z p (t ∷ ts) = refl
 
@@ -255,11 +255,11 @@ wider_table : (s : Schema) (z : ℕ) (p q : Parts) (b : ℕ) (l : Lexeme) (ts : 
 wider_table s z p q b (Word word.Where) ts e = cc
 wider_table s z p q b other ts e = e
 
-no_where : (s : Schema) (z : ℕ) (p q : Parts) (ts : List Token) → go_on after_filter s z p ts ≡ Ok q → go_on after_table s z p ts ≡ Ok q
+pub no_where : (s : Schema) (z : ℕ) (p q : Parts) (ts : List Token) → go_on after_filter s z p ts ≡ Ok q → go_on after_table s z p ts ≡ Ok q
 no_where s z p q [] e = e
 no_where s z p q (t ∷ ts) e = wider_table s z p q t.byte t.lexeme ts e
 
-abbrev with_filter : Parts → Option Tree → Parts
+abbrev pub with_filter : Parts → Option Tree → Parts
 with_filter p None = p
 with_filter p (Some t) = record p { filter = Some t }
 
@@ -268,13 +268,13 @@ where_runs s z p q (unfiltered _ room rest) h e = no_where s z p q rest e
 where_runs s z p q (filtered b {rest = rest} is) h e =
     predicate_runs s z p 64 [] (Ok q) is h (λ level e2. after_runs s z level p q rest (subst (λ w. go_on after_filter s z (record p { filter = Some w }) rest ≡ Ok q) (sym e2) e))
 
-items_run : (s : Schema) (z : ℕ) (p : Parts) {ts rest : List Token} {is : List ItemAt} → Repeats ItemAt (IsItem s) ts rest is → run_at s z stage.AfterItem p ts ≡ run_at s z stage.AfterItem (record p { items = p.items ++ is }) rest
+pub items_run : (s : Schema) (z : ℕ) (p : Parts) {ts rest : List Token} {is : List ItemAt} → Repeats ItemAt (IsItem s) ts rest is → run_at s z stage.AfterItem p ts ≡ run_at s z stage.AfterItem (record p { items = p.items ++ is }) rest
 items_run s z p (no_more rest) = ap (λ xs. run_at s z stage.AfterItem (record p { items = xs }) rest) (sym (append-nil p.items))
 items_run s z p (comma b {rest = rest} {x = i} {xs = is} found more) =
     item_runs s z side.Select p found ∙ items_run s z (record p { items = p.items ++ i ∷ [] }) more
     ∙ ap (λ xs. run_at s z stage.AfterItem (record p { items = xs }) rest) (append_assoc p.items (i ∷ []) is)
 
-abbrev parts_from : List ItemAt → List ℕ → Parts
+abbrev pub parts_from : List ItemAt → List ℕ → Parts
 parts_from items table = record { items = items; table = table; filter = None; groups = []; order = []; limit = 10 }
 
 -- a query is read

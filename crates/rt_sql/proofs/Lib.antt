@@ -3,7 +3,11 @@ pub mod Nots
 pub mod Completing
 pub mod Sound
 pub mod Forward
+pub mod Deeper
 pub mod Viable
+pub mod Grouped
+pub mod Rising
+pub mod Breaches
 pub mod Texts
 pub mod Cutting
 pub mod Answered

@@ -1,23 +1,29 @@
 -- The answer to a text, in the words of the grammar.
-use Rattle.std.proofs.Common.{◌≡◌, ℕ, Bool, true, false, List, length, nat_le, Option, Some, None, Result, Ok, Err, IfOk, if◌then◌else◌, refl, ap, sym, ◌∙◌, arith}
+use Rattle.std.proofs.Common.{◌≡◌, ℕ, Bool, true, false, List, ◌∷◌, length, nat_le, Option, Some, None, Result, Ok, Err, IfOk, if◌then◌else◌, refl, ap, sym, ◌∙◌, subst, arith}
 use Rattle.std.proofs.lemmas.Bool.{leb-true, le-leb}
 use Rattle.rt_schema.specs.declared.schema.Schema.{Schema}
 use Rattle.rt_model.specs.declared.query.Query.{Query}
+use Rattle.rt_sql.specs.Breaches.{IsBreach}
 use Rattle.rt_sql.specs.Checks.{are_known, are_within}
+use Rattle.rt_sql.specs.Faults.{NestsDeeper}
+use Rattle.rt_sql.specs.Grammar.{IsQuery, query}
 use Rattle.rt_sql.specs.Kinds.{is_typed_query}
 use Rattle.rt_sql.specs.Parsing.{is_table, query_with, checked, query_from, query_of}
-use Rattle.rt_sql.specs.Queries.{IsOfTable, IsTextOf, IsMisspelt, by_grammar, by_rule, IsReadAs, IfMisspelt}
+use Rattle.rt_sql.specs.Queries.{IsOfTable, IsTextOf, IsMisspelt, by_grammar, by_rule, IsReadAs, IfMisspelt, IsLimited}
 use Rattle.rt_sql.specs.Rules.{breach}
 use Rattle.rt_sql.specs.Run.{Answers, nothing, run}
 use Rattle.rt_sql.specs.Tokens.{tokens_of}
 use Rattle.rt_sql.specs.declared.before.Before.TheVariants.{Other}
+use Rattle.rt_sql.specs.declared.parts.ItemAt.{ItemAt}
 use Rattle.rt_sql.specs.declared.parts.Parts.{Parts}
 use Rattle.rt_sql.specs.declared.sql_refused.SqlRefused.{SqlRefused}
 use Rattle.rt_sql.specs.declared.sql_refused.SqlRefused.TheVariants.{Syntax, NoTable, NoColumn, WrongType, Limit, Memory}
 use Rattle.rt_sql.specs.declared.token.Token.{Token}
+use Rattle.rt_sql.proofs.Breaches.{breach_found, first_breach, no_breach}
+use Rattle.rt_sql.proofs.Rising.{text_rises, query_rises}
 use Rattle.rt_sql.proofs.Sound.{sound}
 use Rattle.rt_sql.proofs.Forward.{complete}
-use Rattle.rt_sql.proofs.Viable.{first_fault}
+use Rattle.rt_sql.proofs.Viable.{first_fault, refused_deep}
 
 if_ok : {A : Type 0} (b : Bool) (x : Result A SqlRefused) (e : SqlRefused) (q : A) → (if b then x else Err e) ≡ Ok q → (b ≡ true) × (x ≡ Ok q)
 if_ok true x e q h = (refl, h)
@@ -26,19 +32,34 @@ if_ok false x e q h = cc
 if_true : {A : Type 0} (b : Bool) (x y : A) → b ≡ true → (if b then x else y) ≡ x
 if_true b x y h = ap (λ c. if c then x else y) h
 
-checked_ok : (s : Schema) (t : List ℕ) (ts : List Token) (b : Option ℕ) (p : Parts) (q : Query) → b ≡ breach p → checked s t ts b p ≡ Ok q → IsOfTable s t ts p × (q ≡ query_with p)
-checked_ok s t ts (Some byte) p q is e = cc
-checked_ok s t ts None p q is e =
+-- a query has an item
+some_item : {s : Schema} {room : ℕ} {ts : List Token} {p : Parts} → IsQuery s room ts p → (x : ItemAt) × (xs : List ItemAt) × (p.items ≡ x ∷ xs)
+some_item (query b f n table {x = x} {xs = xs} is items filtering grouping ordering limiting e) = (x, xs, refl)
+
+rules_hold : {s : Schema} {room : ℕ} {ts : List Token} (p : Parts) → IsQuery s room ts p → breach p ≡ None → (byte : ℕ) → IsBreach p byte → ⊥
+rules_hold p is e = let some = some_item is in no_breach p some.0 some.1 some.2 e
+
+-- a query that breaks no rule has no breach
+pub none_broken : (p : Parts) → ((byte : ℕ) → IsBreach p byte → ⊥) → breach p ≡ None
+none_broken p rules = by (breach p) refl
+  where
+    by : (o : Option ℕ) → breach p ≡ o → breach p ≡ None
+    by None e = e
+    by (Some byte) e = absurd (rules byte (breach_found p byte e))
+
+checked_ok : (s : Schema) (t : List ℕ) (ts : List Token) (b : Option ℕ) (p : Parts) (q : Query) → IsQuery s 64 ts p → b ≡ breach p → checked s t ts b p ≡ Ok q → IsOfTable s t ts p × (q ≡ query_with p)
+checked_ok s t ts (Some byte) p q read is e = cc
+checked_ok s t ts None p q read is e =
     let a = if_ok (is_table p.table t) _ NoTable q e in
     let b = if_ok (are_known s Other ts) _ NoColumn q a.1 in
     let c = if_ok (is_typed_query s p) _ WrongType q b.1 in
     let d = if_ok (are_within Other ts) _ Limit q c.1 in
     let f : Ok (query_with p) ≡ Ok q = d.1 in
-    (record { rules = sym is; named = a.0; known = b.0; typed = c.0; within = d.0 }, cc)
+    (record { rules = rules_hold p read (sym is); named = a.0; known = b.0; typed = c.0; within = d.0 }, cc)
 
 checked_again : (s : Schema) (t : List ℕ) (ts : List Token) (p : Parts) → IsOfTable s t ts p → checked s t ts (breach p) p ≡ Ok (query_with p)
 checked_again s t ts p h =
-    ap (λ b. checked s t ts b p) h.rules
+    ap (λ b. checked s t ts b p) (none_broken p h.rules)
     ∙ if_true (is_table p.table t) _ (Err NoTable) h.named
     ∙ if_true (are_known s Other ts) _ (Err NoColumn) h.known
     ∙ if_true (is_typed_query s p) _ (Err WrongType) h.typed
@@ -52,8 +73,9 @@ text_of : (s : Schema) (t x : List ℕ) (q : Query) → query_of s t x ≡ Ok q 
 text_of s t x q e =
     let a = if_ok (nat_le (length x) 65536) _ Limit q e in
     let b = from_ok s t (tokens_of x) (run s (length x) nothing (tokens_of x)) q a.1 in
-    let c = checked_ok s t (tokens_of x) (breach b.0) b.0 q refl b.2 in
-    (b.0, leb-true (length x) 65536 a.0, sound s (length x) (tokens_of x) b.0 b.1, c.0, c.1)
+    let read = sound s (length x) (tokens_of x) b.0 b.1 in
+    let c = checked_ok s t (tokens_of x) (breach b.0) b.0 q read refl b.2 in
+    (b.0, leb-true (length x) 65536 a.0, read, c.0, c.1)
 
 query_again : (s : Schema) (t x : List ℕ) (q : Query) → IsTextOf s t x q → query_of s t x ≡ Ok q
 query_again s t x q (p, few, is, of_table, same) =
@@ -94,7 +116,9 @@ abbrev refused_parts : SqlRefused → Result Parts SqlRefused
 refused_parts refused = Err refused
 
 from_syntax : (s : Schema) (t x : List ℕ) (r : Result Parts SqlRefused) (n : ℕ) → r ≡ run s (length x) nothing (tokens_of x) → query_from s t (tokens_of x) r ≡ Err (Syntax n) → IsMisspelt s x n
-from_syntax s t x (Ok p) n is e = by_rule p (sound s (length x) (tokens_of x) p (sym is)) (checked_syntax s t (tokens_of x) (breach p) p n e)
+from_syntax s t x (Ok p) n is e =
+    let read = sound s (length x) (tokens_of x) p (sym is) in
+    by_rule p read (first_breach p n (query_rises 0 read (text_rises x)) (checked_syntax s t (tokens_of x) (breach p) p n e))
 from_syntax s t x (Err refused) n is e =
     let same : refused ≡ Syntax n = cc in
     by_grammar (first_fault s (length x) n (tokens_of x) (sym is ∙ ap refused_parts same))
@@ -106,3 +130,23 @@ syntax_of s t x n e = from_syntax s t x (run s (length x) nothing (tokens_of x))
 pub answered_syntax : (s : Schema) (t x : List ℕ) (r : Result Query SqlRefused) → Answers (query_of s t x) r → IfMisspelt s x r
 answered_syntax s t x (Err (Syntax n)) e = syntax_of s t x n (sym e)
 answered_syntax s t x other e = tt
+
+same_if : {A : Type 0} (b : Bool) (x e : A) → x ≡ e → (if b then x else e) ≡ e
+same_if true x e h = h
+same_if false x e h = refl
+
+deep_of : (s : Schema) (t x : List ℕ) → NestsDeeper s (tokens_of x) → query_of s t x ≡ Err Limit
+deep_of s t x nests = same_if (nat_le (length x) 65536) _ (Err Limit) (ap (query_from s t (tokens_of x)) (refused_deep s (length x) (tokens_of x) nests))
+
+limited : (r : Result Query SqlRefused) → Answers (Err Limit) r → IsLimited r
+limited (Ok q) e = cc
+limited (Err Limit) e = tt
+limited (Err Memory) e = tt
+limited (Err (Syntax n)) e = cc
+limited (Err NoTable) e = cc
+limited (Err NoColumn) e = cc
+limited (Err WrongType) e = cc
+
+-- a text that nests too deep is refused for it
+pub answered_deep : (s : Schema) (t x : List ℕ) (r : Result Query SqlRefused) → Answers (query_of s t x) r → NestsDeeper s (tokens_of x) → IsLimited r
+answered_deep s t x r e nests = limited r (subst (λ wanted. Answers wanted r) (deep_of s t x nests) e)

@@ -1,13 +1,13 @@
 -- Whatever has been read of a query can be completed, and where a token is not read no query goes on with it.
-use Rattle.std.proofs.Common.{◌≡◌, ℕ, true, List, [], ◌∷◌, ◌++◌, Option, Some, None, Result, Ok, Err, refl, ap, sym, ◌∙◌, subst, append_assoc, arith}
+use Rattle.std.proofs.Common.{◌≡◌, ℕ, true, ◌⊎◌, List, [], ◌∷◌, ◌++◌, Option, Some, None, Result, Ok, Err, refl, ap, sym, ◌∙◌, subst, append_assoc, inl, inr}
 use Rattle.std.proofs.lemmas.List.{append-nil}
 use Rattle.rt_schema.specs.declared.schema.Schema.{Schema}
 use Rattle.rt_model.specs.Tree.{Tree}
 use Rattle.rt_sql.specs.Columns.{column_at}
 use Rattle.rt_sql.specs.Nested.{with_term, predicate_of}
 use Rattle.rt_sql.specs.Steps.{at, step}
-use Rattle.rt_sql.specs.Run.{nothing, ended, or_syntax, then_read, run}
-use Rattle.rt_sql.specs.Grammar.{tok}
+use Rattle.rt_sql.specs.Run.{nothing, ended, or_syntax, refused, then_read, run}
+use Rattle.rt_sql.specs.Grammar.{tok, IsQuery}
 use Rattle.rt_sql.specs.declared.call.Call.{Call}
 use Rattle.rt_sql.specs.declared.call.Call.TheVariants as call
 use Rattle.rt_sql.specs.declared.call.Function.{Function}
@@ -21,7 +21,7 @@ use Rattle.rt_sql.specs.declared.nesting.Nesting.{Nesting}
 use Rattle.rt_sql.specs.declared.parts.ItemAt.{ItemAt}
 use Rattle.rt_sql.specs.declared.parts.Parts.{Parts}
 use Rattle.rt_sql.specs.declared.sql_refused.SqlRefused.{SqlRefused}
-use Rattle.rt_sql.specs.declared.sql_refused.SqlRefused.TheVariants.{Syntax}
+use Rattle.rt_sql.specs.declared.sql_refused.SqlRefused.TheVariants.{Syntax, Limit}
 use Rattle.rt_sql.specs.declared.state.Side.{Side}
 use Rattle.rt_sql.specs.declared.state.Side.TheVariants as side
 use Rattle.rt_sql.specs.declared.state.Stage.{Stage}
@@ -34,9 +34,9 @@ use Rattle.rt_sql.specs.declared.test.Test.TheVariants as test
 use Rattle.rt_sql.specs.declared.test.Asked.{Asked}
 use Rattle.rt_sql.specs.declared.test.Asked.TheVariants as asked
 use Rattle.rt_sql.specs.declared.token.Token.{Token}
-use Rattle.rt_sql.specs.Faults.{Begins, IsFault, at_the_end, at_a_token}
+use Rattle.rt_sql.specs.Faults.{Begins, BeginsWithin, NestsDeeper, IsFault, at_the_end, at_a_token}
 use Rattle.rt_sql.proofs.Sound.{sound}
-use Rattle.rt_sql.proofs.Forward.{complete}
+use Rattle.rt_sql.proofs.Deeper.{OrDeep, complete_or_deep}
 
 -- some tokens complete the query
 abbrev Finish : Schema → ℕ → Stage → Parts → Type 0
@@ -127,14 +127,14 @@ begins : (s : Schema) (z : ℕ) (before : List Token) (state : State) → Leads 
 begins s z before state leads =
     let f = finishes s z state.stage state.parts in (f.0, f.1, sound s z (before ++ f.0) f.1 (leads f.0 ∙ f.2))
 
-read_or_not : {A : Type 0} (r : Result Parts SqlRefused) (byte : ℕ) (q : Parts) → r ≡ Err (Syntax byte) → r ≡ Ok q → A
-read_or_not r byte q e f = let g : Err (Syntax byte) ≡ Ok q = sym e ∙ f in cc
+read_or_not : {A : Type 0} (r : Result Parts SqlRefused) (byte : ℕ) (q : Parts) → r ≡ Err (Syntax byte) → (r ≡ Ok q) ⊎ (r ≡ Err Limit) → A
+read_or_not r byte q e (inl f) = let g : Err (Syntax byte) ≡ Ok q = sym e ∙ f in cc
+read_or_not r byte q e (inr f) = let g : Err (Syntax byte) ≡ Err Limit = sym e ∙ f in cc
 
-no_query : (s : Schema) (z : ℕ) (before : List Token) (state : State) (t : Token) → Leads s z before state → step s state t ≡ Err stop.Stuck → Begins s (before ++ t ∷ []) → ⊥
-no_query s z before state t leads stuck (rest, q, is) =
-    let read : run s z nothing (before ++ t ∷ rest) ≡ Ok q = ap (run s z nothing) (sym (append_assoc before (t ∷ []) rest)) ∙ complete s z 64 _ q is (omega arith) in
+no_query : (s : Schema) (z : ℕ) (before : List Token) (state : State) (t : Token) → Leads s z before state → step s state t ≡ Err stop.Stuck → (depth : ℕ) → BeginsWithin depth s (before ++ t ∷ []) → ⊥
+no_query s z before state t leads stuck depth (rest, q, is) =
     let here : run s z state (t ∷ rest) ≡ Err (Syntax t.byte) = ap (λ r. then_read t.byte r (λ next. run s z next rest)) stuck in
-    read_or_not (run s z state (t ∷ rest)) t.byte q here (sym (leads (t ∷ rest)) ∙ read)
+    read_or_not (run s z nothing ((before ++ t ∷ []) ++ rest)) t.byte q (ap (run s z nothing) (append_assoc before (t ∷ []) rest) ∙ leads (t ∷ rest) ∙ here) (complete_or_deep s z depth _ q is)
 
 end_fault : (s : Schema) (z byte : ℕ) (before : List Token) (state : State) (found : Option Parts) → found ≡ ended state.stage state.parts → Leads s z before state → or_syntax z found ≡ Err (Syntax byte) → IsFault s z (before ++ []) byte
 end_fault s z byte before state (Some p) is leads e = cc
@@ -144,7 +144,7 @@ end_fault s z byte before state None is leads e =
     let whole : before ++ [] ≡ before = append-nil before in
     subst (λ b. IsFault s z (before ++ []) b) same
     (subst (λ ts. IsFault s z ts z) (sym whole) (at_the_end before (begins s z before state leads)
-    (λ q is. read_or_not (run s z state []) z q here (sym (leads []) ∙ ap (run s z nothing) whole ∙ complete s z 64 before q is (omega arith)))))
+    (λ depth q is. read_or_not (run s z nothing before) z q (sym (ap (run s z nothing) whole) ∙ leads [] ∙ here) (complete_or_deep s z depth before q is))))
 
 token_fault : (s : Schema) (z byte : ℕ) (before : List Token) (state : State) (t : Token) (ts : List Token) (r : Result State Stop) → r ≡ step s state t → Leads s z before state →
     ((next : State) → step s state t ≡ Ok next → run s z next ts ≡ Err (Syntax byte) → IsFault s z (before ++ t ∷ ts) byte) →
@@ -169,3 +169,35 @@ fault_from s z byte before state (t ∷ ts) leads e =
 -- a fault of syntax is the first token that no query has in its place
 pub first_fault : (s : Schema) (z byte : ℕ) (ts : List Token) → run s z nothing ts ≡ Err (Syntax byte) → IsFault s z ts byte
 first_fault s z byte ts e = fault_from s z byte [] nothing ts (λ rest. refl) e
+
+-- Whatever follows them, tokens lead to a state or are refused.
+
+data Fate (s : Schema) (z : ℕ) (state : State) (ts : List Token) : Type 0 where
+  leads_to : (next : State) → ((rest : List Token) → run s z state (ts ++ rest) ≡ run s z next rest) → Fate s z state ts
+  stops_by : (bad : SqlRefused) → ((rest : List Token) → run s z state (ts ++ rest) ≡ Err bad) → Fate s z state ts
+
+abbrev read_on : Schema → ℕ → Token → List Token → Result State Stop → Result Parts SqlRefused
+read_on s z t ts r = then_read t.byte r (λ next. run s z next ts)
+
+fate : (s : Schema) (z : ℕ) (state : State) (ts : List Token) → Fate s z state ts
+fate s z state [] = leads_to state (λ rest. refl)
+fate s z state (t ∷ ts) = by (step s state t) refl (λ next. fate s z next ts)
+  where
+    further_on : (next : State) → step s state t ≡ Ok next → Fate s z next ts → Fate s z state (t ∷ ts)
+    further_on next is (leads_to end leads) = leads_to end (λ rest. ap (read_on s z t (ts ++ rest)) is ∙ leads rest)
+    further_on next is (stops_by bad stops) = stops_by bad (λ rest. ap (read_on s z t (ts ++ rest)) is ∙ stops rest)
+
+    by : (r : Result State Stop) → step s state t ≡ r → ((next : State) → Fate s z next ts) → Fate s z state (t ∷ ts)
+    by (Ok next) is later = further_on next is (later next)
+    by (Err bad) is later = stops_by (refused t.byte bad) (λ rest. ap (read_on s z t (ts ++ rest)) is)
+
+deep_front : (s : Schema) (z depth : ℕ) (front behind rest : List Token) (q : Parts) → (Begins s front → ⊥) → IsQuery s depth (front ++ rest) q → Fate s z nothing front →
+    OrDeep (run s z nothing (front ++ rest)) (Ok q) → run s z nothing (front ++ behind) ≡ Err Limit
+deep_front s z depth front behind rest q none is (leads_to end leads) e = absurd (none (begins s z front end leads))
+deep_front s z depth front behind rest q none is (stops_by bad stops) (inl e) = let g : Err bad ≡ Ok q = sym (stops rest) ∙ e in cc
+deep_front s z depth front behind rest q none is (stops_by bad stops) (inr e) = stops behind ∙ sym (stops rest) ∙ e
+
+-- tokens that nest too deep are refused for it
+pub refused_deep : (s : Schema) (z : ℕ) (ts : List Token) → NestsDeeper s ts → run s z nothing ts ≡ Err Limit
+refused_deep s z ts (front, behind, depth, same, (rest, q, is), none) =
+    ap (run s z nothing) same ∙ deep_front s z depth front behind rest q none is (fate s z nothing front) (complete_or_deep s z depth (front ++ rest) q is)

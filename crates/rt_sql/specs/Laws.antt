@@ -1,11 +1,11 @@
 -- What the reading of tokens keeps of the grammar.
 use Rattle.std.specs.Prelude.{◌≡◌, ℕ, List, Ok, Err, ◌↔◌}
 use Rattle.rt_schema.specs.declared.schema.Schema.{Schema}
-use Rattle.rt_sql.specs.Faults.{IsFault}
+use Rattle.rt_sql.specs.Faults.{IsFault, NestsDeeper}
 use Rattle.rt_sql.specs.Grammar.{IsQuery}
 use Rattle.rt_sql.specs.Run.{nothing, run}
 use Rattle.rt_sql.specs.declared.parts.Parts.{Parts}
-use Rattle.rt_sql.specs.declared.sql_refused.SqlRefused.TheVariants.{Syntax}
+use Rattle.rt_sql.specs.declared.sql_refused.SqlRefused.TheVariants.{Syntax, Limit}
 use Rattle.rt_sql.specs.declared.token.Token.{Token}
 
 -- tokens are read as a query exactly where the grammar derives it, nesting at most 64 deep
@@ -15,3 +15,7 @@ ReadIsDerived = (schema : Schema) (size : ℕ) (tokens : List Token) (parts : Pa
 -- where tokens aren't read, the byte of the refusal is that of the first token that no query has in its place
 abbrev pub FaultsAreFirst : Type 0
 FaultsAreFirst = (schema : Schema) (size byte : ℕ) (tokens : List Token) → run schema size nothing tokens ≡ Err (Syntax byte) → IsFault schema size tokens byte
+
+-- tokens that nest too deep before their first fault are refused for it
+abbrev pub DeepIsRefused : Type 0
+DeepIsRefused = (schema : Schema) (size : ℕ) (tokens : List Token) → NestsDeeper schema tokens → run schema size nothing tokens ≡ Err Limit

@@ -7,6 +7,7 @@ pub mod Run
 pub mod Tokens
 pub mod Grammar
 pub mod Rules
+pub mod Breaches
 pub mod Kinds
 pub mod Checks
 pub mod Parsing

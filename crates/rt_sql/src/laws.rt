@@ -1,12 +1,18 @@
-ghost use Rattle.rt_sql.specs.Laws.{ReadIsDerived, FaultsAreFirst};
+ghost use Rattle.rt_sql.specs.Laws.{ReadIsDerived, FaultsAreFirst, DeepIsRefused};
 
 /// Tokens are read as a query exactly where the grammar derives it, nesting at most 64 deep.
 pub fn what_is_read_is_derived()
     ensures { ReadIsDerived }
 {}
 
-/// Where tokens aren't read, the byte of the refusal is that of the first token that no query has in
-/// its place, or the text's length.
+/// Where tokens aren't read, the byte of the refusal by syntax is that of the first token that no query,
+/// however deep it nests, has in its place, or the text's length.
 pub fn faults_are_first()
     ensures { FaultsAreFirst }
+{}
+
+/// Tokens with which a query begins, but none that nests at most 64 deep, are refused for their depth,
+/// whatever follows them.
+pub fn deep_is_refused()
+    ensures { DeepIsRefused }
 {}

@@ -8,6 +8,7 @@ use crate::lexeme::Lexeme;
 use crate::signs::sign;
 use crate::token::Token;
 use crate::words::lexeme_of;
+use rt_base::limits::LONGEST_NAME;
 use rt_lists::{Items, Text};
 use std::alloc::{AllocError, Global};
 
@@ -191,7 +192,7 @@ fn quoted(alloc: Global, text: &str, at: usize) -> Result<Option<Lexed>, AllocEr
 {
     let bytes = rest_of(text, at);
     let length = quotable_length(bytes);
-    if length == bytes.len() || bytes[length] != b'"' || length == 0 || length > 128 {
+    if length == bytes.len() || bytes[length] != b'"' || length == 0 || length > LONGEST_NAME {
         return Ok(None);
     }
     let name = Text::copied_from(alloc, &text[at..at + length])?;

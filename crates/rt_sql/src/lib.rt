@@ -26,11 +26,9 @@ mod stop;
 mod terms;
 mod test;
 mod testing;
-#[cfg(test)]
-mod tests;
 mod token;
 mod words;
 
-pub use laws::{faults_are_first, what_is_read_is_derived};
+pub use laws::{deep_is_refused, faults_are_first, what_is_read_is_derived};
 pub use parser::parse;
 pub use sql_refused::SqlRefused;

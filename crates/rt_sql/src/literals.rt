@@ -1,6 +1,8 @@
 ghost use Rattle.std.specs.Prelude.{◌≡◌, true, false};
 ghost use Rattle.rt_sql.specs.Literals.{whole, or_zero, rows, or_none};
 
+use rt_base::limits::MOST_ROWS;
+
 /// The number of a literal, behind a minus or not; None where it has more than 64 signed bits.
 pub(crate) fn whole(negative: bool, number: Option<u64>) -> Option<i64>
     ensures { result ≡ whole negative number }
@@ -47,7 +49,7 @@ pub(crate) fn rows(number: Option<u64>) -> Option<u32>
     ensures { result ≡ rows number }
 {
     match number {
-        Some(number) if number <= 1_000_000 => Some(number as u32),
+        Some(number) if number <= u64::from(MOST_ROWS) => Some(number as u32),
         _ => None,
     }
 }

@@ -1,5 +1,5 @@
 ghost use Rattle.std.specs.Prelude.{◌≡◌, ◌<◌, IfOk};
-ghost use Rattle.rt_sql.specs.Nested.{all_of, any_of, under, new_level, with_term, with_condition, predicate_of, start, inside, outside};
+ghost use Rattle.rt_sql.specs.Nested.{all_of, any_of, under, new_level, with_term, start, inside, outside};
 
 use crate::nesting::{Enclosing, Level, Nesting};
 use crate::stack::Stack;
@@ -35,7 +35,7 @@ pub(crate) fn inside(alloc: Global, nesting: Nesting, nots: u32) -> Result<Nesti
     requires { nots < nesting.level.room }
     ensures { IfOk result (λ deeper. deeper ≡ inside nesting nots) }
 {
-    let Nesting { level, mut outer } = nesting;
+    let (level, mut outer) = nesting.into_levels();
     let inner = new_level(alloc, level.room - nots - 1);
     outer.push(Enclosing { level, nots })?;
     Ok(Nesting {
@@ -53,7 +53,7 @@ pub(crate) fn outside(
 ) -> Result<Nesting, AllocError>
     ensures { IfOk result (λ nesting. nesting ≡ outside level enclosing outer) }
 {
-    let predicate = predicate_of(level)?;
+    let predicate = level.into_predicate()?;
     let level = with_term(alloc, enclosing.level, enclosing.nots, predicate)?;
     Ok(Nesting { level, outer })
 }
@@ -83,38 +83,8 @@ fn under(alloc: Global, nots: u32, term: Predicate) -> Result<Predicate, AllocEr
     Ok(predicate)
 }
 
-/// OR ends a condition.
-pub(crate) fn with_condition(alloc: Global, level: Level) -> Result<Level, AllocError>
-    ensures { IfOk result (λ later. later ≡ with_condition level) }
-{
-    let Level {
-        room,
-        mut conditions,
-        terms,
-    } = level;
-    conditions.push(all_of(terms))?;
-    Ok(Level {
-        room,
-        conditions,
-        terms: Items::new(alloc),
-    })
-}
-
-/// The predicate that has been read at a level.
-pub(crate) fn predicate_of(level: Level) -> Result<Predicate, AllocError>
-    ensures { IfOk result (λ predicate. predicate ≡ predicate_of level) }
-{
-    let Level {
-        room: _,
-        mut conditions,
-        terms,
-    } = level;
-    conditions.push(all_of(terms))?;
-    Ok(any_of(conditions))
-}
-
-// AND of terms; one term is itself.
-fn all_of(terms: Items<Predicate>) -> Predicate
+/// AND of terms; one term is itself.
+pub(crate) fn all_of(terms: Items<Predicate>) -> Predicate
     ensures { result ≡ all_of terms }
 {
     let mut terms = terms.into_vec();
@@ -124,8 +94,8 @@ fn all_of(terms: Items<Predicate>) -> Predicate
     Predicate::of(Condition::And(terms))
 }
 
-// OR of conditions; one is itself.
-fn any_of(conditions: Items<Predicate>) -> Predicate
+/// OR of conditions; one is itself.
+pub(crate) fn any_of(conditions: Items<Predicate>) -> Predicate
     ensures { result ≡ any_of conditions }
 {
     let mut conditions = conditions.into_vec();

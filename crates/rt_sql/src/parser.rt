@@ -1,19 +1,20 @@
-ghost use Rattle.std.specs.Prelude.{◌≡◌, map, IfOk};
+ghost use Rattle.std.specs.Prelude.{◌≡◌, IfOk};
 ghost use Rattle.rt_schema.specs.Schema.{IsSchema};
 ghost use Rattle.rt_model.specs.Checked.{IsQuery};
 ghost use Rattle.rt_sql.specs.Run.{Answers};
-ghost use Rattle.rt_sql.specs.Parsing.{is_table, query_with, query_of};
-ghost use Rattle.rt_sql.specs.Queries.{IsTextOf, IsReadAs, IfMisspelt};
+ghost use Rattle.rt_sql.specs.Parsing.{is_table, query_of};
+ghost use Rattle.rt_sql.specs.Faults.{NestsDeeper};
+ghost use Rattle.rt_sql.specs.Tokens.{tokens_of};
+ghost use Rattle.rt_sql.specs.Queries.{IsTextOf, IsReadAs, IfMisspelt, IsLimited};
 
 use crate::SqlRefused;
 use crate::before::{are_known, are_within};
 use crate::kinds::is_typed_query;
 use crate::lexer::tokens_of;
-use crate::parts::{GroupAt, ItemAt, KeyAt, Parts};
 use crate::reader::read;
 use crate::rules::breach;
-use rt_lists::Items;
-use rt_model::{ColumnAt, Item, OrderKey, Query};
+use rt_base::limits::LONGEST_QUERY;
+use rt_model::Query;
 use rt_schema::Schema;
 use std::alloc::{AllocError, Global};
 
@@ -22,7 +23,7 @@ use std::alloc::{AllocError, Global};
 /// other name is a column's, and kinds and numbers fit. A text of more than 65,536 bytes, or one that
 /// nests deeper than 64 before its first fault, is refused as `Limit`; else of the refusals the first
 /// that applies is answered, by their order.
-#[tactic(auto, using(crate::proofs::Texts::answered_text, crate::proofs::Texts::text_answered, crate::proofs::Texts::answered_syntax, crate::proofs::Fitting::answered_fits))]
+#[tactic(auto, using(crate::proofs::Texts::answered_text, crate::proofs::Texts::text_answered, crate::proofs::Texts::answered_syntax, crate::proofs::Texts::answered_deep, crate::proofs::Fitting::answered_fits))]
 pub fn parse(alloc: Global, text: &str, schema: &Schema, table: &str) -> Result<Query, SqlRefused>
     requires { IsSchema schema.now }
     // Which refusal it is, and which query.
@@ -33,8 +34,11 @@ pub fn parse(alloc: Global, text: &str, schema: &Schema, table: &str) -> Result<
     ensures fits { IfOk result (IsQuery schema.now) }
     // What the grammar derives is answered.
     ensures only { (query : Query) → IsTextOf schema.now table.now text.now query → IsReadAs query result }
-    // A refusal by syntax is at the first token that no query has in its place, or at a breach of a rule.
+    // A refusal by syntax is at the first token that no query, however deep it nests, has in its place,
+    // or at a breach of a rule.
     ensures misspelt { IfMisspelt schema.now text.now result }
+    // A text that nests too deep before its first fault passes a limit.
+    ensures too_deep { NestsDeeper schema.now (tokens_of text.now) → IsLimited result }
 {
     read_text(alloc, text, schema, table)
 }
@@ -43,12 +47,12 @@ fn read_text(alloc: Global, text: &str, schema: &Schema, table: &str) -> Result<
     requires { IsSchema schema.now }
     ensures { Answers (query_of schema.now table.now text.now) result }
 {
-    if text.len() > 65_536 {
+    if text.len() > LONGEST_QUERY {
         return Err(SqlRefused::Limit);
     }
     let tokens = tokens_of(alloc, text)?;
     let parts = read(alloc, schema, tokens.as_slice(), text.len() as u64)?;
-    if let Some(byte) = breach(&parts) {
+    if let Some(byte) = breach(alloc, &parts)? {
         return Err(SqlRefused::Syntax { byte });
     }
     if !is_table(alloc, parts.table.as_str(), table)? {
@@ -63,7 +67,7 @@ fn read_text(alloc: Global, text: &str, schema: &Schema, table: &str) -> Result<
     if !are_within(tokens.as_slice()) {
         return Err(SqlRefused::Limit);
     }
-    Ok(query_with(alloc, parts)?)
+    Ok(parts.into_query(alloc)?)
 }
 
 // Whether a name is a table's, or that with `_REALTIME` behind it.
@@ -75,46 +79,4 @@ fn is_table(alloc: Global, name: &str, table: &str) -> Result<bool, AllocError>
     }
     let realtime = format!(in alloc; "{table}_REALTIME")?;
     Ok(name == realtime.as_str())
-}
-
-fn query_with(alloc: Global, parts: Parts) -> Result<Query, AllocError>
-    ensures { IfOk result (λ query. query ≡ query_with parts) }
-{
-    Ok(Query {
-        items: items_of(alloc, parts.items.into_vec())?,
-        filter: parts.filter,
-        groups: columns_of(alloc, parts.groups.into_vec())?,
-        order: keys_of(alloc, parts.order.into_vec())?,
-        limit: parts.limit,
-    })
-}
-
-fn items_of(alloc: Global, found: Vec<ItemAt>) -> Result<Items<Item>, AllocError>
-    ensures { IfOk result (λ items. items ≡ map (λ i. i.item) found.items) }
-{
-    let mut items = Items::new(alloc);
-    for found in found {
-        items.push(found.item)?;
-    }
-    Ok(items)
-}
-
-fn columns_of(alloc: Global, found: Vec<GroupAt>) -> Result<Items<ColumnAt>, AllocError>
-    ensures { IfOk result (λ columns. columns ≡ map (λ g. g.column) found.items) }
-{
-    let mut columns = Items::new(alloc);
-    for found in found {
-        columns.push(found.column)?;
-    }
-    Ok(columns)
-}
-
-fn keys_of(alloc: Global, found: Vec<KeyAt>) -> Result<Items<OrderKey>, AllocError>
-    ensures { IfOk result (λ keys. keys ≡ map (λ k. k.key) found.items) }
-{
-    let mut keys = Items::new(alloc);
-    for found in found {
-        keys.push(found.key)?;
-    }
-    Ok(keys)
 }

@@ -1,5 +1,9 @@
+ghost use Rattle.std.specs.Prelude.{◌≡◌, map, IfOk};
+ghost use Rattle.rt_sql.specs.Parsing.{query_with};
+
 use rt_lists::{Items, Text};
-use rt_model::{ColumnAt, Item, OrderKey, Predicate};
+use rt_model::{ColumnAt, Item, OrderKey, Predicate, Query};
+use std::alloc::{AllocError, Global};
 
 /// An item, and the place in the text of its first byte.
 #[derive(Drop)]
@@ -23,7 +27,6 @@ pub(crate) struct KeyAt {
 }
 
 /// The parts of a query, as far as they have been read.
-#[derive(Drop)]
 pub(crate) struct Parts {
     pub(crate) items: Items<ItemAt>,
     /// The name behind FROM.
@@ -32,4 +35,71 @@ pub(crate) struct Parts {
     pub(crate) groups: Items<GroupAt>,
     pub(crate) order: Items<KeyAt>,
     pub(crate) limit: u32,
+}
+
+// Written out: whoever drops parts calls this, and its proof needs nothing of the fields.
+impl Drop for Parts {
+    fn drop(self) {
+        let Parts {
+            items: _,
+            table: _,
+            filter: _,
+            groups: _,
+            order: _,
+            limit: _,
+        } = self;
+    }
+}
+
+impl Parts {
+    /// The query of these parts.
+    pub(crate) fn into_query(self, alloc: Global) -> Result<Query, AllocError>
+        ensures { IfOk result (λ query. query ≡ query_with self) }
+    {
+        let Parts {
+            items,
+            table: _,
+            filter,
+            groups,
+            order,
+            limit,
+        } = self;
+        Ok(Query {
+            items: items_of(alloc, items.into_vec())?,
+            filter,
+            groups: columns_of(alloc, groups.into_vec())?,
+            order: keys_of(alloc, order.into_vec())?,
+            limit,
+        })
+    }
+}
+
+fn items_of(alloc: Global, found: Vec<ItemAt>) -> Result<Items<Item>, AllocError>
+    ensures { IfOk result (λ items. items ≡ map (λ i. i.item) found.items) }
+{
+    let mut items = Items::new(alloc);
+    for found in found {
+        items.push(found.item)?;
+    }
+    Ok(items)
+}
+
+fn columns_of(alloc: Global, found: Vec<GroupAt>) -> Result<Items<ColumnAt>, AllocError>
+    ensures { IfOk result (λ columns. columns ≡ map (λ g. g.column) found.items) }
+{
+    let mut columns = Items::new(alloc);
+    for found in found {
+        columns.push(found.column)?;
+    }
+    Ok(columns)
+}
+
+fn keys_of(alloc: Global, found: Vec<KeyAt>) -> Result<Items<OrderKey>, AllocError>
+    ensures { IfOk result (λ keys. keys ≡ map (λ k. k.key) found.items) }
+{
+    let mut keys = Items::new(alloc);
+    for found in found {
+        keys.push(found.key)?;
+    }
+    Ok(keys)
 }

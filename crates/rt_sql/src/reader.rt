@@ -3,7 +3,6 @@ ghost use Rattle.rt_schema.specs.Schema.{IsSchema};
 ghost use Rattle.rt_sql.specs.Run.{Answers, nothing, refused, predicate_ends, ended, run};
 
 use crate::items::with_key;
-use crate::nested::predicate_of;
 use crate::nesting::Nesting;
 use crate::parts::Parts;
 use crate::sql_refused::SqlRefused;
@@ -83,11 +82,11 @@ fn ended(stage: Stage, parts: Parts) -> Result<Option<Parts>, AllocError>
 fn predicate_ends(nesting: Nesting, parts: Parts) -> Result<Option<Parts>, AllocError>
     ensures { IfOk result (λ whole. whole ≡ predicate_ends nesting parts nesting.outer) }
 {
-    let Nesting { level, mut outer } = nesting;
+    let (level, mut outer) = nesting.into_levels();
     if outer.pop().is_some() {
         return Ok(None);
     }
     let mut parts = parts;
-    parts.filter = Some(predicate_of(level)?);
+    parts.filter = Some(level.into_predicate()?);
     Ok(Some(parts))
 }

@@ -1,25 +1,26 @@
-ghost use Rattle.std.specs.Prelude.{◌≡◌, []};
+ghost use Rattle.std.specs.Prelude.{◌≡◌, [], IfOk};
 ghost use Rattle.rt_sql.specs.Rules.{is_grouped, is_aggregate, has_aggregate, may_stand, ungrouped, repeated, same_aggregate, same_item, is_selected, is_group, stray, first_byte, first_of, breach};
 
 use crate::parts::{GroupAt, ItemAt, KeyAt, Parts};
 use rt_model::{Aggregate, ColumnAt, Item};
+use std::alloc::{AllocError, Global};
+use std::collections::BTreeSet;
 
 /// The first byte of the first item, name or key that breaks a rule of syntax beyond the grammar.
-pub(crate) fn breach(parts: &Parts) -> Option<u64>
-    ensures { result ≡ breach parts.now }
+/// Fails only where memory is refused.
+pub(crate) fn breach(alloc: Global, parts: &Parts) -> Result<Option<u64>, AllocError>
+    ensures { IfOk result (λ byte. byte ≡ breach parts.now) }
 {
     let items = parts.items.as_slice();
     let groups = parts.groups.as_slice();
     if !has_aggregate(items) {
-        return first_byte(items);
+        return Ok(first_byte(items));
     }
-    first_of(
+    let again = repeated(alloc, groups)?;
+    Ok(first_of(
         ungrouped(groups, items),
-        first_of(
-            repeated(groups),
-            stray(items, groups, parts.order.as_slice()),
-        ),
-    )
+        first_of(again, stray(items, groups, parts.order.as_slice())),
+    ))
 }
 
 fn first_of(byte: Option<u64>, later: Option<u64>) -> Option<u64>
@@ -93,15 +94,16 @@ fn may_stand(groups: &[GroupAt], item: &Item) -> bool
 }
 
 // The first name that has come before in GROUP BY.
-fn repeated(groups: &[GroupAt]) -> Option<u64>
-    ensures { result ≡ repeated [] groups.now }
+fn repeated(alloc: Global, groups: &[GroupAt]) -> Result<Option<u64>, AllocError>
+    ensures { IfOk result (λ byte. byte ≡ repeated [] groups.now) }
 {
-    for (place, group) in groups.iter().enumerate() {
-        if is_grouped(&group.column, &groups[..place]) {
-            return Some(group.byte);
+    let mut names = BTreeSet::new(alloc);
+    for group in groups {
+        if !names.insert(group.column.name.as_str())? {
+            return Ok(Some(group.byte));
         }
     }
-    None
+    Ok(None)
 }
 
 // The first key that neither stands among the items nor is a name of GROUP BY.

@@ -5,10 +5,9 @@ ghost use Rattle.rt_sql.specs.Steps.{term, after_test, after_predicate, after_te
 
 use crate::columns::column_at;
 use crate::lexeme::{Lexeme, Word};
-use crate::nested::{inside, outside, predicate_of, with_condition, with_term};
-use crate::nesting::{Enclosing, Level, Nesting};
+use crate::nested::{inside, outside, with_term};
+use crate::nesting::Nesting;
 use crate::parts::Parts;
-use crate::stack::Stack;
 use crate::state::{Stage, State};
 use crate::steps::{after_filter, go};
 use crate::stop::Stop;
@@ -62,7 +61,7 @@ pub(crate) fn after_test(
     match read {
         Tested::More(test) => go(Stage::Test(nesting, nots, test), parts),
         Tested::Whole(predicate) => {
-            let Nesting { level, outer } = nesting;
+            let (level, outer) = nesting.into_levels();
             let level = with_term(alloc, level, nots, predicate)?;
             go(Stage::AfterTerm(Nesting { level, outer }), parts)
         }
@@ -81,29 +80,28 @@ pub(crate) fn after_term(
     match lexeme {
         Lexeme::Word(Word::And) => go(Stage::Term(nesting, 0), parts),
         Lexeme::Word(Word::Or) => {
-            let Nesting { level, outer } = nesting;
-            let level = with_condition(alloc, level)?;
+            let (level, outer) = nesting.into_levels();
+            let level = level.with_condition(alloc)?;
             go(Stage::Term(Nesting { level, outer }, 0), parts)
         }
-        _ => after_predicate(alloc, nesting.level, nesting.outer, lexeme, parts),
+        _ => after_predicate(alloc, nesting, lexeme, parts),
     }
 }
 
 // Neither AND nor OR comes.
 fn after_predicate(
     alloc: Global,
-    level: Level,
-    outer: Stack<Enclosing>,
+    nesting: Nesting,
     lexeme: &Lexeme,
     parts: Parts,
 ) -> Result<State, Stop>
-    ensures { Gives (after_predicate level outer lexeme.now parts) result }
+    ensures { Gives (after_predicate nesting.level nesting.outer lexeme.now parts) result }
 {
-    let mut outer = outer;
+    let (level, mut outer) = nesting.into_levels();
     match (outer.pop(), lexeme) {
         (None, lexeme) => {
             let mut parts = parts;
-            parts.filter = Some(predicate_of(level)?);
+            parts.filter = Some(level.into_predicate()?);
             after_filter(lexeme, parts)
         }
         (Some(enclosing), Lexeme::Word(Word::Close)) => {

@@ -15,4 +15,4 @@ returns c =
     (c.in_ok-all.ensures ∙ ap (λ n. map (result_at n) c.self.inside.table.entries) c.len.ensures)
     c.sort.ensures.permutation
     (subst (λ o. IsSortedBy (λ a b. is_lt (result_cmp o (shown a) (shown b))) c.sort.new.all.items) c.as_slice.ensures c.sort.ensures.sorted)
-    (c.in_ok-rows.ensures ∙ ap (map (λ r. r.row)) (c.as_slice-2.ensures.value ∙ c.truncate.ensures.items)))
+    (c.in_ok-rows.ensures ∙ ap (map (λ r. r.row)) c.truncate.ensures.items))

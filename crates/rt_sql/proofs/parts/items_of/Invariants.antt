@@ -1,5 +1,5 @@
 use Rattle.std.proofs.Common.{◌≡◌, map}
-use Rattle.rt_sql.proofs.parser.items_of.Given as goal
+use Rattle.rt_sql.proofs.parts.items_of.Given as goal
 
 -- each item so far is there
 abbrev pub invariant-loop-found : goal.invariant-loop-found

@@ -1,6 +1,6 @@
 use Rattle.std.proofs.Common.{◌≡◌, drop}
 use Rattle.rt_model.specs.Match.{is_one_of}
-use Rattle.rt_filter.proofs.matching.is_one_of.Given as goal
+use Rattle.rt_filter.proofs.comparing.is_one_of.Given as goal
 
 -- the value equals none of the literals before this place
 abbrev pub invariant-loop-literal : goal.invariant-loop-literal

@@ -1,5 +1,5 @@
 use Rattle.std.proofs.Common.{◌≡◌, map}
-use Rattle.rt_sql.proofs.parser.keys_of.Given as goal
+use Rattle.rt_sql.proofs.parts.keys_of.Given as goal
 
 -- each key so far is there
 abbrev pub invariant-loop-found : goal.invariant-loop-found
