@@ -1,11 +1,12 @@
 use Rattle.std.proofs.Common.{◌≡◌, ℕ, Bool, true, false, List, [], ◌∷◌, Option, Some, None, Result, Ok, Err}
 use Rattle.std.specs.Prelude.{IfErr, codes, not, nat_le, ◌&&◌, if◌then◌else◌}
+use Rattle.rt_base.specs.declared.limits.TheConstants.{LAST_MOMENT, MOST_CONTROLLERS, MOST_PARTITIONS, MOST_REPLICATION, MOST_SERVERS}
 use Rattle.rt_base.specs.declared.which.Which.{Which}
 use Rattle.rt_base.specs.declared.which.Which.TheVariants.{Input, Servers, Controllers, Partitions, Replication, Moment}
 use Rattle.rt_schema.specs.declared.schema.Schema.{Schema}
 use Rattle.rt_schema.specs.declared.table.Table.{Table}
 use Rattle.rt_schema.specs.declared.schema_refused.SchemaRefused.{SchemaRefused}
-use Rattle.rt_schema.specs.declared.schema_refused.SchemaRefused.TheVariants as refused
+use Rattle.rt_schema.specs.Refused.{number_of}
 use Rattle.rt_schema.specs.SchemaText.{schema_of}
 use Rattle.rt_schema.specs.TableText.{table_of}
 use Rattle.rt_model.specs.declared.setup.Setup.{Setup}
@@ -16,7 +17,7 @@ use Rattle.rt_lines.specs.declared.play_fault.PlayFault.{PlayFault}
 use Rattle.rt_lines.specs.declared.play_fault.PlayFault.TheVariants.{Refused, Memory, Limit}
 use Rattle.rt_lines.specs.Cluster.{cluster_of, cluster_fault, is_single, is_within}
 use Rattle.rt_lines.specs.Lines.{ScriptLines}
-use Rattle.rt_lines.specs.Header.{NumberedLine, then_ok, refused_by, if_taken, text_behind, if_well_formed, schema_at, table_at, setup_of, setup_with, setup_at, with_rest, next_line, header_of}
+use Rattle.rt_lines.specs.Header.{NumberedLine, then_ok, numbered_fault, refused_by, if_taken, text_behind, if_well_formed, schema_at, table_at, setup_of, setup_with, setup_at, with_rest, next_line, header_of}
 
 -- a fault that isn't the limit of the input
 abbrev IsOther : PlayFault → Type 0
@@ -46,13 +47,12 @@ replication_other e = cc
 moment_other : Moment ≡ Input → ⊥
 moment_other e = cc
 
+numbered_other : (reason : ℕ → LineReason) (line : ℕ) (number : Option ℕ) → IsOther (numbered_fault reason line number)
+numbered_other reason line (Some number) = refused_other line (reason number)
+numbered_other reason line None = memory_other
+
 refusal_other : (reason : ℕ → LineReason) (line : ℕ) (why : SchemaRefused) → IsOther (refused_by reason line why)
-refusal_other reason line refused.NotJson = refused_other line (reason 1)
-refusal_other reason line refused.MissingField = refused_other line (reason 2)
-refusal_other reason line refused.UnknownType = refused_other line (reason 3)
-refusal_other reason line refused.DuplicateColumn = refused_other line (reason 4)
-refusal_other reason line refused.Limit = refused_other line (reason 5)
-refusal_other reason line refused.Memory = memory_other
+refusal_other reason line why = numbered_other reason line (number_of why)
 
 text_other : {A : Type 0} (reason : ℕ → LineReason) (line : ℕ) (r : Result A SchemaRefused) → IfErr (if_taken reason line r) IsOther
 text_other reason line (Ok x) = tt
@@ -93,11 +93,11 @@ first_limit false which o h k = k
 
 limits_other : (c : Cluster) (replication : ℕ) → IsOtherLimit (cluster_fault c replication)
 limits_other c replication =
-    first_limit (not (is_within 1 16 c.servers)) Servers _ servers_other
-    (first_limit (not (is_within 1 4 c.controllers)) Controllers _ controllers_other
-    (first_limit (not (is_within 1 64 c.partitions)) Partitions _ partitions_other
-    (first_limit (not (nat_le replication 8 && nat_le replication c.servers)) Replication _ replication_other
-    (first_limit (not (nat_le c.start 253402300799999)) Moment None moment_other tt))))
+    first_limit (not (is_within 1 MOST_SERVERS c.servers)) Servers _ servers_other
+    (first_limit (not (is_within 1 MOST_CONTROLLERS c.controllers)) Controllers _ controllers_other
+    (first_limit (not (is_within 1 MOST_PARTITIONS c.partitions)) Partitions _ partitions_other
+    (first_limit (not (nat_le replication MOST_REPLICATION && nat_le replication c.servers)) Replication _ replication_other
+    (first_limit (not (nat_le c.start LAST_MOMENT)) Moment None moment_other tt))))
 
 single_other : (test : Bool) (setup : Setup) (line : ℕ) → IfErr (if test then Ok setup else Err (Refused line BadLine)) IsOther
 single_other true setup line = tt

@@ -1,5 +1,5 @@
 use Rattle.std.proofs.Common.{◌≡◌, ℕ, Bool, true, false, List, [], ◌∷◌, Option, Some, None, Result, Ok, Err, refl, ap, sym, ◌∙◌, subst, arith, eqb, eqb-true}
-use Rattle.std.specs.Prelude.{IfOk, cond, codes, ◌&&◌}
+use Rattle.std.specs.Prelude.{IfOk, IfSome, cond, codes, ◌&&◌}
 use Rattle.std.specs.Str.{IsUtf8, is_utf8}
 use Rattle.std.proofs.lemmas.Str.{IsUtf8-from_is_utf8, is_utf8-from_IsUtf8}
 use Rattle.rt_base.specs.declared.which.Which.{Which}
@@ -13,7 +13,9 @@ use Rattle.rt_schema.specs.TableText.{table_of, IsTable}
 use Rattle.rt_schema.proofs.Schemas.{answered_is_schema}
 use Rattle.rt_schema.proofs.Tables.{answered_is_table}
 use Rattle.rt_model.specs.declared.setup.Setup.{Setup}
+use Rattle.rt_model.specs.FirstCluster.{IsFirstCluster}
 use Rattle.rt_model.specs.Setup.{IsSetup}
+use Rattle.rt_lines.proofs.Clusters.{HasFormat, IsBounded, bounded, cluster_has}
 use Rattle.rt_lines.specs.declared.cluster.Cluster.{Cluster}
 use Rattle.rt_lines.specs.declared.line_reason.LineReason.{LineReason}
 use Rattle.rt_lines.specs.declared.line_reason.LineReason.TheVariants.{BadLine, Schema as BadSchema, Table as BadTable}
@@ -152,45 +154,69 @@ schema_has line =
     well_formed_has IsSchema line.0 (text_behind (codes "schema ") line.1) (λ text. if_taken BadSchema line.0 (schema_of text))
     (λ text. if_taken_has IsSchema BadSchema line.0 (schema_of text) (answered_is_schema text (schema_of text) (answers_itself (schema_of text))))
 
-table_has : (schema : Schema) (line : NumberedLine) → IfOk (table_at schema line) IsTable
+table_has : (schema : Schema) (line : NumberedLine) → IfOk (table_at schema line) (IsTable schema)
 table_has schema line =
-    well_formed_has IsTable line.0 (text_behind (codes "table ") line.1) (λ text. if_taken BadTable line.0 (table_of schema text))
-    (λ text. if_taken_has IsTable BadTable line.0 (table_of schema text) (answered_is_table schema text (table_of schema text) (answers_itself (table_of schema text))))
+    well_formed_has (IsTable schema) line.0 (text_behind (codes "table ") line.1) (λ text. if_taken BadTable line.0 (table_of schema text))
+    (λ text. if_taken_has (IsTable schema) BadTable line.0 (table_of schema text) (answered_is_table schema text (table_of schema text) (answers_itself (table_of schema text))))
+
+-- one whose line says something has what it has of all that such a line can say
+well_formed_given : {A B : Type 0} (P : B → Type 0) (Q : A → Type 0) (line : ℕ) (o : Option A) (f : A → Result B PlayFault) → IfSome o Q → ((x : A) → Q x → IfOk (f x) P) → IfOk (if_well_formed line o f) P
+well_formed_given P Q line None f h k = tt
+well_formed_given P Q line (Some x) f h k = k x h
+
+setup_taken : (schema : Schema) (table : Table) (c : Cluster) → IsSchema schema → IsTable schema table → HasFormat c → IsBounded c table.replication → IsSetup (setup_of schema table c)
+setup_taken schema table c is has format within = record {
+  schema = is;
+  table = has;
+  some_servers = within.servers.0;
+  few_servers = within.servers.1;
+  some_controllers = within.controllers.0;
+  few_controllers = within.controllers.1;
+  some_partitions = within.partitions.0;
+  few_partitions = within.partitions.1;
+  some_replicas = has.replicated.0;
+  few_replicas = within.few;
+  enough_servers = within.enough;
+  start = within.start;
+  first_format = format.0;
+  last_format = format.1;
+}
 
 single_at : (schema : Schema) (table : Table) (line : ℕ) (c : Cluster) (s k p r : Bool) → eqb c.servers 1 ≡ s → eqb c.controllers 1 ≡ k → eqb c.partitions 1 ≡ p → eqb table.replication 1 ≡ r →
-    IsSchema schema → IsTable table → IfOk (cond (((s && k) && p) && r) (Ok (setup_of schema table c)) (Err (Refused line BadLine))) IsSetup
-single_at schema table line c true true true true s k p r is has = record {
+    IsSetup (setup_of schema table c) → IfOk (cond (((s && k) && p) && r) (Ok (setup_of schema table c)) (Err (Refused line BadLine))) IsFirstCluster
+single_at schema table line c true true true true s k p r is = record {
+  taken = is;
   servers = eqb-true c.servers 1 s;
   controllers = eqb-true c.controllers 1 k;
   partitions = eqb-true c.partitions 1 p;
   replication = eqb-true table.replication 1 r;
-  rows = omega (arith, has.rows.0);
-  schema = is;
 }
-single_at schema table line c true true true false s k p r is has = tt
-single_at schema table line c true true false r' s k p r is has = tt
-single_at schema table line c true false p' r' s k p r is has = tt
-single_at schema table line c false k' p' r' s k p r is has = tt
+single_at schema table line c true true true false s k p r is = tt
+single_at schema table line c true true false r' s k p r is = tt
+single_at schema table line c true false p' r' s k p r is = tt
+single_at schema table line c false k' p' r' s k p r is = tt
 
-with_has : (schema : Schema) (table : Table) (line : ℕ) (c : Cluster) (o : Option Which) → IsSchema schema → IsTable table → IfOk (setup_with schema table line c o) IsSetup
-with_has schema table line c (Some which) is has = tt
-with_has schema table line c None is has = single_at schema table line c _ _ _ _ refl refl refl refl is has
+with_has : (schema : Schema) (table : Table) (line : ℕ) (c : Cluster) (o : Option Which) → cluster_fault c table.replication ≡ o → IsSchema schema → IsTable schema table → HasFormat c →
+    IfOk (setup_with schema table line c o) IsFirstCluster
+with_has schema table line c (Some which) e is has format = tt
+with_has schema table line c None e is has format =
+    single_at schema table line c _ _ _ _ refl refl refl refl (setup_taken schema table c is has format (bounded c table.replication e))
 
-setup_has : (schema : Schema) (table : Table) → IsSchema schema → IsTable table → (line : NumberedLine) → IfOk (setup_at schema table line) IsSetup
+setup_has : (schema : Schema) (table : Table) → IsSchema schema → IsTable schema table → (line : NumberedLine) → IfOk (setup_at schema table line) IsFirstCluster
 setup_has schema table is has line =
-    well_formed_has IsSetup line.0 (cluster_of line.1) (λ c. setup_with schema table line.0 c (cluster_fault c table.replication))
-    (λ c. with_has schema table line.0 c (cluster_fault c table.replication) is has)
+    well_formed_given IsFirstCluster HasFormat line.0 (cluster_of line.1) (λ c. setup_with schema table line.0 c (cluster_fault c table.replication)) (cluster_has line.1)
+    (λ c format. with_has schema table line.0 c (cluster_fault c table.replication) refl is has format)
 
-header_has : (script : ScriptLines) → IfOk (header_of script) (λ x. IsSetup x.0)
+header_has : (script : ScriptLines) → IfOk (header_of script) (λ x. IsFirstCluster x.0)
 header_has script =
-    then_has (λ x. IsSetup x.0) (λ x. IsSchema x.0) (next_line schema_at script.after script.lines) (behind_schema script.after) (next_has IsSchema schema_at script.after script.lines schema_has)
-    (λ schema is. then_has (λ x. IsSetup x.0) (λ x. IsTable x.0) (next_line (table_at schema.0) script.after schema.1) (behind_table schema.0 script.after) (next_has IsTable (table_at schema.0) script.after schema.1 (table_has schema.0))
-    (λ table has. next_has IsSetup (setup_at schema.0 table.0) script.after table.1 (setup_has schema.0 table.0 is has)))
+    then_has (λ x. IsFirstCluster x.0) (λ x. IsSchema x.0) (next_line schema_at script.after script.lines) (behind_schema script.after) (next_has IsSchema schema_at script.after script.lines schema_has)
+    (λ schema is. then_has (λ x. IsFirstCluster x.0) (λ x. IsTable schema.0 x.0) (next_line (table_at schema.0) script.after schema.1) (behind_table schema.0 script.after) (next_has (IsTable schema.0) (table_at schema.0) script.after schema.1 (table_has schema.0))
+    (λ table has. next_has IsFirstCluster (setup_at schema.0 table.0) script.after table.1 (setup_has schema.0 table.0 is has)))
 
 -- a setup that a header says is one that is taken
-pub header_taken : (script : ScriptLines) (setup : Setup) (lines : List NumberedLine) → header_of script ≡ Ok (setup, lines) → IsSetup setup
-header_taken script setup lines e = subst (λ r. IfOk r (λ x. IsSetup x.0)) e (header_has script)
+pub header_taken : (script : ScriptLines) (setup : Setup) (lines : List NumberedLine) → header_of script ≡ Ok (setup, lines) → IsFirstCluster setup
+header_taken script setup lines e = subst (λ r. IfOk r (λ x. IsFirstCluster x.0)) e (header_has script)
 
-pub reads_taken : (old new : ScriptLines) (result : Result Setup PlayFault) → ReadsHeader old new result → IfOk result IsSetup
+pub reads_taken : (old new : ScriptLines) (result : Result Setup PlayFault) → ReadsHeader old new result → IfOk result IsFirstCluster
 reads_taken old new (Ok setup) h = header_taken old setup new.lines h.0
 reads_taken old new (Err fault) h = tt

@@ -1,4 +1,6 @@
 pub mod Arrays
+pub mod ClusterLines
+pub mod Clusters
 pub mod Cuts
 mod Digits
 pub mod HeaderLimits

@@ -1,6 +1,7 @@
 -- What a cluster line says: `cluster servers=N controllers=N partitions=N start=N grace=N`,
 -- behind which ` retention=N` and then ` format=F` may stand.
 use Rattle.std.specs.Prelude.{ℕ, Bool, not, List, Option, None, Some, codes, ◌==◌, nat_le, ◌&&◌, if◌then◌else◌}
+use Rattle.rt_base.specs.declared.limits.TheConstants.{LAST_MOMENT, MOST_CONTROLLERS, MOST_PARTITIONS, MOST_REPLICATION, MOST_SERVERS}
 use Rattle.rt_base.specs.declared.which.Which.{Which}
 use Rattle.rt_base.specs.declared.which.Which.TheVariants.{Servers, Controllers, Partitions, Replication, Moment}
 use Rattle.rt_lines.specs.declared.cluster.Cluster.{Cluster}
@@ -73,11 +74,11 @@ is_within least most n = nat_le least n && nat_le n most
 -- the first limit that a cluster goes beyond, with a table of this replication
 abbrev pub cluster_fault : Cluster → ℕ → Option Which
 cluster_fault c replication =
-    if not (is_within 1 16 c.servers) then Some Servers else
-    (if not (is_within 1 4 c.controllers) then Some Controllers else
-    (if not (is_within 1 64 c.partitions) then Some Partitions else
-    (if not (nat_le replication 8 && nat_le replication c.servers) then Some Replication else
-    (if not (nat_le c.start 253402300799999) then Some Moment else None))))
+    if not (is_within 1 MOST_SERVERS c.servers) then Some Servers else
+    (if not (is_within 1 MOST_CONTROLLERS c.controllers) then Some Controllers else
+    (if not (is_within 1 MOST_PARTITIONS c.partitions) then Some Partitions else
+    (if not (nat_le replication MOST_REPLICATION && nat_le replication c.servers) then Some Replication else
+    (if not (nat_le c.start LAST_MOMENT) then Some Moment else None))))
 
 -- so far a cluster has one server, one controller, one partition and one replica of each segment
 abbrev pub is_single : Cluster → ℕ → Bool

@@ -5,7 +5,7 @@ use Rattle.rt_base.specs.declared.which.Which.{Which}
 use Rattle.rt_schema.specs.declared.schema.Schema.{Schema}
 use Rattle.rt_schema.specs.declared.table.Table.{Table}
 use Rattle.rt_schema.specs.declared.schema_refused.SchemaRefused.{SchemaRefused}
-use Rattle.rt_schema.specs.declared.schema_refused.SchemaRefused.TheVariants as refused
+use Rattle.rt_schema.specs.Refused.{number_of}
 use Rattle.rt_schema.specs.SchemaText.{schema_of}
 use Rattle.rt_schema.specs.TableText.{table_of}
 use Rattle.rt_model.specs.declared.setup.Setup.{Setup}
@@ -26,14 +26,14 @@ abbrev pub then_ok : {A B : Type 0} → Result A PlayFault → (A → Result B P
 then_ok (Ok x) f = f x
 then_ok (Err fault) f = Err fault
 
--- the fault of a text that its reader refuses, which numbers its refusals from 1 on
+-- a refusal by its number, or want of memory, which has none
+abbrev pub numbered_fault : (ℕ → LineReason) → ℕ → Option ℕ → PlayFault
+numbered_fault reason line (Some number) = Refused line (reason number)
+numbered_fault reason line None = Memory
+
+-- the fault of a text that its reader refuses
 abbrev pub refused_by : (ℕ → LineReason) → ℕ → SchemaRefused → PlayFault
-refused_by reason line refused.NotJson = Refused line (reason 1)
-refused_by reason line refused.MissingField = Refused line (reason 2)
-refused_by reason line refused.UnknownType = Refused line (reason 3)
-refused_by reason line refused.DuplicateColumn = Refused line (reason 4)
-refused_by reason line refused.Limit = Refused line (reason 5)
-refused_by reason line refused.Memory = Memory
+refused_by reason line why = numbered_fault reason line (number_of why)
 
 abbrev pub if_taken : {A : Type 0} → (ℕ → LineReason) → ℕ → Result A SchemaRefused → Result A PlayFault
 if_taken reason line (Ok x) = Ok x

@@ -1,5 +1,6 @@
 pub mod Answer
 pub mod Cluster
+pub mod ClusterLine
 pub mod Fault
 pub mod Header
 pub mod Lines

@@ -15,8 +15,8 @@ pub fn answer_text(alloc: Global, answer: &Answer) -> Result<String, AllocError>
     Ok(text)
 }
 
-/// Adds an answer as JSON at the end of a text.
-pub fn write_answer(out: &mut String, answer: &Answer) -> Result<(), AllocError>
+// Adds an answer as JSON at the end of a text.
+fn write_answer(out: &mut String, answer: &Answer) -> Result<(), AllocError>
     ensures { OnOk result (string_bytes out.new ≡ string_bytes out.old ++ answer_bytes answer.now) }
 {
     write_ranges(out, answer.ranges.as_slice())?;

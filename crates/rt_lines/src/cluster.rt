@@ -13,9 +13,9 @@ ghost use Rattle.rt_lines.specs.Cluster.{
 use crate::numeral::number_up_to;
 use crate::parts::{after_prefix, part_at};
 use rt_base::Which;
-
-/// The greatest moment at which a cluster starts.
-const LAST_MOMENT: u64 = 253_402_300_799_999;
+use rt_base::limits::{
+    LAST_MOMENT, MOST_CONTROLLERS, MOST_PARTITIONS, MOST_REPLICATION, MOST_SERVERS,
+};
 
 /// What a cluster line says.
 #[derive(Clone, Copy)]
@@ -59,16 +59,16 @@ pub(crate) fn read_cluster(line: &[u8]) -> Option<Cluster>
 pub(crate) fn beyond(cluster: Cluster, replication: u32) -> Option<Which>
     ensures { result ≡ cluster_fault cluster replication }
 {
-    if cluster.servers < 1 || cluster.servers > 16 {
+    if cluster.servers < 1 || cluster.servers > u64::from(MOST_SERVERS) {
         return Some(Which::Servers);
     }
-    if cluster.controllers < 1 || cluster.controllers > 4 {
+    if cluster.controllers < 1 || cluster.controllers > u64::from(MOST_CONTROLLERS) {
         return Some(Which::Controllers);
     }
-    if cluster.partitions < 1 || cluster.partitions > 64 {
+    if cluster.partitions < 1 || cluster.partitions > u64::from(MOST_PARTITIONS) {
         return Some(Which::Partitions);
     }
-    if replication > 8 || u64::from(replication) > cluster.servers {
+    if replication > MOST_REPLICATION || u64::from(replication) > cluster.servers {
         return Some(Which::Replication);
     }
     if cluster.start > LAST_MOMENT {

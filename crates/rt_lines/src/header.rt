@@ -1,5 +1,5 @@
-ghost use Rattle.std.specs.Prelude.{◌≡◌, ◌<◌, ◌^◌, Some, None, IfOk, IfSome, IfNone, length};
-ghost use Rattle.rt_model.specs.Setup.{IsSetup};
+ghost use Rattle.std.specs.Prelude.{◌≡◌, ◌<◌, ◌^◌, Some, None, IfOk, IfSome, IfNone, OnErr, OnOk, length};
+ghost use Rattle.rt_model.specs.FirstCluster.{IsFirstCluster};
 ghost use Rattle.rt_lines.specs.declared.line_reason.LineReason.TheVariants.{Schema as BadSchema, Table as BadTable};
 ghost use Rattle.rt_lines.specs.Header.{
   Reads,
@@ -24,12 +24,24 @@ use std::alloc::Global;
 
 /// Reads the three header lines: the schema, the table and the cluster. The first of them that is
 /// missing or outside the grammar, or whose text is refused or goes beyond a limit, ends the reading. A
-/// line that is missing has the number after the last line. So far a cluster has one server, one
-/// controller, one partition and one replica of each segment; others within the limits are refused as
-/// lines outside the grammar are.
+/// line that is missing has the number after the last line. Where the header is refused, or memory runs
+/// out, the lines are as they were. So far a cluster has one server, one controller, one partition and
+/// one replica of each segment; others within the limits are refused as lines outside the grammar are.
 pub fn read_header(alloc: Global, lines: &mut Lines<'_>) -> Result<Setup, PlayFault>
     ensures reads { ReadsHeader lines.old lines.new result }
-    ensures taken { IfOk result IsSetup }
+    ensures taken { IfOk result IsFirstCluster }
+    ensures refused { OnErr result (lines.new ≡ lines.old) }
+    ensures few { OnOk result (length lines.new.lines < 2 ^ 64) }
+{
+    let mut ahead = lines.again();
+    let setup = read_lines(alloc, &mut ahead)?;
+    *lines = ahead;
+    Ok(setup)
+}
+
+fn read_lines(alloc: Global, lines: &mut Lines<'_>) -> Result<Setup, PlayFault>
+    ensures reads { ReadsHeader lines.old lines.new result }
+    ensures taken { IfOk result IsFirstCluster }
     ensures few { length lines.new.lines < 2 ^ 64 }
 {
     let schema = read_schema_line(alloc, lines)?;
@@ -164,43 +176,23 @@ fn bad_line(line: u64) -> PlayFault
 fn schema_fault(line: u64, refused: SchemaRefused) -> PlayFault
     ensures { result ≡ refused_by BadSchema line refused }
 {
-    match refused {
-        SchemaRefused::NotJson => bad_schema(line, 1),
-        SchemaRefused::MissingField => bad_schema(line, 2),
-        SchemaRefused::UnknownType => bad_schema(line, 3),
-        SchemaRefused::DuplicateColumn => bad_schema(line, 4),
-        SchemaRefused::Limit => bad_schema(line, 5),
-        SchemaRefused::Memory => PlayFault::Memory,
-    }
-}
-
-fn bad_schema(line: u64, number: u32) -> PlayFault
-    ensures { result ≡ PlayFault.Refused line (BadSchema number) }
-{
-    PlayFault::Refused {
-        line,
-        reason: LineReason::Schema(number),
+    match refused.number() {
+        Some(number) => PlayFault::Refused {
+            line,
+            reason: LineReason::Schema(number),
+        },
+        None => PlayFault::Memory,
     }
 }
 
 fn table_fault(line: u64, refused: SchemaRefused) -> PlayFault
     ensures { result ≡ refused_by BadTable line refused }
 {
-    match refused {
-        SchemaRefused::NotJson => bad_table(line, 1),
-        SchemaRefused::MissingField => bad_table(line, 2),
-        SchemaRefused::UnknownType => bad_table(line, 3),
-        SchemaRefused::DuplicateColumn => bad_table(line, 4),
-        SchemaRefused::Limit => bad_table(line, 5),
-        SchemaRefused::Memory => PlayFault::Memory,
-    }
-}
-
-fn bad_table(line: u64, number: u32) -> PlayFault
-    ensures { result ≡ PlayFault.Refused line (BadTable number) }
-{
-    PlayFault::Refused {
-        line,
-        reason: LineReason::Table(number),
+    match refused.number() {
+        Some(number) => PlayFault::Refused {
+            line,
+            reason: LineReason::Table(number),
+        },
+        None => PlayFault::Memory,
     }
 }

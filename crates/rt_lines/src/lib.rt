@@ -7,14 +7,16 @@ mod cluster;
 mod header;
 mod json;
 mod json_text;
+mod laws;
 mod line_reason;
 mod lines;
 mod numeral;
 mod parts;
 mod play_fault;
 
-pub use answer::{answer_text, write_answer};
+pub use answer::answer_text;
 pub use header::read_header;
+pub use laws::cluster_lines_are_what_they_spell;
 pub use line_reason::LineReason;
 pub use lines::Lines;
 pub use numeral::{is_numeral, number_up_to};

@@ -50,6 +50,16 @@ impl<'a> Lines<'a> {
         }
     }
 
+    /// The same lines, to be read once more.
+    pub(crate) fn again(&self) -> Lines<'a>
+        ensures { result ≡ self.now }
+    {
+        Lines {
+            rest: self.rest,
+            number: self.number,
+        }
+    }
+
     /// The next line that isn't skipped, and its number, counted from 1. It comes without its newline
     /// and without a carriage return before that. Empty lines and lines that begin with `#` are
     /// skipped, and count.

@@ -11,6 +11,7 @@ use Rattle.rt_play.specs.declared.play_end.PlayEnd.{PlayEnd}
 use Rattle.rt_play.specs.Plays.{Reads, TakesSome, PlaysInput, RunsOut, Tells, Meets, answer_of, answer_by, input_limit}
 use Rattle.rt_play.specs.Report.{report_of}
 use Rattle.rt_play.proofs.Limits.{report_never}
+use Rattle.rt_play.proofs.Runs.{safe_script}
 use Rattle.rt_play.proofs.Tellings.{nothing_put}
 
 if_true : {X : Type 0} (a b : ℕ) (x y : X) → a < b → (if nat_lt a b then x else y) ≡ x
@@ -71,25 +72,25 @@ completes (Err (Limit Rows)) from to old new told plays is read wrote = stop_ans
 
 -- the report of the whole input was written
 pub plays_all : (result : Result PlayEnd PlayFault) (from to : SourceMeaning) (old new : SinkMeaning) (input : List ℕ) → Reads from to input → Tells (report_of input) old new result → PlaysInput from to old new result
-plays_all (Ok end) from to old new input reads tells = record { input = input; reads = reads; tells = tells }
+plays_all (Ok end) from to old new input reads tells = record { input = input; reads = reads; tells = tells; safe = safe_script input }
 plays_all (Err Usage) from to old new input reads tells = absurd tells
 plays_all (Err ReadFault) from to old new input reads tells = absurd tells
-plays_all (Err WriteFault) from to old new input reads tells = record { input = input; reads = reads; tells = tells }
-plays_all (Err Memory) from to old new input reads tells = record { input = input; taken = reads.taken; lines = tells; ended = λ h. reads }
-plays_all (Err (Refused line reason)) from to old new input reads tells = record { input = input; reads = reads; tells = tells }
+plays_all (Err WriteFault) from to old new input reads tells = record { input = input; reads = reads; tells = tells; safe = safe_script input }
+plays_all (Err Memory) from to old new input reads tells = record { input = input; taken = reads.taken; lines = tells; ended = λ h. reads; safe = safe_script input }
+plays_all (Err (Refused line reason)) from to old new input reads tells = record { input = input; reads = reads; tells = tells; safe = safe_script input }
 plays_all (Err (Limit Input)) from to old new input reads tells = absurd (report_never input tells.stop)
-plays_all (Err (Limit Partitions)) from to old new input reads tells = record { input = input; reads = reads; tells = tells }
-plays_all (Err (Limit Servers)) from to old new input reads tells = record { input = input; reads = reads; tells = tells }
-plays_all (Err (Limit Controllers)) from to old new input reads tells = record { input = input; reads = reads; tells = tells }
-plays_all (Err (Limit Replication)) from to old new input reads tells = record { input = input; reads = reads; tells = tells }
-plays_all (Err (Limit Message)) from to old new input reads tells = record { input = input; reads = reads; tells = tells }
-plays_all (Err (Limit Events)) from to old new input reads tells = record { input = input; reads = reads; tells = tells }
-plays_all (Err (Limit Sent)) from to old new input reads tells = record { input = input; reads = reads; tells = tells }
-plays_all (Err (Limit Queries)) from to old new input reads tells = record { input = input; reads = reads; tells = tells }
-plays_all (Err (Limit Stored)) from to old new input reads tells = record { input = input; reads = reads; tells = tells }
-plays_all (Err (Limit Moment)) from to old new input reads tells = record { input = input; reads = reads; tells = tells }
-plays_all (Err (Limit Rows)) from to old new input reads tells = record { input = input; reads = reads; tells = tells }
+plays_all (Err (Limit Partitions)) from to old new input reads tells = record { input = input; reads = reads; tells = tells; safe = safe_script input }
+plays_all (Err (Limit Servers)) from to old new input reads tells = record { input = input; reads = reads; tells = tells; safe = safe_script input }
+plays_all (Err (Limit Controllers)) from to old new input reads tells = record { input = input; reads = reads; tells = tells; safe = safe_script input }
+plays_all (Err (Limit Replication)) from to old new input reads tells = record { input = input; reads = reads; tells = tells; safe = safe_script input }
+plays_all (Err (Limit Message)) from to old new input reads tells = record { input = input; reads = reads; tells = tells; safe = safe_script input }
+plays_all (Err (Limit Events)) from to old new input reads tells = record { input = input; reads = reads; tells = tells; safe = safe_script input }
+plays_all (Err (Limit Sent)) from to old new input reads tells = record { input = input; reads = reads; tells = tells; safe = safe_script input }
+plays_all (Err (Limit Queries)) from to old new input reads tells = record { input = input; reads = reads; tells = tells; safe = safe_script input }
+plays_all (Err (Limit Stored)) from to old new input reads tells = record { input = input; reads = reads; tells = tells; safe = safe_script input }
+plays_all (Err (Limit Moment)) from to old new input reads tells = record { input = input; reads = reads; tells = tells; safe = safe_script input }
+plays_all (Err (Limit Rows)) from to old new input reads tells = record { input = input; reads = reads; tells = tells; safe = safe_script input }
 
 -- memory ran out before the first line
 pub ran_out : (from to : SourceMeaning) (s : SinkMeaning) → TakesSome from to → RunsOut from to s s
-ran_out from to s some = record { input = some.input; taken = some.taken; lines = record { count = 0; puts = nothing_put s }; ended = λ h. absurd (omega arith) }
+ran_out from to s some = record { input = some.input; taken = some.taken; lines = record { count = 0; puts = nothing_put s }; ended = λ h. absurd (omega arith); safe = safe_script some.input }

@@ -1,17 +1,17 @@
-use Rattle.std.proofs.Common.{◌≡◌, ℕ, Bool, true, false, List, [], ◌∷◌, Option, Some, None, Result, Ok, Err, ap}
-use Rattle.std.specs.Prelude.{◌+◌, if◌then◌else◌, IfErr, nat_lt, nat_le, ◌&&◌, length}
+use Rattle.std.proofs.Common.{◌≡◌, ℕ, List, [], ◌∷◌, Option, Some, None, Result, Ok, Err, ap}
+use Rattle.std.specs.Prelude.{IfErr}
 use Rattle.rt_base.specs.declared.which.Which.{Which}
-use Rattle.rt_base.specs.declared.which.Which.TheVariants.{Input, Events, Message}
+use Rattle.rt_base.specs.declared.which.Which.TheVariants.{Input}
 use Rattle.rt_model.specs.declared.setup.Setup.{Setup}
 use Rattle.rt_lines.specs.Header.{header_of}
 use Rattle.rt_lines.proofs.HeaderLimits.{header_other}
 use Rattle.rt_lines.specs.Lines.{script_lines}
 use Rattle.rt_lines.specs.declared.play_fault.PlayFault.{PlayFault}
 use Rattle.rt_lines.specs.declared.play_fault.PlayFault.TheVariants as fault
-use Rattle.rt_world.specs.Due.{Due, due_of, pass_due, room_for, events_limit, message_limit, is_of, is_consuming}
+use Rattle.rt_world.specs.Due.{Due, due_of, pass_due}
+use Rattle.rt_world.proofs.Limits.{due_within, pass_within}
 use Rattle.rt_world.specs.Step.{given_by, after, passed, start}
 use Rattle.rt_world.specs.declared.event.Event.{Event}
-use Rattle.rt_world.specs.declared.event.Event.TheVariants as event
 use Rattle.rt_world.specs.declared.outcome.Outcome.{Outcome}
 use Rattle.rt_world.specs.declared.refusal.Refusal.{Refusal}
 use Rattle.rt_world.specs.declared.refusal.Refusal.TheVariants.{NoSuchMessage, NoSuchNode, NodeDown, NothingToDo, Limit, Memory}
@@ -24,38 +24,6 @@ use Rattle.rt_play.specs.Report.{Report, report_of, report_behind, report_from, 
 -- no event goes beyond the limit of the input
 abbrev IsInputDue : Due → Type 0
 IsInputDue due = due ≡ Err (Limit Input)
-
-due_by : (test : Bool) (x y : Due) → (IsInputDue x → ⊥) → (IsInputDue y → ⊥) → IsInputDue (if test then x else y) → ⊥
-due_by true x y first second = first
-due_by false x y first second = second
-
-ok_never : IsInputDue (Ok tt) → ⊥
-ok_never e = cc
-
-events_never : IsInputDue (Err (Limit Events)) → ⊥
-events_never e = cc
-
-message_never : IsInputDue (Err (Limit Message)) → ⊥
-message_never e = cc
-
-node_never : IsInputDue (Err NoSuchNode) → ⊥
-node_never e = cc
-
-nothing_never : IsInputDue (Err NothingToDo) → ⊥
-nothing_never e = cc
-
-room_never : (count : ℕ) (w : State) → IsInputDue (room_for count w) → ⊥
-room_never count w = due_by (nat_le (w.events + count) events_limit) (Ok tt) (Err (Limit Events)) ok_never events_never
-
-due_never : (w : State) (event : Event) → IsInputDue (due_of w event) → ⊥
-due_never w (event.Produce partition message) =
-    due_by (nat_lt partition.0 w.setup.partitions) (if nat_le (length message) message_limit then room_for 1 w else Err (Limit Message)) (Err NoSuchNode)
-    (due_by (nat_le (length message) message_limit) (room_for 1 w) (Err (Limit Message)) (room_never 1 w) message_never) node_never
-due_never w (event.Consume instance partition sequence max) =
-    due_by (nat_lt instance.0 w.setup.servers && nat_lt partition.0 w.setup.partitions)
-    (if is_of w.replica instance partition sequence && (is_consuming w.replica.state && nat_lt 0 max) then room_for 1 w else Err NothingToDo) (Err NoSuchNode)
-    (due_by (is_of w.replica instance partition sequence && (is_consuming w.replica.state && nat_lt 0 max)) (room_for 1 w) (Err NothingToDo) (room_never 1 w) nothing_never) node_never
-due_never w (event.Query query) = room_never 4 w
 
 abbrev IsStop : PlayFault → PlayFault → Type 0
 IsStop a b = Some a ≡ Some b
@@ -89,8 +57,8 @@ pass_never line number (Err refusal) w rest never later = fault_never line refus
 
 line_never : (line : ℕ) (said : Option Line) (w : State) (rest : State → Report) → ((v : State) → IsInputStop (rest v).stop → ⊥) → IsInputStop (report_line line said w rest).stop → ⊥
 line_never line None w rest later e = cc
-line_never line (Some (said.Event event)) w rest later e = step_never line event (due_of w event) (after w event) rest (due_never w event) later e
-line_never line (Some (said.NoQuery number)) w rest later e = pass_never line number (pass_due w) w rest (room_never 1 w) later e
+line_never line (Some (said.Event event)) w rest later e = step_never line event (due_of w event) (after w event) rest (due_within w event) later e
+line_never line (Some (said.NoQuery number)) w rest later e = pass_never line number (pass_due w) w rest (pass_within w) later e
 
 lines_never : (lines : List (ℕ × List ℕ)) (w : State) → IsInputStop (report_from lines w).stop → ⊥
 lines_never [] w e = cc

@@ -1,5 +1,6 @@
 use Rattle.std.proofs.Common.{◌≡◌, ℕ, ◌+◌, ◌≤◌, List, ◌++◌, length, take, drop, Option, Some, None, refl, ap, sym, ◌∙◌, arith, append_assoc, take-add}
 use Rattle.std.proofs.lemmas.List.{length-append, length-take-le}
+use Rattle.rt_base.specs.declared.limits.TheConstants.{MOST_INPUT}
 use Rattle.rt_base.specs.Sink.{added}
 use Rattle.rt_base.specs.Source.{SourceMeaning, Came, put_back}
 use Rattle.rt_play.specs.Plays.{Takes}
@@ -23,7 +24,7 @@ put_back_more (Some rest) a b = ap Some (sym (append_assoc a b rest))
 
 -- what was read, and a piece more
 pub takes_more : (from mid to : SourceMeaning) (input piece : List ℕ) (count : ℕ) → from.left ≡ put_back input mid.left → from.faults ≤ mid.faults → Came mid to piece count →
-    length input + count ≤ 67108865 → Takes from to (input ++ take count piece)
+    length input + count ≤ MOST_INPUT + 1 → Takes from to (input ++ take count piece)
 takes_more from mid to input piece count left counts came few = record {
   left = left ∙ ap (put_back input) came.left ∙ put_back_more to.left input (take count piece);
   few = omega (arith, length-append input (take count piece), length-take-le count piece came.fits, few);

@@ -1,6 +1,7 @@
 -- What a line of a script says, behind the header: an event, or a query that is none.
 use Rattle.std.specs.Prelude.{ℕ, List, [], ◌∷◌, Option, None, Some, Result, Ok, Err, option_map, codes, bytes_eq, ◌==◌, nat_le, if◌then◌else◌}
 use Rattle.std.specs.Str.{is_utf8}
+use Rattle.rt_base.specs.declared.limits.TheConstants.{LAST_NUMBER}
 use Rattle.rt_lines.specs.Words.{then_some, parted_at, number_of as decimal_of, number_up_to}
 use Rattle.rt_model.specs.declared.query.Query.{Query}
 use Rattle.rt_model.specs.declared.setup.Setup.{Setup}
@@ -15,7 +16,7 @@ use Rattle.rt_world.specs.declared.event.Event.TheVariants as event
 
 -- the number of a partition, a sequence or a server leaves out the last one of 32 bits
 abbrev pub index_of : List ℕ → Option ℕ
-index_of word = number_up_to 4294967294 word
+index_of word = number_up_to LAST_NUMBER word
 
 -- `P TEXT`
 abbrev pub produce_of : List ℕ → Option Event

@@ -1,6 +1,7 @@
 -- What a run does to its source and its sink, and what it answers.
 use Rattle.std.specs.Prelude.{◌≡◌, ℕ, ◌+◌, ◌<◌, ◌≤◌, List, ◌++◌, length, take, false, Option, None, Some, Result, Ok, Err, nat_lt, if◌then◌else◌}
 use Rattle.std.specs.List.{concat}
+use Rattle.rt_base.specs.declared.limits.TheConstants.{MOST_INPUT}
 use Rattle.rt_base.specs.declared.which.Which.TheVariants.{Input, Partitions, Servers, Controllers, Replication, Message, Events, Sent, Queries, Stored, Moment, Rows}
 use Rattle.rt_base.specs.Sink.{SinkMeaning, added}
 use Rattle.rt_base.specs.Source.{SourceMeaning, Rises, IsEnd, put_back}
@@ -15,10 +16,11 @@ use Rattle.rt_play.specs.declared.reading.ReadStop.TheVariants as stop
 use Rattle.rt_play.specs.declared.line.Line.{Line}
 use Rattle.rt_play.specs.Line.{line_in}
 use Rattle.rt_play.specs.Report.{Report, report_of, report_line, told, stopped}
+use Rattle.rt_play.specs.Script.{IsSafeScript}
 
 -- the most bytes of a script
 abbrev pub input_limit : ℕ
-input_limit = 67108864
+input_limit = MOST_INPUT
 
 -- this was read, and nothing more
 pub record Takes (old new : SourceMeaning) (input : List ℕ) : Type 0 where
@@ -70,6 +72,8 @@ pub record PlaysAll (from to : SourceMeaning) (old new : SinkMeaning) (result : 
   pub input : List ℕ
   pub reads : Reads from to input
   pub tells : Tells (report_of input) old new result
+  -- every world of its run is safe, and every answer in it is right
+  pub safe : IsSafeScript input
 
 -- the source failed
 pub record FailsToRead (from to : SourceMeaning) (old new : SinkMeaning) : Type 0 where
@@ -91,6 +95,7 @@ pub record RunsOut (from to : SourceMeaning) (old new : SinkMeaning) : Type 0 wh
   pub taken : Takes from to input
   pub lines : PutsLines (report_of input) old new
   pub ended : 0 < lines.count → Reads from to input
+  pub safe : IsSafeScript input
 
 -- what a run does, by its answer
 abbrev pub PlaysInput : SourceMeaning → SourceMeaning → SinkMeaning → SinkMeaning → Result PlayEnd PlayFault → Type 0

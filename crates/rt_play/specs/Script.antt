@@ -1,38 +1,55 @@
--- The run of a script: its worlds, line by line.
-use Rattle.std.specs.Prelude.{ℕ, List, [], ◌∷◌, Option, None, Some, Result, Ok, Err}
+-- The run of a script: the turns that its lines say, and what is reported of them.
+use Rattle.std.specs.Prelude.{◌≡◌, ℕ, List, [], ◌∷◌, map, Option, None, Some, Result, Ok, Err}
 use Rattle.rt_model.specs.declared.setup.Setup.{Setup}
 use Rattle.rt_lines.specs.declared.play_fault.PlayFault.{PlayFault}
 use Rattle.rt_lines.specs.Header.{header_of}
 use Rattle.rt_lines.specs.Lines.{script_lines}
-use Rattle.rt_world.specs.declared.state.State.{State}
-use Rattle.rt_world.specs.Due.{Due, pass_due}
-use Rattle.rt_world.specs.RightAnswer.{IsRightAfter}
-use Rattle.rt_world.specs.Run.{then_all}
-use Rattle.rt_world.specs.Safe.{IsSafe}
-use Rattle.rt_world.specs.Step.{passed, start, step}
+use Rattle.rt_world.specs.declared.outcome.Outcome.{Outcome}
+use Rattle.rt_world.specs.Run.{Turn, happens, passes, Came, run, IsSafeRun}
+use Rattle.rt_world.specs.Step.{start}
 use Rattle.rt_play.specs.declared.line.Line.{Line}
 use Rattle.rt_play.specs.declared.line.Line.TheVariants as said
 use Rattle.rt_play.specs.Line.{line_in}
+use Rattle.rt_play.specs.Outcome.{noquery_text, outcome_text, subject_text}
+use Rattle.rt_play.specs.Report.{report_of}
 
-abbrev pub IsSafePass : Due → State → (State → Type 0) → Type 0
-IsSafePass (Ok u) w rest = rest (passed w)
-IsSafePass (Err refusal) w rest = Unit {0}
+abbrev pub then_said : Option Line → List Line → List Line
+then_said None later = []
+then_said (Some line) later = line ∷ later
 
--- what comes of a line is right, and so are the lines behind it
-abbrev pub IsSafeLine : Option Line → State → (State → Type 0) → Type 0
-IsSafeLine None w rest = Unit {0}
-IsSafeLine (Some (said.Event event)) w rest = IsRightAfter event (step w event) × then_all (step w event) rest
-IsSafeLine (Some (said.NoQuery number)) w rest = IsSafePass (pass_due w) w rest
+-- what the lines of a script say, up to the first that is outside the grammar
+abbrev pub said_lines : Setup → List (ℕ × List ℕ) → List Line
+said_lines setup [] = []
+said_lines setup (line ∷ lines) = then_said (line_in setup line.1) (said_lines setup lines)
 
--- every world of the run of lines is safe, and every answer in it is right
-abbrev pub IsSafeFrom : List (ℕ × List ℕ) → State → Type 0
-IsSafeFrom [] w = IsSafe w
-IsSafeFrom (line ∷ lines) w = IsSafe w × IsSafeLine (line_in w.setup line.1) w (IsSafeFrom lines)
+-- a text that is no query counts as an event
+abbrev pub turn_of : Line → Turn
+turn_of (said.Event event) = happens event
+turn_of (said.NoQuery number) = passes
 
-abbrev pub IsSafeBehind : Result (Setup × List (ℕ × List ℕ)) PlayFault → Type 0
-IsSafeBehind (Ok x) = IsSafeFrom x.1 (start x.0)
-IsSafeBehind (Err fault) = Unit {0}
+abbrev pub turns_of : Setup → List (ℕ × List ℕ) → List Turn
+turns_of setup lines = map turn_of (said_lines setup lines)
 
--- every world of a script's run is safe, and every answer in it is right
+-- what is reported of a turn that isn't refused
+abbrev pub text_of : Line → Option Outcome → List ℕ
+text_of (said.Event event) None = []
+text_of (said.Event event) (Some outcome) = outcome_text (subject_text event) outcome
+text_of (said.NoQuery number) outcome = noquery_text number
+
+abbrev pub texts_of : List Line → List Came → List (List ℕ)
+texts_of [] xs = []
+texts_of (line ∷ lines) [] = []
+texts_of (line ∷ lines) (x ∷ xs) = text_of line x.1 ∷ texts_of lines xs
+
+-- every world of the run of these lines is safe and every answer in it is right, and these are its texts
+pub record IsRun (setup : Setup) (lines : List (ℕ × List ℕ)) (texts : List (List ℕ)) : Type 0 where
+  pub safe : IsSafeRun (turns_of setup lines) (start setup)
+  pub told : texts ≡ texts_of (said_lines setup lines) (run (turns_of setup lines) (start setup))
+
+abbrev pub IsRunBehind : Result (Setup × List (ℕ × List ℕ)) PlayFault → List (List ℕ) → Type 0
+IsRunBehind (Ok x) texts = IsRun x.0 x.1 texts
+IsRunBehind (Err fault) texts = texts ≡ []
+
+-- the report of an input is that of its run, which is safe
 abbrev pub IsSafeScript : List ℕ → Type 0
-IsSafeScript input = IsSafeBehind (header_of (script_lines input))
+IsSafeScript input = IsRunBehind (header_of (script_lines input)) (report_of input).texts

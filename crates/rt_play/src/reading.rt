@@ -2,11 +2,9 @@ ghost use Rattle.std.specs.Prelude.{◌≡◌};
 ghost use Rattle.rt_play.specs.Plays.{ReadsAll};
 
 use rt_base::Source;
+use rt_base::limits::MOST_INPUT;
 use rt_lists::Bytes;
 use std::alloc::Global;
-
-/// The most bytes of a script.
-const INPUT_LIMIT: usize = 67_108_864;
 
 /// How many bytes are read at once.
 const PIECE: usize = 8_192;
@@ -26,10 +24,10 @@ pub(crate) fn read_all<S: Source>(alloc: Global, source: &mut S) -> Result<Bytes
     let mut input = Bytes::new(alloc);
     let mut piece = [0; PIECE];
     'pieces: loop {
-        if input.len() > INPUT_LIMIT {
+        if input.len() > MOST_INPUT {
             return Err(ReadStop::TooLong);
         }
-        let room = PIECE.min(INPUT_LIMIT + 1 - input.len());
+        let room = PIECE.min(MOST_INPUT + 1 - input.len());
         let count = match source.read(&mut piece[..room]) {
             Ok(count) => count,
             Err(_) => return Err(ReadStop::Failed),

@@ -1,5 +1,5 @@
 ghost use Rattle.std.specs.Prelude.{◌≡◌, ◌<◌, ◌^◌, [], false, Some, length, string_bytes};
-ghost use Rattle.rt_model.specs.Setup.{IsSetup};
+ghost use Rattle.rt_model.specs.FirstCluster.{IsFirstCluster};
 ghost use Rattle.rt_world.specs.Step.{start};
 ghost use Rattle.rt_play.specs.Plays.{PlaysLine, PlaysSaid, Tells};
 ghost use Rattle.rt_play.specs.declared.line.Line.TheVariants as Line;
@@ -39,7 +39,7 @@ fn play_from_start<K: Sink>(
     lines: &mut Lines<'_>,
     sink: &mut K,
 ) -> Result<PlayEnd, PlayFault>
-    requires setup { IsSetup setup }
+    requires setup { IsFirstCluster setup }
     requires few { length lines.old.lines < 2 ^ 64 }
     ensures { Tells (report_from lines.old.lines (start setup)) (K.meaning sink.old) (K.meaning sink.new) result }
 {
@@ -110,7 +110,7 @@ fn play_event(
 {
     match world.apply(alloc, event) {
         Ok(outcome) => {
-            write_outcome(text, event, &outcome)?;
+            write_outcome(alloc, text, event, &outcome)?;
             Ok(())
         }
         Err(refusal) => Err(fault(number, refusal)),

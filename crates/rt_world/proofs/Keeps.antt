@@ -13,7 +13,7 @@ use Rattle.rt_model.specs.Aggregate.{aggregate}
 use Rattle.rt_model.specs.RightAnswer.{IsRightAnswer, IsServed, named_ranges, rows_of}
 use Rattle.rt_model.specs.declared.query.Query.{Query}
 use Rattle.rt_model.specs.declared.setup.Setup.{Setup}
-use Rattle.std.specs.List.{filter_map}
+use Rattle.std.specs.List.{filter_map, range_with_len}
 use Rattle.rt_schema.specs.declared.schema.Schema.{Schema}
 use Rattle.rt_schema.specs.Row.{row_of, rows_between}
 use Rattle.rt_stream.specs.Log.{messages_of, with_message}
@@ -25,7 +25,7 @@ use Rattle.rt_world.specs.declared.state.State.{State}
 use Rattle.rt_world.specs.Due.{due_of, produce_due, consume_due, pass_due}
 use Rattle.rt_world.specs.Held.{IsHeld, messages_between, placed_from}
 use Rattle.rt_world.specs.RightAnswer.{IsRightOutcome}
-use Rattle.rt_model.specs.Setup.{IsSetup}
+use Rattle.rt_model.specs.FirstCluster.{IsFirstCluster}
 use Rattle.rt_world.specs.Safe.{IsSafe}
 use Rattle.rt_world.specs.Step.{start, after, produced, consumed, advanced, took, batch, answer_of, passed, piece_of, routed_of, rows_held}
 use Rattle.rt_world.proofs.Filling.{batch_fits, limited_batch}
@@ -100,6 +100,7 @@ Safe_produced w p m s due =
     let there : p.0 < length w.log = omega (arith, within.0, s.partitions) in
     record {
       partitions = length-set w.log p.0 (messages_of w.log p ++ m ∷ []) ∙ s.partitions;
+      alone = length-set w.log p.0 (messages_of w.log p ++ m ∷ []) ∙ s.alone;
       logged = omega (arith, s.logged, length-set w.log p.0 (messages_of w.log p ++ m ∷ []));
       held = held_produced_at w.setup.schema w.log p w.replica.partition m w.replica (w.replica.partition.0 == p.0) there refl s.held;
       limited = s.limited;
@@ -119,6 +120,7 @@ Safe_consumed w i p q max s due =
     subst (λ ms. IsHeld w.setup.schema ms w.replica) same s.held in
     record {
       partitions = s.partitions;
+      alone = s.alone;
       logged = s.logged;
       held =
           subst (λ ms. IsHeld w.setup.schema ms (took w.setup w.moment max w.replica (messages_of w.log p)))
@@ -132,13 +134,13 @@ Safe_consumed w i p q max s due =
 -- a line that is no event
 pub Safe_passed : (w : State) → IsSafe w → pass_due w ≡ Ok tt → IsSafe (passed w)
 Safe_passed w s due =
-    record { partitions = s.partitions; logged = s.logged; held = s.held; limited = s.limited; schema = s.schema; counted = room_true 1 w due }
+    record { partitions = s.partitions; alone = s.alone; logged = s.logged; held = s.held; limited = s.limited; schema = s.schema; counted = room_true 1 w due }
 
 pub Safe_after : (w : State) (event : Event) → IsSafe w → due_of w event ≡ Ok tt → IsSafe (after w event).0
 Safe_after w (event.Produce p m) s due = Safe_produced w p m s due
 Safe_after w (event.Consume i p q max) s due = Safe_consumed w i p q max s due
 Safe_after w (event.Query query) s due =
-    record { partitions = s.partitions; logged = s.logged; held = s.held; limited = s.limited; schema = s.schema; counted = room_true 4 w due }
+    record { partitions = s.partitions; alone = s.alone; logged = s.logged; held = s.held; limited = s.limited; schema = s.schema; counted = room_true 4 w due }
 
 -- the rows that a replica holds are those of its range
 pub rows_of_held :
@@ -195,7 +197,9 @@ served_held schema log r k =
 pub right_answer : (w : State) (query : Query) → IsSafe w → IsRightAnswer w.setup.schema w.log query (routed_of w.replica) (answer_of query w.replica)
 right_answer w query s =
     let b = w.replica.start.0 == w.replica.cur.0 in
+    let only : w.replica.partition.0 ≡ 0 = omega (arith, s.logged, s.alone) in
     record {
+      partitions = ap (λ n. n ∷ []) only ∙ ap (range_with_len 0) (sym s.alone);
       served = served_held w.setup.schema w.log w.replica s.held;
       ranges = refl;
       missing = refl;
@@ -212,15 +216,16 @@ right_after w (event.Consume i p q max) s = tt
 right_after w (event.Query query) s = right_answer w query s
 
 -- the first world is safe
-pub Safe_start : (setup : Setup) → IsSetup setup → IsSafe (start setup)
+pub Safe_start : (setup : Setup) → IsFirstCluster setup → IsSafe (start setup)
 Safe_start setup k =
     let size = length-replicate {A = List (List ℕ)} setup.partitions [] in
     record {
       partitions = size;
+      alone = size ∙ k.partitions;
       logged = omega (arith, size, k.partitions);
       held = record { ordered = omega arith; within = omega arith; rows = refl };
       limited = omega arith;
-      schema = k.schema;
+      schema = k.taken.schema;
       counted = omega arith;
     }
 

@@ -1,5 +1,7 @@
 -- Which events can happen, and why another can't: the node first, then the condition, then the limits.
 use Rattle.std.specs.Prelude.{
+  ◌≡◌,
+  ◌⊎◌,
   ◌+◌,
   ℕ,
   Bool,
@@ -16,9 +18,11 @@ use Rattle.std.specs.Prelude.{
   Ok,
   Err,
 }
+use Rattle.rt_base.specs.declared.limits.TheConstants.{LONGEST_MESSAGE, MOST_EVENTS}
 use Rattle.rt_base.specs.declared.numbers.Instance.{Instance}
 use Rattle.rt_base.specs.declared.numbers.Partition.{Partition}
 use Rattle.rt_base.specs.declared.numbers.Sequence.{Sequence}
+use Rattle.rt_base.specs.declared.which.Which.{Which}
 use Rattle.rt_base.specs.declared.which.Which.TheVariants.{Events, Message}
 use Rattle.rt_model.specs.declared.replica_state.ReplicaState.{ReplicaState}
 use Rattle.rt_model.specs.declared.replica_state.ReplicaState.TheVariants.{
@@ -41,11 +45,11 @@ use Rattle.rt_world.specs.declared.state.State.{State}
 
 -- the most events of a run
 abbrev pub events_limit : ℕ
-events_limit = 4000000
+events_limit = MOST_EVENTS
 
 -- the most bytes of a message
 abbrev pub message_limit : ℕ
-message_limit = 65536
+message_limit = LONGEST_MESSAGE
 
 abbrev pub Due : Type 0
 Due = Result Unit Refusal
@@ -94,3 +98,13 @@ due_of w (Query query) = room_for 4 w
 -- so can a line that is no event, which counts as one
 abbrev pub pass_due : State → Due
 pass_due w = room_for 1 w
+
+-- the limits that an event can go beyond
+abbrev pub IsLimitOf : Event → Which → Type 0
+IsLimitOf (Produce partition message) which = (which ≡ Message) ⊎ (which ≡ Events)
+IsLimitOf (Consume instance partition sequence max) which = which ≡ Events
+IsLimitOf (Query query) which = which ≡ Events
+
+-- what is refused by a limit is so by one of its own
+abbrev pub IsOwnLimit : Event → Due → Type 0
+IsOwnLimit event due = (which : Which) → due ≡ Err (Limit which) → IsLimitOf event which

@@ -5,7 +5,7 @@ use Rattle.rt_base.specs.declared.numbers.Partition.{Partition}
 use Rattle.rt_model.specs.declared.answer.Answer.{Answer}
 use Rattle.rt_model.specs.declared.query.Query.{Query}
 use Rattle.rt_model.specs.Aggregate.{aggregate}
-use Rattle.rt_model.specs.RightAnswer.{Asked, Routed, named_ranges, missing_of}
+use Rattle.rt_model.specs.RightAnswer.{AskedPiece, Routed, named_ranges, missing_of}
 use Rattle.rt_model.specs.declared.replica_state.ReplicaState.{ReplicaState}
 use Rattle.rt_model.specs.declared.replica_state.ReplicaState.TheVariants.{InitialConsuming, Holding}
 use Rattle.rt_model.specs.declared.setup.Setup.{Setup}
@@ -104,7 +104,7 @@ abbrev pub consumed : State → Partition → ℕ → State × Outcome
 consumed w partition max = consumed_by w (took w.setup w.moment max w.replica (messages_of w.log partition))
 
 -- the one piece of the plan, which a replica serves over what it holds
-abbrev pub piece_of : Replica → Asked
+abbrev pub piece_of : Replica → AskedPiece
 piece_of r =
     record {
       piece = record { partition = r.partition; sequence = r.sequence; start = r.start; end = None };
@@ -149,16 +149,6 @@ given_by (Err refusal) x = Err refusal
 
 abbrev pub step : State → Event → Given
 step w event = given_by (due_of w event) (after w event)
-
--- a refused event changes nothing, and want of memory is free
-abbrev pub Applies : State → Given → State → Result Outcome Refusal → Type 0
-Applies old given new (Ok outcome) = given ≡ Ok (new, outcome)
-Applies old given new (Err Memory) = Unit {0}
-Applies old given new (Err NoSuchMessage) = (given ≡ Err NoSuchMessage) × (new ≡ old)
-Applies old given new (Err NoSuchNode) = (given ≡ Err NoSuchNode) × (new ≡ old)
-Applies old given new (Err NodeDown) = (given ≡ Err NodeDown) × (new ≡ old)
-Applies old given new (Err NothingToDo) = (given ≡ Err NothingToDo) × (new ≡ old)
-Applies old given new (Err (Limit which)) = (given ≡ Err (Limit which)) × (new ≡ old)
 
 -- a world at which memory ran out is spent, and answers nothing else any more
 abbrev pub Steps : Kept → Event → Kept → Result Outcome Refusal → Type 0

@@ -10,12 +10,10 @@ mod outcome;
 mod refusal;
 mod replica;
 mod state;
-#[cfg(test)]
-mod tests;
 mod world;
 
 pub use event::Event;
-pub use laws::every_run_is_safe;
+pub use laws::{each_event_has_its_own_limits, every_run_is_safe};
 pub use outcome::Outcome;
 pub use refusal::Refusal;
 pub use replica::{Placed, Replica};

@@ -1,8 +1,4 @@
-ghost use Rattle.std.specs.Prelude.{◌≡◌};
-ghost use Rattle.rt_world.specs.declared.refusal.Refusal.TheVariants.{Memory};
-
 use rt_base::Which;
-use std::alloc::AllocError;
 
 /// Why an event did not happen, numbered from 1 in this order. Want of memory comes last.
 #[derive(Clone, Copy, Debug, PartialEq, Eq)]
@@ -15,12 +11,4 @@ pub enum Refusal {
     NothingToDo,
     Limit(Which),
     Memory,
-}
-
-impl From<AllocError> for Refusal {
-    ghost from_gives = { λ _ e. e ≡ Memory };
-
-    fn from(_error: AllocError) -> Self {
-        Refusal::Memory
-    }
 }

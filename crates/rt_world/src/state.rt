@@ -9,14 +9,12 @@ ghost use Rattle.rt_world.specs.Safe.{IsSafe};
 ghost use Rattle.rt_world.specs.Step.{after, answered, consumed, passed, produced, start};
 
 use crate::{Event, Outcome, Refusal, Replica};
+use rt_base::limits::{LONGEST_MESSAGE, MOST_EVENTS};
 use rt_base::{Instance, Moment, Partition, Sequence, Which};
 use rt_lists::Bytes;
 use rt_model::{Query, Setup};
-use rt_stream::{MESSAGE_LIMIT, StreamLog};
+use rt_stream::StreamLog;
 use std::alloc::{AllocError, Global};
-
-/// The most events of a run.
-const EVENTS_LIMIT: u64 = 4_000_000;
 
 /// The events that a query stands for: it is asked, routed, read and answered.
 const QUERY_EVENTS: u64 = 4;
@@ -73,7 +71,7 @@ impl State {
         requires counted { self.now.events ≤ events_limit }
         ensures { result ≡ room_for count self.now }
     {
-        if self.events + count <= EVENTS_LIMIT {
+        if self.events + count <= MOST_EVENTS {
             Ok(())
         } else {
             Err(Refusal::Limit(Which::Events))
@@ -87,7 +85,7 @@ impl State {
         if partition.0 >= self.setup.partitions {
             return Err(Refusal::NoSuchNode);
         }
-        if message.len() > MESSAGE_LIMIT {
+        if message.len() > LONGEST_MESSAGE {
             return Err(Refusal::Limit(Which::Message));
         }
         self.room_for(1)
@@ -143,7 +141,7 @@ impl State {
         message: &Bytes,
     ) -> Result<Outcome, AllocError>
         requires partition { partition.0 < length self.old.log }
-        requires short { length message.now ≤ MESSAGE_LIMIT }
+        requires short { length message.now ≤ LONGEST_MESSAGE }
         requires counted { self.old.events ≤ events_limit }
         ensures { IfOk result (λ outcome. (self.new, outcome) ≡ produced self.old partition message.now) }
     {

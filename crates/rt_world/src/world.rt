@@ -3,7 +3,7 @@ ghost use Rattle.rt_schema.specs.Schema.{IsSchema};
 ghost use Rattle.rt_world.specs.Due.{due_of};
 ghost use Rattle.rt_world.specs.RightAnswer.{IsRightOutcome};
 ghost use Rattle.rt_world.specs.Fits.{Fits};
-ghost use Rattle.rt_model.specs.Setup.{IsSetup};
+ghost use Rattle.rt_model.specs.FirstCluster.{IsFirstCluster};
 ghost use Rattle.rt_world.specs.Step.{Passes, Steps, start};
 
 use crate::{Event, Outcome, Refusal, State};
@@ -36,7 +36,7 @@ impl World {
     /// The first world of a cluster.
     #[tactic(auto, using(crate::proofs::Keeps::Safe_start))]
     pub fn make(alloc: Global, setup: Setup) -> Result<World, AllocError>
-        requires { IsSetup setup }
+        requires { IsFirstCluster setup }
         ensures { IfOk result (λ w. w ≡ record { state = start setup; spent = false }) }
     {
         Ok(World {

@@ -3,10 +3,10 @@ use Rattle.std.proofs.lemmas.List.{length-take}
 use Rattle.rt_play.proofs.Writes.{takes_more}
 use Rattle.rt_play.proofs.reading.read_all.Goals as goal
 
-pub returns-then-len-gt-INPUT_LIMIT : goal.returns-then-len-gt-INPUT_LIMIT
-returns-then-len-gt-INPUT_LIMIT g c =
+pub returns-then-len-gt-MOST_INPUT : goal.returns-then-len-gt-MOST_INPUT
+returns-then-len-gt-MOST_INPUT g c =
     let so = c.pieces.invariant in
-    (record { input = c.pieces.input; taken = record { left = so.left; few = so.fits; counts = so.counts } }, omega (arith, c.if-len-gt-INPUT_LIMIT.true, c.len.ensures))
+    (record { input = c.pieces.input; taken = record { left = so.left; few = so.fits; counts = so.counts } }, omega (arith, c.if-len-gt-MOST_INPUT.true, c.len.ensures))
 
 pub returns-in-Err-extend : goal.returns-in-Err-extend
 returns-in-Err-extend g c =
