@@ -20,7 +20,8 @@ ghost use Rattle.rt_schema.specs.Schema.{is_among, IsSchema};
 use rt_base::{Offset, Partition, Sequence};
 use rt_build::seal;
 use rt_lists::{Items, Text};
-use rt_mutable::{MutableSegment, ROW_LIMIT};
+use rt_mutable::MutableSegment;
+use rt_base::limits::MOST_ROWS;
 use rt_schema::{Column, Kind, Role, Row, Schema, Value};
 use rt_segment::Sealed;
 use std::alloc::{AllocError, Global};
@@ -156,7 +157,7 @@ impl Pairs {
 
     /// Adds a row, unless the segment is full.
     pub(crate) fn index(&mut self, alloc: Global, pair: &Pair) -> Result<(), AllocError> {
-        if self.segment.len() as usize >= ROW_LIMIT || self.segment.end().0 == u64::MAX {
+        if self.segment.len() >= MOST_ROWS || self.segment.end().0 == u64::MAX {
             return Ok(());
         }
         self.segment.index(alloc, Some(&pair.row))
