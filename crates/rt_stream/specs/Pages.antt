@@ -1,3 +1,4 @@
+use Rattle.rt_base.specs.declared.limits.TheConstants.{LONGEST_MESSAGE}
 use Rattle.std.specs.Prelude.{◌≡◌, ℕ, ◌+◌, ◌-◌, ◌≤◌, List, [], ◌∷◌, length, take, drop}
 
 -- the messages of a page, one behind the other in its bytes, each up to the place of its end
@@ -8,7 +9,7 @@ cut start (end ∷ ends) bytes = take (end - start) (drop start bytes) ∷ cut e
 -- the ends of messages, none of which is too long, the last of them at the end of the bytes
 abbrev pub AreEnds : ℕ → List ℕ → ℕ → Type 0
 AreEnds start [] size = start ≡ size
-AreEnds start (end ∷ ends) size = (start ≤ end) × (end ≤ start + 65536) × AreEnds end ends size
+AreEnds start (end ∷ ends) size = (start ≤ end) × (end ≤ start + LONGEST_MESSAGE) × AreEnds end ends size
 
 -- pages of 256 messages each
 abbrev pub AreFull : List (List (List ℕ)) → Type 0

@@ -10,5 +10,5 @@ mod stream_log;
 
 pub use feed::{Feed, FeedRefused};
 pub use laws::a_log_only_grows;
-pub use message::{MESSAGE_LIMIT, Message};
+pub use message::Message;
 pub use stream_log::StreamLog;

@@ -5,10 +5,7 @@ use rt_lists::{Bytes, Copied};
 use std::alloc::{AllocError, Global};
 use std::marker::Model;
 
-/// The greatest number of bytes of a message.
-pub const MESSAGE_LIMIT: usize = LONGEST_MESSAGE;
-
-/// A message of the stream: at most `MESSAGE_LIMIT` bytes; contracts see it as the list of them.
+/// A message of the stream: at most `LONGEST_MESSAGE` bytes; contracts see it as the list of them.
 #[derive(Drop)]
 pub struct Message {
     bytes: Bytes,
@@ -16,18 +13,19 @@ pub struct Message {
 
 impl Model for Message {
     ghost use Rattle.std.specs.Prelude.{List, ℕ, length, ◌≤◌};
+    ghost use Rattle.rt_base.specs.declared.limits.TheConstants.{LONGEST_MESSAGE};
 
     ghost Value = { List ℕ };
 
     ghost view = { λ m. m.bytes };
 
-    ghost invariant = { λ m. length m.bytes ≤ 65536 };
+    ghost invariant = { λ m. length m.bytes ≤ LONGEST_MESSAGE };
 }
 
 impl Message {
     /// The message of these bytes.
     pub fn of(bytes: Bytes) -> Message
-        requires { length bytes ≤ MESSAGE_LIMIT }
+        requires { length bytes ≤ LONGEST_MESSAGE }
         ensures { result ≡ bytes }
     {
         Message { bytes }
@@ -35,7 +33,7 @@ impl Message {
 
     /// The message of a copy of these bytes.
     pub fn copied_from(alloc: Global, bytes: &[u8]) -> Result<Message, AllocError>
-        requires { length bytes.now ≤ MESSAGE_LIMIT }
+        requires { length bytes.now ≤ LONGEST_MESSAGE }
         ensures { IfOk result (λ message. message ≡ bytes.now) }
     {
         let bytes = Bytes::copied_from(alloc, bytes)?;
@@ -45,7 +43,7 @@ impl Message {
     /// The message's bytes.
     pub fn as_slice(&self) -> &[u8]
         ensures bytes { result.now ≡ self.now }
-        ensures short { length self.now ≤ MESSAGE_LIMIT }
+        ensures short { length self.now ≤ LONGEST_MESSAGE }
     {
         self.bytes.as_slice()
     }

@@ -1,7 +1,7 @@
 ghost use Rattle.std.specs.Prelude.{◌≡◌, ◌≤◌, ◌<◌, [], ◌∷◌, ◌++◌, length, slice_get, slice_index, OnOk, OnErr};
 ghost use Rattle.rt_stream.specs.Pages.{cut, AreEnds};
 
-use crate::MESSAGE_LIMIT;
+use rt_base::limits::LONGEST_MESSAGE;
 use std::alloc::{AllocError, Global};
 use std::marker::Model;
 
@@ -41,7 +41,7 @@ impl Page {
 
     /// Adds a message. Where memory runs out, the page is as before.
     pub(crate) fn push(&mut self, message: &[u8]) -> Result<(), AllocError>
-        requires { length message.now ≤ MESSAGE_LIMIT }
+        requires { length message.now ≤ LONGEST_MESSAGE }
         ensures ok { OnOk result (self.new ≡ self.old ++ message.now ∷ []) }
         ensures err { OnErr result (self.new ≡ self.old) }
     {
@@ -56,7 +56,7 @@ impl Page {
     pub(crate) fn get(&self, place: usize) -> &[u8]
         requires { place < length self.now }
         ensures message { slice_get self.now place ≡ Some result.now }
-        ensures short { length result.now ≤ MESSAGE_LIMIT }
+        ensures short { length result.now ≤ LONGEST_MESSAGE }
     {
         piece_of(&self.bytes, &self.ends, place)
     }
@@ -67,7 +67,7 @@ fn piece_of<'a>(bytes: &'a [u8], ends: &[usize], place: usize) -> &'a [u8]
     requires ends { AreEnds 0 ends.now (length bytes.now) }
     requires place { place < length ends.now }
     ensures message { slice_get (cut 0 ends.now bytes.now) place ≡ Some result.now }
-    ensures short { length result.now ≤ MESSAGE_LIMIT }
+    ensures short { length result.now ≤ LONGEST_MESSAGE }
 {
     let (start, end) = bounds_of(ends, place);
     &bytes[start..end]

@@ -1,7 +1,8 @@
 ghost use Rattle.std.specs.Prelude.{◌≡◌, ◌≤◌, ◌<◌, [], ◌∷◌, ◌++◌, length, slice_get, take, drop, IfOk, IfSome, IfNone, OnOk, OnErr};
 
+use crate::Message;
 use crate::page::Page;
-use crate::{MESSAGE_LIMIT, Message};
+use rt_base::limits::LONGEST_MESSAGE;
 use rt_lists::Items;
 use std::alloc::{AllocError, Global};
 use std::marker::Model;
@@ -52,7 +53,7 @@ impl PartitionLog {
 
     /// Adds a message. Where memory runs out, the log is as before.
     pub(crate) fn push(&mut self, alloc: Global, message: &[u8]) -> Result<(), AllocError>
-        requires { length message.now ≤ MESSAGE_LIMIT }
+        requires { length message.now ≤ LONGEST_MESSAGE }
         ensures ok { OnOk result (self.new ≡ self.old ++ message.now ∷ []) }
         ensures err { OnErr result (self.new ≡ self.old) }
     {
@@ -74,7 +75,7 @@ impl PartitionLog {
     pub(crate) fn get(&self, offset: u64) -> &[u8]
         requires { offset < length self.now }
         ensures message { slice_get self.now offset ≡ Some result.now }
-        ensures short { length result.now ≤ MESSAGE_LIMIT }
+        ensures short { length result.now ≤ LONGEST_MESSAGE }
     {
         let place = (offset % PAGE as u64) as usize;
         match page_at(&self.full, (offset / PAGE as u64) as usize) {

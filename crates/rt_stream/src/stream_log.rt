@@ -3,7 +3,8 @@ ghost use Rattle.rt_stream.specs.Feed.{Fetches, Measures, answered, log_meaning}
 ghost use Rattle.rt_stream.specs.Log.{Appends, messages_of, end_of, fetched, measured};
 
 use crate::partition_log::PartitionLog;
-use crate::{Feed, FeedRefused, MESSAGE_LIMIT, Message};
+use crate::{Feed, FeedRefused, Message};
+use rt_base::limits::LONGEST_MESSAGE;
 use rt_base::{Offset, Partition};
 use rt_lists::Items;
 use std::alloc::{AllocError, Global};
@@ -43,7 +44,7 @@ impl StreamLog {
         partition: Partition,
         message: &[u8],
     ) -> Result<Offset, FeedRefused>
-        requires { length message.now ≤ MESSAGE_LIMIT }
+        requires { length message.now ≤ LONGEST_MESSAGE }
         ensures { Appends self.old self.new partition message.now result }
     {
         let Some(log) = self.partitions.get_mut(partition.0 as usize) else {
@@ -67,7 +68,7 @@ impl StreamLog {
         requires partition { partition.0 < length self.now }
         requires offset { offset.0 < length (messages_of self.now partition) }
         ensures message { slice_get (messages_of self.now partition) offset.0 ≡ Some result.now }
-        ensures short { length result.now ≤ MESSAGE_LIMIT }
+        ensures short { length result.now ≤ LONGEST_MESSAGE }
     {
         self.partitions[partition.0 as usize].get(offset.0)
     }
