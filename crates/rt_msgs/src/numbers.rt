@@ -50,6 +50,17 @@ impl Numbers {
         number
     }
 
+    /// The number that `next` would draw.
+    pub fn upcoming(&self) -> RequestNumber
+        ensures { result ≡ number_at self.now self.now.made }
+    {
+        RequestNumber {
+            instance: self.instance,
+            incarnation: self.incarnation,
+            count: self.made,
+        }
+    }
+
     /// How many numbers were drawn.
     pub fn made(&self) -> u64
         ensures { result ≡ self.now.made }

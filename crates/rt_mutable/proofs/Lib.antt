@@ -9,3 +9,4 @@ pub mod Below
 pub mod Steps
 pub mod Made
 pub mod ForCallers
+pub mod Cut

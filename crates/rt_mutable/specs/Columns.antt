@@ -54,3 +54,7 @@ with_values (column ∷ columns) (value ∷ values) = with_value column value �
 -- a column without its last row
 abbrev pub without_last : Filled → Filled
 without_last column = record column { values = take (length column.values - 1) column.values }
+
+-- a column with its first rows alone
+abbrev pub cut : ℕ → Filled → Filled
+cut rows column = record column { values = take rows column.values }

@@ -2,7 +2,7 @@
 ghost use Rattle.std.specs.Prelude.{◌≡◌, ◌<◌, All, length, map, slice_get, slice_index_or, IfOk, OnOk, OnErr};
 ghost use Rattle.rt_schema.specs.Schema.{is_among};
 ghost use Rattle.rt_schema.specs.Value.{kind_of};
-ghost use Rattle.rt_mutable.specs.Columns.{cell_at, empty_column, with_values, without_last};
+ghost use Rattle.rt_mutable.specs.Columns.{cell_at, empty_column, with_values, without_last, cut};
 
 use crate::MutableColumn;
 use rt_base::limits::MOST_ROWS;
@@ -70,6 +70,15 @@ fn take_back_all(columns: &mut [MutableColumn])
 {
     for column in columns.iter_mut() {
         column.take_back();
+    }
+}
+
+/// Takes the rows from a number on back, in each column.
+pub(crate) fn truncate_all(columns: &mut [MutableColumn], rows: usize)
+    ensures { columns.new ≡ map (cut rows) columns.old }
+{
+    for column in columns.iter_mut() {
+        column.truncate(rows);
     }
 }
 

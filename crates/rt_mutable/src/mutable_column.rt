@@ -3,6 +3,7 @@ ghost use Rattle.rt_schema.specs.Value.{kind_of};
 ghost use Rattle.rt_mutable.specs.Arrivals.{arrivals_of, ids_of};
 ghost use Rattle.rt_mutable.specs.Column.{same_value, values_in, kind_in};
 ghost use Rattle.rt_mutable.specs.RowLists.{numbers_where};
+ghost use Rattle.rt_mutable.specs.Columns.{cut};
 
 use crate::ColumnValues;
 use crate::row_lists::{RowLists, forget_row, note_row, rows_at};
@@ -151,5 +152,15 @@ impl MutableColumn {
         let id = ids[ids.len() - 1];
         self.values.take_back();
         forget_row(&mut self.docs, id, self.values.len());
+    }
+
+    /// Takes the rows from a number on back.
+    #[tactic(auto, using(crate::proofs::Cut::cut_again, crate::proofs::Cut::cut_whole))]
+    pub(crate) fn truncate(&mut self, rows: usize)
+        ensures { self.new ≡ cut rows self.old }
+    {
+        while self.values.rows() > rows {
+            self.take_back();
+        }
     }
 }

@@ -7,7 +7,7 @@ ghost use Rattle.rt_mutable.specs.Consuming.{after_message, empty_segment, is_be
 ghost use Rattle.rt_mutable.specs.RowLists.{numbers_where};
 
 use crate::MutableColumn;
-use crate::columns::{empty_columns, index_values, values_of_row};
+use crate::columns::{empty_columns, index_values, truncate_all, values_of_row};
 use rt_base::Offset;
 use rt_base::limits::MOST_ROWS;
 use rt_lists::{Items, Text};
@@ -154,6 +154,18 @@ impl MutableSegment {
         self.offsets.push_reserved(self.end);
         self.end = after(self.end);
         Ok(())
+    }
+
+    /// Takes the messages from an offset on back, with their rows. It takes no memory.
+    pub fn take_back(&mut self, end: Offset)
+        requires after { self.old.start.0 ≤ end.0 }
+        requires before { end.0 ≤ self.old.end.0 }
+        ensures { self.new ≡ record self.old { rows = filter (is_before end) self.old.rows; end = end } }
+    {
+        let count = count_below(&self.offsets, end);
+        truncate_all(self.columns.as_mut_slice(), count);
+        self.offsets.truncate(count);
+        self.end = end;
     }
 }
 
