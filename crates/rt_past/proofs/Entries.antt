@@ -1,7 +1,6 @@
 -- The steps of the ideal state keep its entries right.
-use Rattle.std.proofs.Common.{◌≡◌, ◌<◌, refl, Bool, true, false, cond, ◌⊎◌, inl, inr, List, [], ◌∷◌, subst, not}
+use Rattle.std.proofs.Common.{◌<◌, refl, Bool, true, false, cond, inl, inr, List, [], ◌∷◌, subst, not}
 use Rattle.std.specs.Prelude.{map}
-use Rattle.std.specs.List.{filter}
 use Rattle.rt_base.specs.declared.numbers.Instance.{Instance}
 use Rattle.rt_base.specs.declared.numbers.Partition.{Partition}
 use Rattle.rt_base.specs.declared.numbers.Sequence.{Sequence}
@@ -12,7 +11,6 @@ use Rattle.rt_model.specs.declared.ideal_state.Mode.TheVariants.{Online}
 use Rattle.rt_model.specs.declared.setup.Setup.{Setup}
 use Rattle.rt_model.specs.Ideal.{is_of, is_of_instance, is_before, has_entry, goes_on, offline_mode, with_entry, consuming, with_consuming, turned_online, turned_offline, next_sequence, commit_step_of, add_consuming_of, set_offline_of, remove_segment_of}
 use Rattle.rt_assign.specs.Placement.{replicas_of}
-use Rattle.rt_past.specs.Segments.{IsAssignedTo}
 use Rattle.rt_past.specs.Writes.{IsRightEntry, AreRightEntries}
 
 abbrev Each : (IdealEntry → Type 0) → List IdealEntry → Type 0

@@ -1,11 +1,11 @@
 -- What is right of a past is right of a later one.
-use Rattle.std.proofs.Common.{◌≡◌, ℕ, ◌<◌, ◌≤◌, List, ◌++◌, length, Some, refl, sym, ap, ◌∙◌, arith}
+use Rattle.std.proofs.Common.{◌≡◌, ℕ, ◌≤◌, List, ◌++◌, length, sym, ap, ◌∙◌, arith}
 use Rattle.std.proofs.lemmas.List.{length-append}
 use Rattle.rt_base.specs.declared.numbers.Instance.{Instance}
 use Rattle.rt_base.specs.declared.numbers.Offset.{Offset}
 use Rattle.rt_base.specs.declared.numbers.Partition.{Partition}
 use Rattle.rt_base.specs.declared.numbers.Sequence.{Sequence}
-use Rattle.rt_lists.specs.Members.{Has, IsFront}
+use Rattle.rt_lists.specs.Members.{IsFront}
 use Rattle.rt_lists.proofs.Members.{Has-front, front_same, front_then}
 use Rattle.rt_schema.specs.declared.schema.Schema.{Schema}
 use Rattle.rt_schema.specs.Row.{rows_in}
@@ -35,10 +35,9 @@ use Rattle.rt_stream.specs.Feed.{Grows as GrowsLog}
 use Rattle.rt_stream.proofs.Growth.{log_same, log_then}
 use Rattle.rt_deep.specs.declared.deep_put.DeepPut.{DeepPut}
 use Rattle.rt_deep.proofs.Files.{file_of-stays}
-use Rattle.rt_segment.specs.FileRight.{FileRight}
 use Rattle.rt_past.specs.Past.{Past, Grows}
 use Rattle.rt_past.specs.Segments.{OpensAt, IsBegun, HadEntry, WasMeta, WasOpen, WasDone, IsIncarnation}
-use Rattle.rt_past.specs.Files.{IsRightFile, Stands, IsStored, range_to}
+use Rattle.rt_past.specs.Files.{IsRightFile, Stands, IsStored}
 use Rattle.rt_past.specs.Requests.{IsKind, IsRequest}
 use Rattle.rt_past.specs.Replies.{IsStatus, IsReply}
 use Rattle.rt_past.specs.Writes.{IsRightStatus, IsRightMeta, IsRightNode, IsRightWrite}

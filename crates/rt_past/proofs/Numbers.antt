@@ -1,5 +1,5 @@
 -- The numbers of requests, as they are drawn and sent.
-use Rattle.std.proofs.Common.{◌≡◌, ◌+◌, ◌<◌, ◌⊎◌, inl, inr, ℕ, List, [], ◌∷◌, ◌++◌, refl, sym, ap, ◌∙◌, subst, arith}
+use Rattle.std.proofs.Common.{◌≡◌, ◌+◌, ◌<◌, ◌⊎◌, inl, inr, ℕ, List, [], ◌∷◌, ◌++◌, sym, ap, ◌∙◌, arith}
 use Rattle.rt_lists.specs.Members.{Has}
 use Rattle.rt_lists.proofs.Members.{Has-push_cases}
 use Rattle.rt_model.specs.declared.reply.Reply.{Reply}

@@ -1,10 +1,9 @@
 -- The entries of the ideal state reach a partition's last segment, or the one before it.
-use Rattle.std.proofs.Common.{◌≡◌, ◌+◌, ◌-◌, ◌<◌, ◌≤◌, ◌⊎◌, inl, inr, ℕ, zero, suc, List, [], ◌∷◌, length, Some, refl, sym, ap, subst, ◌∙◌, arith}
+use Rattle.std.proofs.Common.{◌≡◌, ◌+◌, ◌-◌, ◌<◌, ◌≤◌, ◌⊎◌, inl, inr, ℕ, zero, suc, List, [], ◌∷◌, length, refl, sym, ap, subst, ◌∙◌, arith}
 use Rattle.std.proofs.lemmas.Bool.{cases_eq, cases_lt}
 use Rattle.rt_base.specs.declared.numbers.Partition.{Partition}
 use Rattle.rt_lists.specs.Members.{Has}
 use Rattle.rt_model.specs.declared.node.Key.{Key}
-use Rattle.rt_model.specs.declared.node.Key.TheVariants as key
 use Rattle.rt_model.specs.declared.node.Node.{Node}
 use Rattle.rt_model.specs.declared.node.Node.TheVariants as node
 use Rattle.rt_model.specs.declared.node.Seen.{Seen}
@@ -13,9 +12,9 @@ use Rattle.rt_model.specs.declared.seg_meta.SegMeta.{SegMeta}
 use Rattle.rt_model.specs.declared.setup.Setup.{Setup}
 use Rattle.rt_model.specs.declared.status.Status.{Status}
 use Rattle.rt_model.specs.declared.status.Status.TheVariants.{InProgress, Done, Abandoned}
-use Rattle.rt_model.specs.Chain.{InOrder, IsLife, IsLinked, deletions_of}
+use Rattle.rt_model.specs.Chain.{InOrder, IsLife, IsLinked}
 use Rattle.rt_model.specs.Entries.{HasEntry, entries_by, entries_of}
-use Rattle.rt_model.specs.History.{last_of, last_write}
+use Rattle.rt_model.specs.History.{last_of}
 use Rattle.rt_model.specs.Metadata.{BecameFinal, IsFinal, IsFinalStatus, IsOpen, life_of, node_key, sequences_of}
 use Rattle.rt_model.specs.Setup.{IsSetup}
 use Rattle.rt_model.proofs.Chains.{InOrder-chain}

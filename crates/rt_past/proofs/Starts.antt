@@ -1,19 +1,17 @@
 -- The past of a fresh cluster.
-use Rattle.std.proofs.Common.{◌≡◌, ◌<◌, ℕ, zero, suc, ◌⊎◌, inl, inr, List, [], ◌∷◌, ◌++◌, refl, ap, subst, arith}
+use Rattle.std.proofs.Common.{◌≡◌, ◌<◌, ℕ, zero, suc, ◌⊎◌, inl, inr, [], ◌++◌, subst, arith}
 use Rattle.std.proofs.lemmas.List.{length-replicate}
-use Rattle.rt_base.specs.declared.numbers.Instance.{Instance}
 use Rattle.rt_base.specs.declared.numbers.Partition.{Partition}
 use Rattle.rt_lists.specs.Members.{Has}
 use Rattle.rt_lists.proofs.Members.{Has-push_cases, Has-append_cases}
 use Rattle.rt_model.specs.declared.ideal_state.IdealEntry.{IdealEntry}
 use Rattle.rt_model.specs.declared.node.Seen.{Seen}
 use Rattle.rt_model.specs.declared.setup.Setup.{Setup}
-use Rattle.rt_model.specs.Ideal.{consuming}
-use Rattle.rt_model.specs.Starting.{Starting, starting_boot, starting_boots, starting_meta, starting_metas, starting_ideal, starting_entries}
+use Rattle.rt_model.specs.Starting.{starting_boot, starting_boots, starting_meta, starting_metas, starting_ideal, starting_entries}
 use Rattle.rt_model.proofs.Lawful.{start_is_lawful}
 use Rattle.rt_store.specs.Contents.{starting_of}
 use Rattle.rt_past.specs.Past.{Past}
-use Rattle.rt_past.specs.Writes.{IsRightEntry, AreRightEntries, IsRightWrite}
+use Rattle.rt_past.specs.Writes.{IsRightWrite}
 use Rattle.rt_past.specs.IsPast.{IsPast, fresh_past}
 use Rattle.rt_past.proofs.Entries.{each_consuming}
 

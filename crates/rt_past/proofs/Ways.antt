@@ -1,11 +1,10 @@
 -- The ways in which a past grows.
-use Rattle.std.proofs.Common.{◌≡◌, ◌⊎◌, inl, inr, ℕ, List, [], ◌∷◌, ◌++◌, length, None, refl, sym, ap, ◌∙◌, subst}
+use Rattle.std.proofs.Common.{◌≡◌, ◌⊎◌, inl, inr, List, [], ◌∷◌, ◌++◌, sym, ap, ◌∙◌, subst}
 use Rattle.rt_lists.specs.Members.{Has, IsFront}
 use Rattle.rt_lists.proofs.Members.{Has-front, Has-push_cases, Has-same, front_same, front_push}
 use Rattle.rt_model.specs.declared.node.Seen.{Seen}
 use Rattle.rt_model.specs.declared.reply.Reply.{Reply}
 use Rattle.rt_model.specs.declared.request.Request.{Request}
-use Rattle.rt_model.specs.declared.request.RequestKind.TheVariants as kind
 use Rattle.rt_model.specs.declared.sent.Sent.{Sent}
 use Rattle.rt_model.specs.declared.sent.Sent.TheVariants as sent
 use Rattle.rt_model.specs.declared.setup.Setup.{Setup}
@@ -36,18 +35,19 @@ pub past_logs : (setup : Setup) (a : Past) (log : Log) → GrowsLog a.log log �
     → Grows a (with_log a log) × IsPast setup (with_log a log)
 past_logs setup a log g k =
     let b = with_log a log in
-    let grows : Grows a b = record { log = g; history = front_same a.history; files = front_same a.files; sent = front_same a.sent } in
-    (grows,
-    record {
-      partitions = g.partitions ∙ k.partitions;
-      lawful = k.lawful;
-      writes = λ w has. right_write_grows setup a b w grows (k.writes w has);
-      once = k.once;
-      files = k.files;
-      requests = λ q has. request_grows setup a b q grows (k.requests q has);
-      replies = λ r has. reply_grows a b r grows (k.replies r has);
-      unique = k.unique;
-    })
+    let grows : Grows a b = record { log = g; history = front_same a.history; files = front_same a.files; sent = front_same a.sent } in (
+      grows,
+      record {
+        partitions = g.partitions ∙ k.partitions;
+        lawful = k.lawful;
+        writes = λ w has. right_write_grows setup a b w grows (k.writes w has);
+        once = k.once;
+        files = k.files;
+        requests = λ q has. request_grows setup a b q grows (k.requests q has);
+        replies = λ r has. reply_grows a b r grows (k.replies r has);
+        unique = k.unique;
+      },
+    )
 
 -- ---- the store
 
@@ -56,18 +56,19 @@ pub past_writes : (setup : Setup) (a : Past) (h : List Seen) → IsFront a.histo
     → Grows a (with_history a h) × IsPast setup (with_history a h)
 past_writes setup a h g lawful right k =
     let b = with_history a h in
-    let grows : Grows a b = record { log = log_same a.log; history = g; files = front_same a.files; sent = front_same a.sent } in
-    (grows,
-    record {
-      partitions = k.partitions;
-      lawful = lawful;
-      writes = right;
-      once = k.once;
-      files = k.files;
-      requests = λ q has. request_grows setup a b q grows (k.requests q has);
-      replies = λ r has. reply_grows a b r grows (k.replies r has);
-      unique = k.unique;
-    })
+    let grows : Grows a b = record { log = log_same a.log; history = g; files = front_same a.files; sent = front_same a.sent } in (
+      grows,
+      record {
+        partitions = k.partitions;
+        lawful = lawful;
+        writes = right;
+        once = k.once;
+        files = k.files;
+        requests = λ q has. request_grows setup a b q grows (k.requests q has);
+        replies = λ r has. reply_grows a b r grows (k.replies r has);
+        unique = k.unique;
+      },
+    )
 
 -- ---- the deep store
 
@@ -76,18 +77,19 @@ pub past_files : (setup : Setup) (a : Past) (files : List DeepPut) → IsFront a
     → Grows a (with_files a files) × IsPast setup (with_files a files)
 past_files setup a files g once uploaded k =
     let b = with_files a files in
-    let grows : Grows a b = record { log = log_same a.log; history = front_same a.history; files = g; sent = front_same a.sent } in
-    (grows,
-    record {
-      partitions = k.partitions;
-      lawful = k.lawful;
-      writes = λ w has. right_write_grows setup a b w grows (k.writes w has);
-      once = once;
-      files = uploaded;
-      requests = λ q has. request_grows setup a b q grows (k.requests q has);
-      replies = λ r has. reply_grows a b r grows (k.replies r has);
-      unique = k.unique;
-    })
+    let grows : Grows a b = record { log = log_same a.log; history = front_same a.history; files = g; sent = front_same a.sent } in (
+      grows,
+      record {
+        partitions = k.partitions;
+        lawful = k.lawful;
+        writes = λ w has. right_write_grows setup a b w grows (k.writes w has);
+        once = once;
+        files = uploaded;
+        requests = λ q has. request_grows setup a b q grows (k.requests q has);
+        replies = λ r has. reply_grows a b r grows (k.replies r has);
+        unique = k.unique;
+      },
+    )
 
 -- ---- messages
 
@@ -132,23 +134,24 @@ pub past_requests : (setup : Setup) (a : Past) (q : Request) → IsRequest setup
     → Grows a (with_request a q) × IsPast setup (with_request a q)
 past_requests setup a q right fresh k =
     let b = with_request a q in
-    let grows = sends a (sent.Request q) in
-    (grows,
-    record {
-      partitions = k.partitions;
-      lawful = k.lawful;
-      writes = λ w has. right_write_grows setup a b w grows (k.writes w has);
-      once = k.once;
-      files = λ f has. uploaded_grows a.sent b.sent f grows.sent (k.files f has);
-      requests = λ r has.
-          by_request setup b a.sent q r (λ x h. request_grows setup a b x grows (k.requests x h)) (request_grows setup a b q grows right)
-          (Has-push_cases a.sent (sent.Request q) (sent.Request r) has);
-      replies = λ r has.
-          reply_grows a b r grows (k.replies r (no_reply a.sent q r (Has-push_cases a.sent (sent.Request q) (sent.Reply r) has)));
-      unique = λ x y hx hy.
-          unique_push a.sent q x y k.unique fresh
-          (Has-push_cases a.sent (sent.Request q) (sent.Request x) hx) (Has-push_cases a.sent (sent.Request q) (sent.Request y) hy);
-    })
+    let grows = sends a (sent.Request q) in (
+      grows,
+      record {
+        partitions = k.partitions;
+        lawful = k.lawful;
+        writes = λ w has. right_write_grows setup a b w grows (k.writes w has);
+        once = k.once;
+        files = λ f has. uploaded_grows a.sent b.sent f grows.sent (k.files f has);
+        requests = λ r has.
+            by_request setup b a.sent q r (λ x h. request_grows setup a b x grows (k.requests x h)) (request_grows setup a b q grows right)
+            (Has-push_cases a.sent (sent.Request q) (sent.Request r) has);
+        replies = λ r has.
+            reply_grows a b r grows (k.replies r (no_reply a.sent q r (Has-push_cases a.sent (sent.Request q) (sent.Reply r) has)));
+        unique = λ x y hx hy.
+            unique_push a.sent q x y k.unique fresh
+            (Has-push_cases a.sent (sent.Request q) (sent.Request x) hx) (Has-push_cases a.sent (sent.Request q) (sent.Request y) hy);
+      },
+    )
 
 pub past_replies : (setup : Setup) (a : Past) (r : Reply) → IsReply a r → IsPast setup a
     → Grows a (with_reply a r) × IsPast setup (with_reply a r)
@@ -156,20 +159,21 @@ past_replies setup a r right k =
     let b = with_reply a r in
     let grows = sends a (sent.Reply r) in
     let was : (q : Request) → Has b.sent (sent.Request q) → Has a.sent (sent.Request q) =
-    λ q has. no_request a.sent r q (Has-push_cases a.sent (sent.Reply r) (sent.Request q) has) in
-    (grows,
-    record {
-      partitions = k.partitions;
-      lawful = k.lawful;
-      writes = λ w has. right_write_grows setup a b w grows (k.writes w has);
-      once = k.once;
-      files = λ f has. uploaded_grows a.sent b.sent f grows.sent (k.files f has);
-      requests = λ q has. request_grows setup a b q grows (k.requests q (was q has));
-      replies = λ y has.
-          by_reply b a.sent r y (λ x h. reply_grows a b x grows (k.replies x h)) (reply_grows a b r grows right)
-          (Has-push_cases a.sent (sent.Reply r) (sent.Reply y) has);
-      unique = λ x y hx hy. k.unique x y (was x hx) (was y hy);
-    })
+    λ q has. no_request a.sent r q (Has-push_cases a.sent (sent.Reply r) (sent.Request q) has) in (
+      grows,
+      record {
+        partitions = k.partitions;
+        lawful = k.lawful;
+        writes = λ w has. right_write_grows setup a b w grows (k.writes w has);
+        once = k.once;
+        files = λ f has. uploaded_grows a.sent b.sent f grows.sent (k.files f has);
+        requests = λ q has. request_grows setup a b q grows (k.requests q (was q has));
+        replies = λ y has.
+            by_reply b a.sent r y (λ x h. reply_grows a b x grows (k.replies x h)) (reply_grows a b r grows right)
+            (Has-push_cases a.sent (sent.Reply r) (sent.Reply y) has);
+        unique = λ x y hx hy. k.unique x y (was x hx) (was y hy);
+      },
+    )
 
 -- ---- as the calls of the stores go
 
