@@ -6,6 +6,7 @@ ghost use Rattle.rt_scan.specs.Keys.{StandsTo, int_of, long_of, text_of, truth_o
 ghost use Rattle.rt_scan.specs.KeyLaws.{int_stands, long_stands, text_stands, truth_stands};
 
 use rt_dict::Key;
+use rt_filter::{number_against, text_against, truth_against};
 use rt_lists::Text;
 use rt_model::Literal;
 use std::alloc::{AllocError, Global};
@@ -39,10 +40,7 @@ impl Comparable for i32 {
     ghost stands = { int_stands };
 
     fn against(&self, literal: &Literal) -> Option<Ordering> {
-        match literal {
-            Literal::Int(number) => Some(i64::from(*self).cmp(number)),
-            _other => None,
-        }
+        number_against(i64::from(*self), literal)
     }
 
     fn key_of(_alloc: Global, literal: &Literal) -> Result<Option<Self>, AllocError> {
@@ -61,10 +59,7 @@ impl Comparable for i64 {
     ghost stands = { long_stands };
 
     fn against(&self, literal: &Literal) -> Option<Ordering> {
-        match literal {
-            Literal::Int(number) => Some(self.cmp(number)),
-            _other => None,
-        }
+        number_against(*self, literal)
     }
 
     fn key_of(_alloc: Global, literal: &Literal) -> Result<Option<Self>, AllocError> {
@@ -83,10 +78,7 @@ impl Comparable for Text {
     ghost stands = { text_stands };
 
     fn against(&self, literal: &Literal) -> Option<Ordering> {
-        match literal {
-            Literal::Text(text) => Some(self.as_bytes().cmp(text.as_bytes())),
-            _other => None,
-        }
+        text_against(self, literal)
     }
 
     fn key_of(alloc: Global, literal: &Literal) -> Result<Option<Self>, AllocError> {
@@ -105,10 +97,7 @@ impl Comparable for bool {
     ghost stands = { truth_stands };
 
     fn against(&self, literal: &Literal) -> Option<Ordering> {
-        match literal {
-            Literal::Bool(truth) => Some(self.cmp(truth)),
-            _other => None,
-        }
+        truth_against(*self, literal)
     }
 
     fn key_of(_alloc: Global, literal: &Literal) -> Result<Option<Self>, AllocError> {

@@ -11,6 +11,7 @@ use crate::column_test::ColumnTest;
 use crate::row_sets::rows_with;
 use crate::scan_column::ScanColumn;
 use crate::seeking::rows_sought;
+use crate::truths::truths_of_keys;
 use rt_agg::Scalar;
 use rt_mutable::{ColumnValues, MutableColumn};
 use rt_postings::DocSet;
@@ -75,7 +76,7 @@ fn rows_by_ids(
     requires { length column.now.values ≤ 1000000 }
     ensures { IfOk result (λ set. set ≡ map (passes_test test.now) (first_values column.now rows)) }
 {
-    let truths = truths_in(alloc, column, test)?;
+    let truths = truths_in(alloc, column.values(), test)?;
     let ids = column.ids();
     let count = ids.len().min(rows as usize);
     rows_with(alloc, &truths, &ids[..count])
@@ -84,32 +85,18 @@ fn rows_by_ids(
 // Which values pass a test, by their ids.
 fn truths_in(
     alloc: Global,
-    column: &MutableColumn,
+    values: &ColumnValues,
     test: &ColumnTest<'_>,
 ) -> Result<Vec<bool>, AllocError>
-    requires { length column.now.values ≤ 1000000 }
-    ensures { IfOk result (λ truths. truths.items ≡ map (passes_test test.now) (arrivals_of same_value column.now.values)) }
+    ensures { IfOk result (λ truths. truths.items ≡ map (passes_test test.now) (arrivals_of same_value (values_in values.now))) }
 {
-    let count = column.len() as u32;
-    let mut truths = Vec::with_capacity(alloc, count as usize)?;
-    for id in 0..count {
-        truths.push(is_passed(alloc, column, id, test)?)?;
+    match values {
+        ColumnValues::Int(arrivals) => truths_of_keys(alloc, arrivals.keys(), test),
+        ColumnValues::Long(arrivals) => truths_of_keys(alloc, arrivals.keys(), test),
+        ColumnValues::Text(arrivals) => truths_of_keys(alloc, arrivals.keys(), test),
+        ColumnValues::Bool(arrivals) => truths_of_keys(alloc, arrivals.keys(), test),
+        ColumnValues::Time(arrivals) => truths_of_keys(alloc, arrivals.keys(), test),
     }
-    Ok(truths)
-}
-
-fn is_passed(
-    alloc: Global,
-    column: &MutableColumn,
-    id: u32,
-    test: &ColumnTest<'_>,
-) -> Result<bool, AllocError>
-    requires { id < length (arrivals_of same_value column.now.values) }
-    ensures { IfOk result (λ passes. passes ≡ passes_test test.now (arrival_of column.now id)) }
-{
-    let value = column.value(alloc, id)?;
-    let passes = test.passes(&value);
-    Ok(passes)
 }
 
 fn first_id(column: &MutableColumn, rows: u32, row: u32) -> u32

@@ -5,6 +5,7 @@ ghost use Rattle.rt_scan.specs.Skips.{against_if, can_be_one, can_compare, can_l
 
 use crate::comparable::Comparable;
 use crate::standing::Standing;
+use rt_filter::{accepted, number_against, text_against, truth_against};
 use rt_lists::Text;
 use rt_model::{Comparison, Condition, Literal, Predicate, Query};
 use rt_segment::{Dictionary, Sealed, SegmentColumn};
@@ -116,11 +117,10 @@ fn can_lie(low: Option<Standing>, high: Option<Standing>, above: bool) -> bool
 fn is_above(low: &Literal, high: &Literal) -> bool
     ensures { result ≡ is_above low.now high.now }
 {
-    match (low, high) {
-        (Literal::Int(low), Literal::Int(high)) => low.cmp(high).is_gt(),
-        (Literal::Text(low), Literal::Text(high)) => low.as_bytes().cmp(high.as_bytes()).is_gt(),
-        (Literal::Bool(low), Literal::Bool(high)) => low.cmp(high).is_gt(),
-        _other => false,
+    match low {
+        Literal::Int(low) => accepted(Comparison::Greater, number_against(*low, high)),
+        Literal::Text(low) => accepted(Comparison::Greater, text_against(low, high)),
+        Literal::Bool(low) => accepted(Comparison::Greater, truth_against(*low, high)),
     }
 }
 

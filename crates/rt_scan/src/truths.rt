@@ -171,6 +171,22 @@ fn truths_one_by_one<K: Comparable>(
     Ok(truths)
 }
 
+/// Whether each of some keys passes a test. Fails only where memory is refused.
+#[tactic(auto, using(crate::proofs::Sets::map_take_more))]
+pub(crate) fn truths_of_keys<K: Comparable>(
+    alloc: Global,
+    keys: &[K],
+    test: &ColumnTest<'_>,
+) -> Result<Vec<bool>, AllocError>
+    ensures { IfOk result (λ truths. truths.items ≡ map (key_passes K.against test.now) keys.now) }
+{
+    let mut truths = Vec::with_capacity(alloc, keys.len())?;
+    for key in keys {
+        truths.push(key_passes(test, key))?;
+    }
+    Ok(truths)
+}
+
 // The truths, each turned round.
 fn turned_round(truths: Vec<bool>) -> Vec<bool>
     ensures { result.items ≡ map not truths.items }

@@ -10,7 +10,7 @@ use Rattle.rt_scan.proofs.consuming_column.rows_by_ids.Goals as goal
 use Rattle.rt_scan.proofs.consuming_column.rows_by_ids.Goals.{After-deref}
 
 truths : (c : After-deref) → c.deref.result.now ≡ map (passes_test c.args.test.now) (arrivals_of same_value c.args.column.now.values)
-truths c = c.deref.ensures.value ∙ c.in_ok-truths.ensures {u = tt}
+truths c = c.deref.ensures.value ∙ c.in_ok-truths.ensures {u = tt} ∙ ap (λ vs. map (passes_test c.args.test.now) (arrivals_of same_value vs)) c.values.ensures.values
 
 pub rows_with-requires-clause-known : goal.rows_with-requires-clause-known
 rows_with-requires-clause-known c =

@@ -1,22 +1,49 @@
-use Rattle.std.proofs.Common.{◌<◌, false, length, arith, rules}
-use Rattle.std.proofs.lemmas.Option.{slice_get-get_or}
+use Rattle.std.proofs.Common.{refl, sym, ap, ◌∙◌, map}
+use Rattle.std.specs.Ordering.{int_eq}
+use Rattle.std.specs.Str.{bytes_eq}
+use mathlib.Core.Bool.{beq}
 use Rattle.rt_schema.specs.declared.value.Value.TheVariants as value
+use Rattle.rt_model.specs.Values.{number_against, text_against, truth_against}
 use Rattle.rt_mutable.specs.Arrivals.{arrivals_of}
-use Rattle.rt_mutable.specs.Column.{same_value}
+use Rattle.rt_mutable.specs.Column.{same_value, values_in}
+use Rattle.rt_mutable.proofs.Mapped.{map_arrivals}
 use Rattle.rt_scan.specs.ColumnTest.{passes_test}
-use Rattle.rt_scan.specs.ConsumingColumn.{arrival_of}
-use Rattle.rt_scan.proofs.Arrived.{few_arrivals}
-use Rattle.rt_scan.proofs.Keys.{one_more}
+use Rattle.rt_scan.specs.Keys.{key_passes}
+use Rattle.rt_scan.proofs.Sets.{ok_then}
+use Rattle.rt_scan.proofs.Held.{truths_alike}
 use Rattle.rt_scan.proofs.consuming_column.truths_in.Goals as goal
 
-pub overflow_cast-count : goal.overflow_cast-count
-overflow_cast-count c = let e : c.len-count.result < 4294967296 = omega (arith, c.len-count.ensures, few_arrivals c.args.column.now.values, c.requires) in search rules
+pub returns-in-Int : goal.returns-in-Int
+returns-in-Int c = ok_then c.truths_of_keys.result _ _ c.truths_of_keys.ensures (λ truths e.
+    e ∙ ap (map (key_passes number_against c.args.test.now)) c.keys.ensures
+    ∙ truths_alike value.Int number_against (λ z l. refl) c.args.test.now (arrivals_of int_eq c.in-Int.arrivals)
+    ∙ ap (map (passes_test c.args.test.now)) (map_arrivals int_eq same_value value.Int (λ a b. refl) c.in-Int.arrivals)
+    ∙ ap (λ vs. map (passes_test c.args.test.now) (arrivals_of same_value (values_in vs))) (sym c.in-Int.is))
 
-pub loop-id-preserved : goal.loop-id-preserved
-loop-id-preserved c =
-    let vs = c.args.column.now.values in
-    let arrivals = arrivals_of same_value vs in
-    let id = c.loop-id.id in
-    let below : id < length arrivals = omega (arith, c.loop-id-test.true, c.len-count.ensures, few_arrivals vs, c.requires) in
-    one_more (passes_test c.args.test.now) arrivals id (arrival_of c.args.column.now id) c.loop-id.truths.items c.push.new.self.items c.in_ok-is_passed.field-0
-    (slice_get-get_or arrivals id (value.Bool false) below) c.loop-id.invariant (c.in_ok-is_passed.ensures {u = tt}) c.in_ok-push.ensures.items
+pub returns-in-Long : goal.returns-in-Long
+returns-in-Long c = ok_then c.truths_of_keys-in-Long.result _ _ c.truths_of_keys-in-Long.ensures (λ truths e.
+    e ∙ ap (map (key_passes number_against c.args.test.now)) c.keys-in-Long.ensures
+    ∙ truths_alike value.Long number_against (λ z l. refl) c.args.test.now (arrivals_of int_eq c.in-Long.arrivals)
+    ∙ ap (map (passes_test c.args.test.now)) (map_arrivals int_eq same_value value.Long (λ a b. refl) c.in-Long.arrivals)
+    ∙ ap (λ vs. map (passes_test c.args.test.now) (arrivals_of same_value (values_in vs))) (sym c.in-Long.is))
+
+pub returns-in-Text : goal.returns-in-Text
+returns-in-Text c = ok_then c.truths_of_keys-in-Text.result _ _ c.truths_of_keys-in-Text.ensures (λ truths e.
+    e ∙ ap (map (key_passes text_against c.args.test.now)) c.keys-in-Text.ensures
+    ∙ truths_alike value.Text text_against (λ z l. refl) c.args.test.now (arrivals_of bytes_eq c.in-Text.arrivals)
+    ∙ ap (map (passes_test c.args.test.now)) (map_arrivals bytes_eq same_value value.Text (λ a b. refl) c.in-Text.arrivals)
+    ∙ ap (λ vs. map (passes_test c.args.test.now) (arrivals_of same_value (values_in vs))) (sym c.in-Text.is))
+
+pub returns-in-Bool : goal.returns-in-Bool
+returns-in-Bool c = ok_then c.truths_of_keys-in-Bool.result _ _ c.truths_of_keys-in-Bool.ensures (λ truths e.
+    e ∙ ap (map (key_passes truth_against c.args.test.now)) c.keys-in-Bool.ensures
+    ∙ truths_alike value.Bool truth_against (λ z l. refl) c.args.test.now (arrivals_of beq c.in-Bool.arrivals)
+    ∙ ap (map (passes_test c.args.test.now)) (map_arrivals beq same_value value.Bool (λ a b. refl) c.in-Bool.arrivals)
+    ∙ ap (λ vs. map (passes_test c.args.test.now) (arrivals_of same_value (values_in vs))) (sym c.in-Bool.is))
+
+pub returns-in-Time : goal.returns-in-Time
+returns-in-Time c = ok_then c.truths_of_keys-in-Time.result _ _ c.truths_of_keys-in-Time.ensures (λ truths e.
+    e ∙ ap (map (key_passes number_against c.args.test.now)) c.keys-in-Time.ensures
+    ∙ truths_alike value.Time number_against (λ z l. refl) c.args.test.now (arrivals_of int_eq c.in-Time.arrivals)
+    ∙ ap (map (passes_test c.args.test.now)) (map_arrivals int_eq same_value value.Time (λ a b. refl) c.in-Time.arrivals)
+    ∙ ap (λ vs. map (passes_test c.args.test.now) (arrivals_of same_value (values_in vs))) (sym c.in-Time.is))
