@@ -1,5 +1,5 @@
 -- What completes a query that has been read so far, by the grammar.
-use Rattle.std.proofs.Common.{ℕ, ◌-◌, Bool, List, [], ◌∷◌, ◌++◌, Option, Some, None}
+use Rattle.std.proofs.Common.{ℕ, ◌+◌, ◌-◌, Bool, List, [], ◌∷◌, ◌++◌, Option, Some, None}
 use Rattle.rt_schema.specs.declared.schema.Schema.{Schema}
 use Rattle.rt_model.specs.Tree.{Tree, Compare, Between}
 use Rattle.rt_model.specs.declared.query_parts.ColumnAt.{ColumnAt}
@@ -90,17 +90,18 @@ abbrev pub or_filter : Option Tree → Option Tree → Option Tree
 or_filter default None = default
 or_filter default (Some t) = Some t
 
-pub data WhereThen : Schema → Parts → List Token → Parts → Type 0 where
-  where_then : {s : Schema} (p : Parts) {ts m : List Token} {f : Option Tree} {q : Parts} →
-      IsWhere s 64 ts m f → GroupsThen s (record p { filter = or_filter p.filter f }) m q → WhereThen s p ts q
+-- predicates nest at most d deep
+pub data WhereThen : ℕ → Schema → Parts → List Token → Parts → Type 0 where
+  where_then : {d : ℕ} {s : Schema} (p : Parts) {ts m : List Token} {f : Option Tree} {q : Parts} →
+      IsWhere s d ts m f → GroupsThen s (record p { filter = or_filter p.filter f }) m q → WhereThen d s p ts q
 
-pub data TableThen : Schema → Parts → List Token → Parts → Type 0 where
-  table_then : {s : Schema} (p : Parts) (b : ℕ) (name : List ℕ) {m : List Token} {q : Parts} →
-      WhereThen s (record p { table = name }) m q → TableThen s p (tok b (Name name) ∷ m) q
+pub data TableThen : ℕ → Schema → Parts → List Token → Parts → Type 0 where
+  table_then : {d : ℕ} {s : Schema} (p : Parts) (b : ℕ) (name : List ℕ) {m : List Token} {q : Parts} →
+      WhereThen d s (record p { table = name }) m q → TableThen d s p (tok b (Name name) ∷ m) q
 
-pub data ItemsThen : Schema → Parts → List Token → Parts → Type 0 where
-  items_then : {s : Schema} (p : Parts) (b : ℕ) {ts m : List Token} {is : List ItemAt} {q : Parts} →
-      Repeats ItemAt (IsItem s) ts (tok b (Word word.From) ∷ m) is → TableThen s (record p { items = p.items ++ is }) m q → ItemsThen s p ts q
+pub data ItemsThen : ℕ → Schema → Parts → List Token → Parts → Type 0 where
+  items_then : {d : ℕ} {s : Schema} (p : Parts) (b : ℕ) {ts m : List Token} {is : List ItemAt} {q : Parts} →
+      Repeats ItemAt (IsItem s) ts (tok b (Word word.From) ∷ m) is → TableThen d s (record p { items = p.items ++ is }) m q → ItemsThen d s p ts q
 
 -- what is read at a level, with more terms and conditions
 abbrev pub whole : Level → List Tree → List Tree → Tree
@@ -126,9 +127,9 @@ word_of function.Sum = word.Sum
 word_of function.Min = word.Min
 word_of function.Max = word.Max
 
-abbrev pub ItemThen : Schema → Side → Parts → Parts → List Token → ItemAt → Type 0
-ItemThen s side.Select p q m i = ItemsThen s (record p { items = p.items ++ i ∷ [] }) m q
-ItemThen s side.Order p q m i = DirectionThen s i p m q
+abbrev pub ItemThen : ℕ → Schema → Side → Parts → Parts → List Token → ItemAt → Type 0
+ItemThen d s side.Select p q m i = ItemsThen d s (record p { items = p.items ++ i ∷ [] }) m q
+ItemThen d s side.Order p q m i = DirectionThen s i p m q
 
 pub data CloseThen (K : List Token → ItemAt → Type 0) (found : ItemAt) : List Token → Type 0 where
   close_then : (b : ℕ) {m : List Token} → K m found → CloseThen K found (tok b (Word word.Close) ∷ m)
@@ -138,30 +139,41 @@ CallThen s K (call.Open byte f) ts = Then ItemAt (IsItem s) K (tok byte (Word (w
 CallThen s K (call.Argument byte f) ts = (b : ℕ) → Then ItemAt (IsItem s) K (tok byte (Word (word_of f)) ∷ tok b (Word word.Open) ∷ ts)
 CallThen s K (call.Close found) ts = CloseThen K found ts
 
-pub data SelectThen : Schema → Parts → List Token → Parts → Type 0 where
-  select_then : {s : Schema} (p : Parts) (b : ℕ) {ts : List Token} {q : Parts} →
-      Then ItemAt (IsItem s) (ItemThen s side.Select p q) ts → SelectThen s p (tok b (Word word.Select) ∷ ts) q
+pub data SelectThen : ℕ → Schema → Parts → List Token → Parts → Type 0 where
+  select_then : {d : ℕ} {s : Schema} (p : Parts) (b : ℕ) {ts : List Token} {q : Parts} →
+      Then ItemAt (IsItem s) (ItemThen d s side.Select p q) ts → SelectThen d s p (tok b (Word word.Select) ∷ ts) q
 
 pub data NoneThen : Parts → List Token → Parts → Type 0 where
   none_then : (p : Parts) → NoneThen p [] p
 
--- by what comes next
-abbrev pub Completes : Schema → Stage → Parts → List Token → Parts → Type 0
-Completes s stage.Select p ts q = SelectThen s p ts q
-Completes s (stage.Wanted side) p ts q = Then ItemAt (IsItem s) (ItemThen s side p q) ts
-Completes s (stage.Call side call) p ts q = CallThen s (ItemThen s side p q) call ts
-Completes s stage.AfterItem p ts q = ItemsThen s p ts q
-Completes s stage.Table p ts q = TableThen s p ts q
-Completes s stage.AfterTable p ts q = WhereThen s p ts q
-Completes s (stage.Term n nots) p ts q = TermThen s p n nots ts q
-Completes s (stage.Test n nots test) p ts q = TestThen (λ m t. TermsThen s p (with_term n.level nots t) n.outer m q) test ts
-Completes s (stage.AfterTerm n) p ts q = TermsThen s p n.level n.outer ts q
-Completes s stage.GroupBy p ts q = (b : ℕ) → GroupsThen s p (tok b (Word word.Group) ∷ ts) q
-Completes s stage.Group p ts q = Then GroupAt (IsName s) (λ m g. NamesThen s (record p { groups = p.groups ++ g ∷ [] }) m q) ts
-Completes s stage.AfterGroup p ts q = NamesThen s p ts q
-Completes s stage.OrderBy p ts q = (b : ℕ) → OrderThen s p (tok b (Word word.Order) ∷ ts) q
-Completes s (stage.AfterKey i) p ts q = DirectionThen s i p ts q
-Completes s stage.AfterDirection p ts q = KeysThen s p ts q
-Completes s stage.Limit p ts q = (b : ℕ) → LimitThen p (tok b (Word word.Limit) ∷ ts) q
-Completes s stage.AfterLimit p ts q = EndThen p ts q
-Completes s stage.End p ts q = NoneThen p ts q
+-- the same with room for k more parentheses and NOTs
+abbrev pub roomier : ℕ → Level → Level
+roomier k level = record level { room = level.room + k }
+
+abbrev pub all_roomier : ℕ → List Enclosing → List Enclosing
+all_roomier k [] = []
+all_roomier k (e ∷ outer) = record { level = roomier k e.level; nots = e.nots } ∷ all_roomier k outer
+
+abbrev pub wider : ℕ → Nesting → Nesting
+wider k n = record { level = roomier k n.level; outer = all_roomier k n.outer }
+
+-- by what comes next, where k more parentheses and NOTs may be open
+abbrev pub Completes : ℕ → Schema → Stage → Parts → List Token → Parts → Type 0
+Completes k s stage.Select p ts q = SelectThen (64 + k) s p ts q
+Completes k s (stage.Wanted side) p ts q = Then ItemAt (IsItem s) (ItemThen (64 + k) s side p q) ts
+Completes k s (stage.Call side call) p ts q = CallThen s (ItemThen (64 + k) s side p q) call ts
+Completes k s stage.AfterItem p ts q = ItemsThen (64 + k) s p ts q
+Completes k s stage.Table p ts q = TableThen (64 + k) s p ts q
+Completes k s stage.AfterTable p ts q = WhereThen (64 + k) s p ts q
+Completes k s (stage.Term n nots) p ts q = TermThen s p (wider k n) nots ts q
+Completes k s (stage.Test n nots test) p ts q = TestThen (λ m t. TermsThen s p (with_term (roomier k n.level) nots t) (all_roomier k n.outer) m q) test ts
+Completes k s (stage.AfterTerm n) p ts q = TermsThen s p (roomier k n.level) (all_roomier k n.outer) ts q
+Completes k s stage.GroupBy p ts q = (b : ℕ) → GroupsThen s p (tok b (Word word.Group) ∷ ts) q
+Completes k s stage.Group p ts q = Then GroupAt (IsName s) (λ m g. NamesThen s (record p { groups = p.groups ++ g ∷ [] }) m q) ts
+Completes k s stage.AfterGroup p ts q = NamesThen s p ts q
+Completes k s stage.OrderBy p ts q = (b : ℕ) → OrderThen s p (tok b (Word word.Order) ∷ ts) q
+Completes k s (stage.AfterKey i) p ts q = DirectionThen s i p ts q
+Completes k s stage.AfterDirection p ts q = KeysThen s p ts q
+Completes k s stage.Limit p ts q = (b : ℕ) → LimitThen p (tok b (Word word.Limit) ∷ ts) q
+Completes k s stage.AfterLimit p ts q = EndThen p ts q
+Completes k s stage.End p ts q = NoneThen p ts q

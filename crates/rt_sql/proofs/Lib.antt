@@ -5,6 +5,7 @@ pub mod Sound
 pub mod Forward
 pub mod Deeper
 pub mod Viable
+pub mod Deepest
 pub mod Grouped
 pub mod Rising
 pub mod Breaches

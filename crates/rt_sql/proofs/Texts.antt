@@ -1,6 +1,6 @@
 -- The answer to a text, in the words of the grammar.
 use Rattle.std.proofs.Common.{◌≡◌, ℕ, Bool, true, false, List, ◌∷◌, length, nat_le, Option, Some, None, Result, Ok, Err, IfOk, if◌then◌else◌, refl, ap, sym, ◌∙◌, subst, arith}
-use Rattle.std.proofs.lemmas.Bool.{leb-true, le-leb}
+use Rattle.std.proofs.lemmas.Bool.{leb-true, leb-false, le-leb}
 use Rattle.rt_schema.specs.declared.schema.Schema.{Schema}
 use Rattle.rt_model.specs.declared.query.Query.{Query}
 use Rattle.rt_sql.specs.Breaches.{IsBreach}
@@ -9,7 +9,7 @@ use Rattle.rt_sql.specs.Faults.{NestsDeeper}
 use Rattle.rt_sql.specs.Grammar.{IsQuery, query}
 use Rattle.rt_sql.specs.Kinds.{is_typed_query}
 use Rattle.rt_sql.specs.Parsing.{is_table, query_with, checked, query_from, query_of}
-use Rattle.rt_sql.specs.Queries.{IsOfTable, IsTextOf, IsMisspelt, by_grammar, by_rule, IsReadAs, IfMisspelt, IsLimited}
+use Rattle.rt_sql.specs.Queries.{IsOfTable, IsTextOf, IsMisspelt, by_grammar, by_rule, IsReadAs, IfMisspelt, IsLimited, PassesLimit, by_length, by_depth, by_number, IfLimited}
 use Rattle.rt_sql.specs.Rules.{breach}
 use Rattle.rt_sql.specs.Run.{Answers, nothing, run}
 use Rattle.rt_sql.specs.Tokens.{tokens_of}
@@ -24,6 +24,7 @@ use Rattle.rt_sql.proofs.Rising.{text_rises, query_rises}
 use Rattle.rt_sql.proofs.Sound.{sound}
 use Rattle.rt_sql.proofs.Forward.{complete}
 use Rattle.rt_sql.proofs.Viable.{first_fault, refused_deep}
+use Rattle.rt_sql.proofs.Deepest.{deep_nests}
 
 if_ok : {A : Type 0} (b : Bool) (x : Result A SqlRefused) (e : SqlRefused) (q : A) → (if b then x else Err e) ≡ Ok q → (b ≡ true) × (x ≡ Ok q)
 if_ok true x e q h = (refl, h)
@@ -150,3 +151,35 @@ limited (Err WrongType) e = cc
 -- a text that nests too deep is refused for it
 pub answered_deep : (s : Schema) (t x : List ℕ) (r : Result Query SqlRefused) → Answers (query_of s t x) r → NestsDeeper s (tokens_of x) → IsLimited r
 answered_deep s t x r e nests = limited r (subst (λ wanted. Answers wanted r) (deep_of s t x nests) e)
+
+if_limit : {A : Type 0} (b : Bool) (x : Result A SqlRefused) (e : SqlRefused) → (e ≡ Limit → ⊥) → (if b then x else Err e) ≡ Err Limit → x ≡ Err Limit
+if_limit true x e never h = h
+if_limit false x e never h = let same : e ≡ Limit = cc in absurd (never same)
+
+else_limit : {A : Type 0} (b : Bool) (q : A) → (if b then Ok q else Err Limit) ≡ Err Limit → b ≡ false
+else_limit true q h = cc
+else_limit false q h = refl
+
+checked_limit : (s : Schema) (t : List ℕ) (ts : List Token) (b : Option ℕ) (p : Parts) → checked s t ts b p ≡ Err Limit → are_within Other ts ≡ false
+checked_limit s t ts (Some byte) p e = cc
+checked_limit s t ts None p e =
+    let a = if_limit (is_table p.table t) _ NoTable (λ h. cc) e in
+    let b = if_limit (are_known s Other ts) _ NoColumn (λ h. cc) a in
+    let c = if_limit (is_typed_query s p) _ WrongType (λ h. cc) b in
+    else_limit (are_within Other ts) (query_with p) c
+
+from_limit : (s : Schema) (t x : List ℕ) (r : Result Parts SqlRefused) → r ≡ run s (length x) nothing (tokens_of x) → query_from s t (tokens_of x) r ≡ Err Limit → PassesLimit s x
+from_limit s t x (Ok p) is e = by_number p (sound s (length x) (tokens_of x) p (sym is)) (checked_limit s t (tokens_of x) (breach p) p e)
+from_limit s t x (Err refused) is e =
+    let same : refused ≡ Limit = cc in
+    by_depth (deep_nests s (length x) (tokens_of x) (sym is ∙ ap refused_parts same))
+
+limit_by : (s : Schema) (t x : List ℕ) (b : Bool) → nat_le (length x) 65536 ≡ b →
+    (if b then query_from s t (tokens_of x) (run s (length x) nothing (tokens_of x)) else Err Limit) ≡ Err Limit → PassesLimit s x
+limit_by s t x true is e = from_limit s t x (run s (length x) nothing (tokens_of x)) refl e
+limit_by s t x false is e = by_length (leb-false (length x) 65536 is)
+
+-- a text is refused as one that passes a limit for its length, its depth or a number
+pub answered_limit : (s : Schema) (t x : List ℕ) (r : Result Query SqlRefused) → Answers (query_of s t x) r → IfLimited s x r
+answered_limit s t x (Err Limit) e = limit_by s t x (nat_le (length x) 65536) refl (sym e)
+answered_limit s t x other e = tt

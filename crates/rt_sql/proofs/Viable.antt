@@ -99,7 +99,7 @@ call_finishes s z side (call.Open byte f) p = let f = argument_finishes s z side
 call_finishes s z side (call.Argument byte f) p = argument_finishes s z side byte f p
 call_finishes s z side (call.Close i) p = close_finishes s z side i p
 
-finishes : (s : Schema) (z : ℕ) (stage : Stage) (p : Parts) → Finish s z stage p
+pub finishes : (s : Schema) (z : ℕ) (stage : Stage) (p : Parts) → Finish s z stage p
 finishes s z stage.Select p = let f = wanted_finishes s z side.Select p in (word_token word.Select ∷ f.0, f.1, f.2)
 finishes s z (stage.Wanted side) p = wanted_finishes s z side p
 finishes s z (stage.Call side call) p = call_finishes s z side call p

@@ -16,6 +16,6 @@ ReadIsDerived = (schema : Schema) (size : ℕ) (tokens : List Token) (parts : Pa
 abbrev pub FaultsAreFirst : Type 0
 FaultsAreFirst = (schema : Schema) (size byte : ℕ) (tokens : List Token) → run schema size nothing tokens ≡ Err (Syntax byte) → IsFault schema size tokens byte
 
--- tokens that nest too deep before their first fault are refused for it
+-- tokens are refused for their depth exactly where they nest too deep before their first fault
 abbrev pub DeepIsRefused : Type 0
-DeepIsRefused = (schema : Schema) (size : ℕ) (tokens : List Token) → NestsDeeper schema tokens → run schema size nothing tokens ≡ Err Limit
+DeepIsRefused = (schema : Schema) (size : ℕ) (tokens : List Token) → NestsDeeper schema tokens ↔ (run schema size nothing tokens ≡ Err Limit)

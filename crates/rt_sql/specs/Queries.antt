@@ -1,10 +1,10 @@
 -- Which query a text is of, and where a text is of none.
-use Rattle.std.specs.Prelude.{◌≡◌, ℕ, ◌≤◌, true, List, length, Result, Ok, Err}
+use Rattle.std.specs.Prelude.{◌≡◌, ℕ, ◌<◌, ◌≤◌, true, false, List, length, Result, Ok, Err}
 use Rattle.rt_schema.specs.declared.schema.Schema.{Schema}
 use Rattle.rt_model.specs.declared.query.Query.{Query}
 use Rattle.rt_sql.specs.Breaches.{IsBreach, IsFirstBreach}
 use Rattle.rt_sql.specs.Checks.{are_known, are_within}
-use Rattle.rt_sql.specs.Faults.{IsFault}
+use Rattle.rt_sql.specs.Faults.{IsFault, NestsDeeper}
 use Rattle.rt_sql.specs.Grammar.{IsQuery}
 use Rattle.rt_sql.specs.Kinds.{is_typed_query}
 use Rattle.rt_sql.specs.Parsing.{is_table, query_with}
@@ -46,6 +46,16 @@ IsReadAs query (Err Limit) = ⊥
 abbrev pub IfMisspelt : Schema → List ℕ → Result Query SqlRefused → Type 0
 IfMisspelt schema text (Err (Syntax byte)) = IsMisspelt schema text byte
 IfMisspelt schema text other = Unit {0}
+
+-- the text is longer than 65,536 bytes, nests too deep, or is a query with a number that is too great
+pub data PassesLimit : Schema → List ℕ → Type 0 where
+  by_length : {schema : Schema} {text : List ℕ} → 65536 < length text → PassesLimit schema text
+  by_depth : {schema : Schema} {text : List ℕ} → NestsDeeper schema (tokens_of text) → PassesLimit schema text
+  by_number : {schema : Schema} {text : List ℕ} (parts : Parts) → IsQuery schema 64 (tokens_of text) parts → are_within Other (tokens_of text) ≡ false → PassesLimit schema text
+
+abbrev pub IfLimited : Schema → List ℕ → Result Query SqlRefused → Type 0
+IfLimited schema text (Err Limit) = PassesLimit schema text
+IfLimited schema text other = Unit {0}
 
 -- the answer is that a limit is passed, unless memory ran out
 abbrev pub IsLimited : Result Query SqlRefused → Type 0

@@ -11,8 +11,8 @@ pub fn faults_are_first()
     ensures { FaultsAreFirst }
 {}
 
-/// Tokens with which a query begins, but none that nests at most 64 deep, are refused for their depth,
-/// whatever follows them.
+/// Tokens are refused for their depth exactly where a query begins with the first of them, but none that
+/// nests at most 64 deep, whatever follows them.
 pub fn deep_is_refused()
     ensures { DeepIsRefused }
 {}

@@ -5,7 +5,7 @@ ghost use Rattle.rt_sql.specs.Run.{Answers};
 ghost use Rattle.rt_sql.specs.Parsing.{is_table, query_of};
 ghost use Rattle.rt_sql.specs.Faults.{NestsDeeper};
 ghost use Rattle.rt_sql.specs.Tokens.{tokens_of};
-ghost use Rattle.rt_sql.specs.Queries.{IsTextOf, IsReadAs, IfMisspelt, IsLimited};
+ghost use Rattle.rt_sql.specs.Queries.{IsTextOf, IsReadAs, IfMisspelt, IsLimited, IfLimited};
 
 use crate::SqlRefused;
 use crate::before::{are_known, are_within};
@@ -23,7 +23,7 @@ use std::alloc::{AllocError, Global};
 /// other name is a column's, and kinds and numbers fit. A text of more than 65,536 bytes, or one that
 /// nests deeper than 64 before its first fault, is refused as `Limit`; else of the refusals the first
 /// that applies is answered, by their order.
-#[tactic(auto, using(crate::proofs::Texts::answered_text, crate::proofs::Texts::text_answered, crate::proofs::Texts::answered_syntax, crate::proofs::Texts::answered_deep, crate::proofs::Fitting::answered_fits))]
+#[tactic(auto, using(crate::proofs::Texts::answered_text, crate::proofs::Texts::text_answered, crate::proofs::Texts::answered_syntax, crate::proofs::Texts::answered_deep, crate::proofs::Texts::answered_limit, crate::proofs::Fitting::answered_fits))]
 pub fn parse(alloc: Global, text: &str, schema: &Schema, table: &str) -> Result<Query, SqlRefused>
     requires { IsSchema schema.now }
     // Which refusal it is, and which query.
@@ -39,6 +39,8 @@ pub fn parse(alloc: Global, text: &str, schema: &Schema, table: &str) -> Result<
     ensures misspelt { IfMisspelt schema.now text.now result }
     // A text that nests too deep before its first fault passes a limit.
     ensures too_deep { NestsDeeper schema.now (tokens_of text.now) → IsLimited result }
+    // A text passes a limit only by its length, its depth or a number.
+    ensures limited { IfLimited schema.now text.now result }
 {
     read_text(alloc, text, schema, table)
 }
