@@ -1,0 +1,11 @@
+//! The upsert settings of a table, as Pinot writes them in the schema's JSON and the table's.
+#![tactic(auto)]
+
+mod object;
+mod upsert_config;
+mod upsert_reader;
+mod upsert_refused;
+
+pub use upsert_config::UpsertConfig;
+pub use upsert_reader::read_upsert;
+pub use upsert_refused::UpsertRefused;
