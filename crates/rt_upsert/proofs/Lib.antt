@@ -1,0 +1,11 @@
+pub mod Adding
+pub mod Answering
+pub mod Changing
+pub mod Counting
+pub mod Hiding
+pub mod Indexing
+pub mod Keys
+pub mod LatestRows
+pub mod Orders
+pub mod Ranging
+pub mod TakingOut
