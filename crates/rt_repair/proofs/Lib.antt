@@ -1,0 +1,16 @@
+pub mod Adding
+pub mod Beginning
+pub mod Converging
+pub mod Counting
+pub mod Failing
+pub mod Keeping
+pub mod LastSegment
+pub mod Lists
+pub mod MayRepair
+pub mod MayRetire
+pub mod Refusals
+pub mod RetireFailing
+pub mod RetireKeeping
+pub mod RetireRunningOut
+pub mod RunningOut
+pub mod Telling

@@ -1,0 +1,50 @@
+-- Where memory runs out in a step of a retirement, nothing is written.
+use Rattle.std.proofs.Common.{◌≡◌, ℕ, inr, List, None, Result, Ok, Err}
+use Rattle.rt_base.specs.declared.numbers.Sequence.{Sequence}
+use Rattle.rt_model.specs.declared.node.Key.TheVariants as key
+use Rattle.rt_model.specs.declared.node.Listed.{Listed}
+use Rattle.rt_model.specs.declared.node.Seen.{Seen}
+use Rattle.rt_model.specs.Lawful.{Write}
+use Rattle.rt_store.specs.declared.refused.StoreRefused.{StoreRefused}
+use Rattle.rt_store.specs.declared.refused.StoreRefused.TheVariants.{NoNode, Exists, VersionChanged, Failed, Memory}
+use Rattle.rt_store.specs.Calls.{Reads, Lists, Writes, WritesVersion}
+use Rattle.rt_store.specs.Meaning.{Meaning}
+use Rattle.rt_repair.specs.RepairSteps.{RanOut}
+use Rattle.rt_repair.specs.Retirement.{Retirement}
+use Rattle.rt_repair.specs.RetireSteps.{after_list, after_read, removed, deleted}
+
+pub list_ran_out : (old new : Meaning) (r : Retirement) (answer : Result (List Listed) StoreRefused)
+    → Lists old new r.partition answer → after_list r answer ≡ None → RanOut old new
+list_ran_out old new r (Ok done) c e = absurd (cc)
+list_ran_out old new r (Err NoNode) c e = absurd (cc)
+list_ran_out old new r (Err (Exists found)) c e = absurd (cc)
+list_ran_out old new r (Err (VersionChanged expected found)) c e = absurd (cc)
+list_ran_out old new r (Err Failed) c e = absurd (cc)
+list_ran_out old new r (Err Memory) c e = inr (c.base, c.sees, c.goes)
+
+pub read_ran_out : (old new : Meaning) (r : Retirement) (answer : Result Seen StoreRefused)
+    → Reads old new key.Ideal answer → after_read r answer ≡ None → RanOut old new
+read_ran_out old new r (Ok done) c e = absurd (cc)
+read_ran_out old new r (Err NoNode) c e = absurd (cc)
+read_ran_out old new r (Err (Exists found)) c e = absurd (cc)
+read_ran_out old new r (Err (VersionChanged expected found)) c e = absurd (cc)
+read_ran_out old new r (Err Failed) c e = absurd (cc)
+read_ran_out old new r (Err Memory) c e = inr (c.base, c.sees, c.goes)
+
+pub remove_ran_out : (old new : Meaning) (call : Write) (s : Sequence) (answer : Result ℕ StoreRefused)
+    → WritesVersion old new call answer → removed s answer ≡ None → RanOut old new
+remove_ran_out old new call s (Ok done) c e = absurd (cc)
+remove_ran_out old new call s (Err NoNode) c e = absurd (cc)
+remove_ran_out old new call s (Err (Exists found)) c e = absurd (cc)
+remove_ran_out old new call s (Err (VersionChanged expected found)) c e = absurd (cc)
+remove_ran_out old new call s (Err Failed) c e = absurd (cc)
+remove_ran_out old new call s (Err Memory) c e = inr (c.base, c.sees, c.goes)
+
+pub delete_ran_out : (old new : Meaning) (call : Write) (s : Sequence) (answer : Result (Unit {0}) StoreRefused)
+    → Writes old new call answer → deleted s answer ≡ None → RanOut old new
+delete_ran_out old new call s (Ok done) c e = absurd (cc)
+delete_ran_out old new call s (Err NoNode) c e = absurd (cc)
+delete_ran_out old new call s (Err (Exists found)) c e = absurd (cc)
+delete_ran_out old new call s (Err (VersionChanged expected found)) c e = absurd (cc)
+delete_ran_out old new call s (Err Failed) c e = absurd (cc)
+delete_ran_out old new call s (Err Memory) c e = inr (c.base, c.sees, c.goes)
