@@ -34,13 +34,22 @@ last_in : (xs : List Listed) → 0 < length xs → (l : Listed) × (last_listed 
 last_in [] some = absurd (omega arith)
 last_in (x ∷ xs) some = last_of_some x xs
 
-pub last_segment : (s : Starting) (h : List Seen) (p : Partition) → IsLawfulHistory s h → p.0 < s.partitions → (l : Listed) × IsLast h p l
-last_segment s h p lawful within =
+pub last_listed_has :
+    (s : Starting) (h : List Seen) (p : Partition) → IsLawfulHistory s h → p.0 < s.partitions
+    → (l : Listed) × (last_listed (metadata_of h p) ≡ Some l) × Has (metadata_of h p) l
+last_listed_has s h p lawful within =
     let run = (has_listings s h lawful p within).run in
     let chain = (has_chains s h lawful p within).some in
     let counted : length (metadata_of h p) ≡ sequences_of h p - deletions_of h p =
-    sym (length-map (metadata_of h p) (λ (l : Listed). l.sequence.0)) ∙ ap length run ∙ length-range_with_len (deletions_of h p) (sequences_of h p - deletions_of h p) in
-    let l = last_in (metadata_of h p) (omega (arith, counted, chain)) in
+    sym (length-map (metadata_of h p) (λ (l : Listed). l.sequence.0))
+    ∙ ap length run
+    ∙ length-range_with_len (deletions_of h p) (sequences_of h p - deletions_of h p) in
+    last_in (metadata_of h p) (omega (arith, counted, chain))
+
+pub last_segment :
+    (s : Starting) (h : List Seen) (p : Partition) → IsLawfulHistory s h → p.0 < s.partitions → (l : Listed) × IsLast h p l
+last_segment s h p lawful within =
+    let l = last_listed_has s h p lawful within in
     (l.0, record { last = l.1; has = listed_has h p l.0 l.2 })
 
 is_done_status : (status : Status) → is_done status ≡ true → IsDoneStatus status

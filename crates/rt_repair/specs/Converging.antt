@@ -2,13 +2,16 @@
 use Rattle.std.specs.Prelude.{◌≡◌, ℕ, zero, suc, ◌+◌, ◌<◌, ◌≤◌, ◌⊎◌, true, false, List, [], ◌∷◌, ◌++◌, length, Some}
 use Rattle.rt_base.specs.declared.numbers.Moment.{Moment}
 use Rattle.rt_base.specs.declared.numbers.Offset.{Offset}
+use Rattle.rt_base.specs.declared.numbers.Partition.{Partition}
 use Rattle.rt_base.specs.declared.numbers.Sequence.{Sequence}
 use Rattle.rt_model.specs.declared.decision.Decision.{Decision}
 use Rattle.rt_model.specs.declared.decision.Decision.TheVariants.{Nothing, Create, AddToIdeal, Abandon}
 use Rattle.rt_model.specs.declared.ideal_state.IdealEntry.{IdealEntry}
 use Rattle.rt_model.specs.declared.node.Listed.{Listed}
+use Rattle.rt_model.specs.declared.node.Seen.{Seen}
+use Rattle.rt_model.specs.Entries.{entries_of}
 use Rattle.rt_model.specs.Ideal.{has_entry, goes_on}
-use Rattle.rt_model.specs.Metadata.{IsInProgress}
+use Rattle.rt_model.specs.Metadata.{metadata_of, IsInProgress}
 use Rattle.rt_model.specs.Moments.{later}
 use Rattle.rt_model.specs.Repair.{decide, last_listed, are_offline}
 use Rattle.rt_meta.specs.Lives.{first_of, abandoned_of}
@@ -75,3 +78,7 @@ pub record CanSettle (r : Repairing) (x : Standing) (l : Listed) : Type 0 where
   pub stands :
       (has_entry x.entries r.partition l.sequence ≡ true)
       ⊎ (IsInProgress l.seen.meta.status × (goes_on x.entries r.partition l.sequence.0 ≡ true))
+
+-- what a history has of a partition
+abbrev pub standing_of : List Seen → Partition → Standing
+standing_of h p = record { nodes = metadata_of h p; entries = entries_of h }

@@ -2,10 +2,11 @@ pub mod Converging
 pub mod Decided
 pub mod IsRepair
 pub mod IsRetire
+pub mod Lasting
 pub mod ReadNode
-pub mod Repairing
 pub mod RepairSteps
+pub mod Repairing
+pub mod RetireSteps
 pub mod Retired
 pub mod Retirement
-pub mod RetireSteps
 pub mod Told

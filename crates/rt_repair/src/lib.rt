@@ -5,6 +5,7 @@
 #![tactic(auto)]
 
 mod decided;
+mod lasting;
 mod laws;
 mod read_node;
 mod repair;
@@ -14,6 +15,10 @@ mod retirement;
 mod retiring;
 
 pub use decided::decide;
+pub use lasting::{
+    a_repair_keeps_the_past_right, a_retirement_keeps_the_past_right, every_partition_can_settle,
+    what_begins_lasts, what_is_remembered_lasts, what_lasts_is_ready,
+};
 pub use laws::{
     a_repair_sets_what_changes, a_told_repair_is_exact, a_told_retirement_is_exact,
     repairs_converge, what_begins_is_ready, what_is_kept_decides_as_the_list,
