@@ -1,0 +1,11 @@
+pub mod Answered
+pub mod Causes
+pub mod Gaining
+pub mod Lasting
+pub mod Merging
+pub mod Noting
+pub mod Plans
+pub mod Replicas
+pub mod Right
+pub mod Rising
+pub mod Telling
