@@ -50,6 +50,7 @@ def make(folder, program, libraries, kit_libraries=(), modules=None):
         os.makedirs(os.path.dirname(path), exist_ok=True)
         with open(path, "w") as out:
             out.write(text)
+    shutil.copy(os.path.join(ROOT, "HANDLES"), folder)
     subprocess.run(["git", "init", "-q"], cwd=folder, check=True)
     return home
 
@@ -76,10 +77,10 @@ def outputs(program, libraries, cases):
     return dict(zip(found[1::2], found[2::2]))
 
 
-def run(usage, program, libraries, kit_libraries=(), command="run"):
+def run(usage, program, libraries, kit_libraries=(), command="run", modules=None):
     """Ends with the status of `rt COMMAND` on such a program. A script that takes no words shows its usage where there are some."""
     if len(sys.argv) != 1:
         sys.exit(usage)
     with tempfile.TemporaryDirectory() as folder:
-        home = make(folder, program, libraries, kit_libraries)
+        home = make(folder, program, libraries, kit_libraries, modules)
         sys.exit(subprocess.run(["rt", command], cwd=home).returncode)

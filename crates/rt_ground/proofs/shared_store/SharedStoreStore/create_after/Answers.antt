@@ -1,0 +1,6 @@
+use Rattle.rt_model.specs.Lawful.{create_after}
+use Rattle.rt_ground.proofs.Shares.{write_shared}
+use Rattle.rt_ground.proofs.shared_store.SharedStoreStore.create_after.Goals as goal
+
+pub returns-clause-store : goal.returns-clause-store
+returns-clause-store g c = write_shared (λ w. tt) (create_after c.args.key c.args.node.now c.args.prior.now) g.J.Naming.starting _ _ _ _ _ _ c.self.view_is c.create_after.ensures.store
