@@ -1,0 +1,9 @@
+pub mod Rows
+pub mod Filling
+pub mod Fetched
+pub mod Turns
+pub mod Batches
+pub mod Keeps
+pub mod Places
+pub mod Holding
+pub mod Others

@@ -1,0 +1,6 @@
+pub mod Consumer
+pub mod Replies
+pub mod Batch
+pub mod Requests
+pub mod Held
+pub mod Serving

@@ -1,0 +1,64 @@
+ghost use Rattle.std.specs.Prelude.{◌≡◌, length, IfOk};
+ghost use Rattle.rt_segment.specs.Spelling.{file_of};
+
+use rt_lists::Bytes;
+use rt_segment::{Sealed, encode};
+use std::alloc::{AllocError, Global};
+use std::marker::Model;
+
+/// A sealed segment with the size of its file, in bytes.
+#[derive(Drop)]
+pub struct BuiltFile {
+    file: Sealed,
+    size: u64,
+}
+
+impl Model for BuiltFile {
+    ghost use Rattle.std.specs.Prelude.{◌≡◌, length};
+    ghost use Rattle.rt_segment.specs.Segment.{SealedSegment};
+    ghost use Rattle.rt_segment.specs.Spelling.{file_of};
+
+    ghost Value = { SealedSegment };
+
+    ghost view = { λ a. a.file };
+
+    ghost invariant = { λ a. a.size ≡ length (file_of a.file) };
+}
+
+impl BuiltFile {
+    /// Measures the file of a sealed segment. Fails only where memory is refused.
+    pub fn make(alloc: Global, file: Sealed) -> Result<BuiltFile, AllocError>
+        ensures { IfOk result (λ built. built ≡ file) }
+    {
+        let size = encode(alloc, &file)?.len() as u64;
+        Ok(BuiltFile { file, size })
+    }
+
+    /// The number of bytes of the file.
+    pub fn size(&self) -> u64
+        ensures { result ≡ length (file_of self.now) }
+    {
+        self.size
+    }
+
+    /// The file's bytes. Fails only where memory is refused.
+    pub fn bytes(&self, alloc: Global) -> Result<Bytes, AllocError>
+        ensures { IfOk result (λ bytes. bytes ≡ file_of self.now) }
+    {
+        Ok(Bytes::of(encode(alloc, &self.file)?))
+    }
+
+    /// The sealed segment.
+    pub fn file(&self) -> &Sealed
+        ensures { result.now ≡ self.now }
+    {
+        &self.file
+    }
+
+    /// The sealed segment, given back.
+    pub fn into_file(self) -> Sealed
+        ensures { result ≡ self }
+    {
+        self.file
+    }
+}

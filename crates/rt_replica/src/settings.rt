@@ -1,0 +1,65 @@
+ghost use Rattle.std.specs.Prelude.{◌≡◌, IfOk};
+ghost use Rattle.rt_replica.specs.Consumer.{settings_of};
+
+use rt_lists::{Copied, Items, Text};
+use rt_model::Setup;
+use rt_schema::{Column, Schema};
+use std::alloc::{AllocError, Global};
+
+/// What a replica needs of its cluster's setup.
+#[derive(Drop, PartialEq, Eq)]
+pub struct Settings {
+    pub schema: Schema,
+    /// The names of the indexed columns.
+    pub indexed: Items<Text>,
+    /// The row limit.
+    pub rows: u32,
+    /// The time limit, in milliseconds.
+    pub millis: u64,
+    /// The format of the file that it builds, 1 or 2.
+    pub format: u8,
+}
+
+impl Settings {
+    /// Those of a setup.
+    pub fn of(alloc: Global, setup: &Setup) -> Result<Settings, AllocError>
+        ensures { IfOk result (λ settings. settings ≡ settings_of setup.now) }
+    {
+        Ok(Settings {
+            schema: copy_schema(alloc, &setup.schema)?,
+            indexed: setup.table.indexed.copied(alloc)?,
+            rows: setup.table.rows,
+            millis: setup.table.millis,
+            format: setup.format,
+        })
+    }
+}
+
+fn copy_schema(alloc: Global, schema: &Schema) -> Result<Schema, AllocError>
+    ensures { IfOk result (λ copy. copy ≡ schema.now) }
+{
+    Ok(Schema {
+        name: schema.name.copy(alloc)?,
+        columns: copy_columns(alloc, schema.columns.as_slice())?,
+    })
+}
+
+fn copy_columns(alloc: Global, columns: &[Column]) -> Result<Items<Column>, AllocError>
+    ensures { IfOk result (λ copies. copies ≡ columns.now) }
+{
+    let mut copies = Items::new(alloc);
+    for column in columns {
+        copies.push(copy_column(alloc, column)?)?;
+    }
+    Ok(copies)
+}
+
+fn copy_column(alloc: Global, column: &Column) -> Result<Column, AllocError>
+    ensures { IfOk result (λ copy. copy ≡ column.now) }
+{
+    Ok(Column {
+        name: column.name.copy(alloc)?,
+        kind: column.kind,
+        role: column.role,
+    })
+}
