@@ -1,0 +1,18 @@
+//! The calls of the cluster's parts: the completion machine, the ideal state, metadata, placement and the store.
+#![tactic(auto)]
+
+mod cluster_words;
+mod creations;
+mod ideals;
+mod machines;
+mod metas;
+mod reactions;
+mod setups;
+mod store_words;
+mod stores;
+
+pub use ideals::{ideal, mode};
+pub use machines::machine;
+pub use metas::{meta, replica, replicas};
+pub use setups::TableTexts;
+pub use stores::store;

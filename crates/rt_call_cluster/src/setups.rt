@@ -1,0 +1,105 @@
+ghost use Rattle.std.specs.Prelude.{◌≤◌, IsTrue};
+ghost use Rattle.rt_model.specs.Setup.{IsSetup};
+ghost use Rattle.rt_schema.specs.Schema.{IsSchema};
+ghost use Rattle.rt_schema.specs.TableText.{IsTable};
+
+use rt_base::Moment;
+use rt_base::limits::{
+    LAST_MOMENT, MOST_CONTROLLERS, MOST_PARTITIONS, MOST_REPLICATION, MOST_SERVERS,
+};
+use rt_call_words::{Stop, Words};
+use rt_model::Setup;
+use rt_schema::{Schema, Table, read_schema, read_table};
+use std::alloc::Global;
+
+/// The texts of a schema and of a table's settings.
+#[derive(Clone, Copy)]
+pub struct TableTexts<'a> {
+    pub schema: &'a str,
+    pub table: &'a str,
+}
+
+/// A table over its schema.
+#[derive(Drop)]
+pub(crate) struct KnownTable {
+    pub(crate) schema: Schema,
+    pub(crate) table: Table,
+    ghost schema_read: { IsSchema schema },
+    ghost table_read: { IsTable schema table },
+}
+
+/// A cluster within the limits.
+#[derive(Drop)]
+pub(crate) struct KnownSetup {
+    pub(crate) setup: Setup,
+    ghost within: { IsSetup setup },
+}
+
+impl KnownTable {
+    /// The table of these texts.
+    pub(crate) fn read(alloc: Global, texts: TableTexts) -> Result<KnownTable, Stop> {
+        let Ok(schema) = read_schema(alloc, texts.schema) else {
+            return Err(Stop::Refused);
+        };
+        match read_table(alloc, texts.table, &schema) {
+            Ok(table) => Ok(KnownTable { schema, table }),
+            Err(_) => Err(Stop::Refused),
+        }
+    }
+}
+
+/// The numbers of a cluster.
+#[derive(Clone, Copy)]
+pub(crate) struct Numbers {
+    servers: u32,
+    controllers: u32,
+    partitions: u32,
+    start: u64,
+}
+
+impl Numbers {
+    /// `SERVERS CONTROLLERS PARTITIONS START`
+    pub(crate) fn read(words: &mut Words) -> Result<Numbers, Stop> {
+        let numbers = Numbers {
+            servers: words.count(),
+            controllers: words.count(),
+            partitions: words.count(),
+            start: words.number(),
+        };
+        words.ended()?;
+        Ok(numbers)
+    }
+
+    /// A cluster of a table.
+    pub(crate) fn setup(self, known: KnownTable) -> Result<KnownSetup, Stop> {
+        let replication = known.table.replication;
+        if !self.are_within() || replication > MOST_REPLICATION || replication > self.servers {
+            return Err(Stop::Refused);
+        }
+        let setup = Setup {
+            schema: known.schema,
+            table: known.table,
+            servers: self.servers,
+            controllers: self.controllers,
+            partitions: self.partitions,
+            start: Moment(self.start),
+            grace: 0,
+            retention: None,
+            format: 2,
+        };
+        Ok(KnownSetup { setup })
+    }
+
+    fn are_within(self) -> bool
+        ensures servers { IsTrue result → (1 ≤ self.servers) × (self.servers ≤ MOST_SERVERS) }
+        ensures controllers { IsTrue result → (1 ≤ self.controllers) × (self.controllers ≤ MOST_CONTROLLERS) }
+        ensures partitions { IsTrue result → (1 ≤ self.partitions) × (self.partitions ≤ MOST_PARTITIONS) }
+        ensures start { IsTrue result → self.start ≤ LAST_MOMENT }
+    {
+        let some = self.servers >= 1 && self.controllers >= 1 && self.partitions >= 1;
+        some && self.servers <= MOST_SERVERS
+            && self.controllers <= MOST_CONTROLLERS
+            && self.partitions <= MOST_PARTITIONS
+            && self.start <= LAST_MOMENT
+    }
+}

@@ -1,0 +1,91 @@
+use crate::schemas::schema;
+use crate::tables::Tables;
+use crate::trees::write_query;
+use rt_call_words::{Answer, Stop, Words};
+use rt_sql::{SqlRefused, parse};
+use std::alloc::Global;
+
+/// `sql TEXT`: reads a query over the schema and the table, which later lines use. A text that begins with a brace is a
+/// schema.
+pub fn sql(
+    alloc: Global,
+    tables: &mut Tables,
+    words: &mut Words,
+    answer: &mut Answer,
+) -> Result<(), Stop> {
+    if words.begins_with('{') {
+        return schema(alloc, tables, words, answer);
+    }
+    let bytes = words.bytes(alloc);
+    words.ended()?;
+    match str::from_utf8(bytes.as_slice()) {
+        Ok(text) => take_query(alloc, tables, text, answer),
+        Err(_) => Err(Stop::Refused),
+    }
+}
+
+/// `query TEXT`: the same, for a text that stands as it is.
+pub fn query(
+    alloc: Global,
+    tables: &mut Tables,
+    words: &mut Words,
+    answer: &mut Answer,
+) -> Result<(), Stop> {
+    let text = words.rest();
+    words.ended()?;
+    take_query(alloc, tables, text, answer)
+}
+
+fn take_query(
+    alloc: Global,
+    tables: &mut Tables,
+    text: &str,
+    answer: &mut Answer,
+) -> Result<(), Stop> {
+    match parse(alloc, text, &tables.schema()?.schema, tables.table()) {
+        Ok(_query) => {
+            answer.add("ok");
+            answer.written()?;
+            tables.query = String::from_str(alloc, text)?;
+            tables.groups = None;
+            Ok(())
+        }
+        Err(refused) => refuse(refused, answer),
+    }
+}
+
+/// `tree TEXT`: the parts of a query.
+pub fn tree(
+    alloc: Global,
+    tables: &Tables,
+    words: &mut Words,
+    answer: &mut Answer,
+) -> Result<(), Stop> {
+    let bytes = words.message(alloc);
+    words.ended()?;
+    let Ok(text) = str::from_utf8(bytes.as_slice()) else {
+        return Err(Stop::Refused);
+    };
+    match parse(alloc, text, &tables.schema()?.schema, tables.table()) {
+        Ok(query) => {
+            write_query(alloc, &query, answer);
+            Ok(())
+        }
+        Err(refused) => refuse(refused, answer),
+    }
+}
+
+fn refuse(refused: SqlRefused, answer: &mut Answer) -> Result<(), Stop> {
+    match refused {
+        SqlRefused::Syntax { byte } => {
+            answer.add("syntax ");
+            answer.number(byte);
+        }
+        SqlRefused::NoTable => answer.add("2"),
+        SqlRefused::NoColumn => answer.add("3"),
+        SqlRefused::WrongType => answer.add("4"),
+        SqlRefused::Limit => answer.add("5"),
+        SqlRefused::Memory => return Err(Stop::Memory),
+    }
+    Ok(())
+}

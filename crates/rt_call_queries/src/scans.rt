@@ -1,0 +1,177 @@
+ghost use Rattle.std.specs.Prelude.{◌≡◌, true, IfOk};
+ghost use Rattle.rt_schema.specs.Schema.{IsSchema};
+ghost use Rattle.rt_model.specs.Checked.{IsQuery};
+ghost use Rattle.rt_segment.specs.Segment.{are_columns};
+
+use crate::consuming::Consuming;
+use crate::tables::Tables;
+use rt_agg::Groups;
+use rt_base::Offset;
+use rt_call_words::{Answer, Stop, Words};
+use rt_filter::passes;
+use rt_lines::answer_text;
+use rt_lists::Items;
+use rt_model::Query;
+use rt_mutable::MutableSegment;
+use rt_scan::{scan_as, scan_below};
+use rt_schema::{Row, Schema};
+use rt_segment::Sealed;
+use rt_sql::{SqlRefused, parse};
+use std::alloc::Global;
+
+/// `scan WAY`: the result rows of the last query, which later lines merge.
+pub fn scan(
+    alloc: Global,
+    tables: &mut Tables,
+    words: &mut Words,
+    answer: &mut Answer,
+) -> Result<(), Stop> {
+    let groups = scan_by(alloc, tables, words)?;
+    write_groups(alloc, &groups, answer)?;
+    answer.written()?;
+    tables.groups = Some(groups);
+    Ok(())
+}
+
+/// `merge WAY`: the result rows of what was scanned since the query, and of this.
+pub fn merge(
+    alloc: Global,
+    tables: &mut Tables,
+    words: &mut Words,
+    answer: &mut Answer,
+) -> Result<(), Stop> {
+    let groups = scan_by(alloc, tables, words)?;
+    match &mut tables.groups {
+        Some(merged) => {
+            merged.merge(alloc, &groups)?;
+            write_groups(alloc, merged, answer)
+        }
+        None => Err(Stop::Refused),
+    }
+}
+
+// `file`, `as`, `below X` or `rows`
+fn scan_by(alloc: Global, tables: &Tables, words: &mut Words) -> Result<Groups, Stop> {
+    let way = words.word();
+    if way == "below" {
+        let offset = Offset(words.number());
+        words.ended()?;
+        return scan_rows(alloc, tables, offset);
+    }
+    words.ended()?;
+    match way {
+        "file" => scan_file(alloc, tables),
+        "as" => scan_filled(alloc, tables),
+        "rows" => filter_rows(alloc, tables),
+        _ => Err(Stop::BadLine),
+    }
+}
+
+// Adds the result rows, as JSON.
+fn write_groups(alloc: Global, groups: &Groups, answer: &mut Answer) -> Result<(), Stop> {
+    let found = rt_model::Answer {
+        ranges: Items::new(alloc),
+        missing: Items::new(alloc),
+        rows: groups.finish(alloc)?,
+    };
+    let text = answer_text(alloc, &found)?;
+    let rows = text.strip_prefix("{\"ranges\":[],\"missing\":[],\"rows\":");
+    answer.add(rows.unwrap_or("").strip_suffix('}').unwrap_or(""));
+    Ok(())
+}
+
+// The last query, over a schema.
+fn query_over(alloc: Global, tables: &Tables, schema: &Schema) -> Result<Query, Stop>
+    requires { IsSchema schema.now }
+    ensures { IfOk result (IsQuery schema.now) }
+{
+    match parse(alloc, tables.query.as_str(), schema, tables.table()) {
+        Ok(query) => Ok(query),
+        Err(SqlRefused::Memory) => Err(Stop::Memory),
+        Err(_) => Err(Stop::Refused),
+    }
+}
+
+fn scan_file(alloc: Global, tables: &Tables) -> Result<Groups, Stop> {
+    let known = tables.schema()?;
+    let query = query_over(alloc, tables, &known.schema)?;
+    let sealed = tables.sealed()?;
+    if !sealed.fits(&known.schema) {
+        return Err(Stop::Refused);
+    }
+    scan_fitting(alloc, &query, &known.schema, sealed)
+}
+
+#[tactic(auto, using(crate::proofs::Fitting::fits_sealed))]
+fn scan_fitting(
+    alloc: Global,
+    query: &Query,
+    schema: &Schema,
+    sealed: &Sealed,
+) -> Result<Groups, Stop>
+    requires query { IsQuery schema.now query.now }
+    requires columns { are_columns sealed.now.columns schema.now.columns ≡ true }
+{
+    Ok(rt_scan::scan(alloc, query, sealed)?)
+}
+
+fn scan_filled(alloc: Global, tables: &Tables) -> Result<Groups, Stop> {
+    let known = tables.schema()?;
+    let query = query_over(alloc, tables, &known.schema)?;
+    Ok(scan_as(alloc, &query, &known.schema, tables.sealed()?)?)
+}
+
+fn scan_rows(alloc: Global, tables: &Tables, offset: Offset) -> Result<Groups, Stop> {
+    let consuming = tables.consuming()?;
+    let query = query_over(alloc, tables, &consuming.schema)?;
+    scan_consuming(alloc, &query, consuming, offset)
+}
+
+#[tactic(auto, using(crate::proofs::Fitting::fits_consuming))]
+fn scan_consuming(
+    alloc: Global,
+    query: &Query,
+    consuming: &Consuming,
+    offset: Offset,
+) -> Result<Groups, Stop>
+    requires { IsQuery consuming.now.schema query.now }
+{
+    Ok(scan_below(alloc, query, &consuming.segment, offset)?)
+}
+
+fn filter_rows(alloc: Global, tables: &Tables) -> Result<Groups, Stop> {
+    let consuming = tables.consuming()?;
+    let query = query_over(alloc, tables, &consuming.schema)?;
+    add_rows(alloc, &consuming.segment, &query)
+}
+
+// Row by row.
+fn add_rows(alloc: Global, segment: &MutableSegment, query: &Query) -> Result<Groups, Stop> {
+    let mut groups = Groups::make(alloc, query)?;
+    for number in 0..segment.len() {
+        let row = segment.row(alloc, number)?;
+        add_row(alloc, &row, query, &mut groups)?;
+    }
+    Ok(groups)
+}
+
+fn add_row(alloc: Global, row: &Row, query: &Query, groups: &mut Groups) -> Result<(), Stop> {
+    if passes(&query.filter, row) {
+        groups.add_row(alloc, row)?;
+    }
+    Ok(())
+}
+
+/// `skips`: whether the query can be answered without the sealed segment.
+pub fn skips(
+    alloc: Global,
+    tables: &Tables,
+    words: &mut Words,
+    answer: &mut Answer,
+) -> Result<(), Stop> {
+    words.ended()?;
+    let known = tables.schema()?;
+    let query = query_over(alloc, tables, &known.schema)?;
+    answer.truth(rt_scan::skips(&query, tables.sealed()?));
+    Ok(())
+}

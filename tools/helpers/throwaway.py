@@ -1,0 +1,57 @@
+"""Programs over the crates of this repository, made in a temporary folder and gone after their run."""
+import os
+import re
+import shutil
+import subprocess
+import sys
+import tempfile
+
+ROOT = os.path.dirname(os.path.dirname(os.path.dirname(os.path.abspath(__file__))))
+
+
+def make(folder, program, libraries, kit_libraries=(), modules=None):
+    """A repository with the program `throwaway` and the crates below it; answers the program's folder.
+
+    `libraries` are crates of this repository, lowest first, with all that they stand on; `modules` are the program's
+    other files, by their paths in its folder.
+    """
+    home = os.path.join(folder, "crates", "throwaway")
+    for name in libraries:
+        shutil.copytree(os.path.join(ROOT, "crates", name), os.path.join(folder, "crates", name),
+                        ignore=shutil.ignore_patterns("out"))
+    with open(os.path.join(ROOT, "crates.txt")) as listed:
+        lines = [line for line in listed if line.split(":")[0].strip() in libraries]
+    with open(os.path.join(folder, "crates.txt"), "w") as out:
+        out.writelines(lines)
+        out.write("throwaway: " + " ".join([*libraries, *kit_libraries]) + "\n")
+    for name, text in {"src/main.rt": program, **(modules or {})}.items():
+        path = os.path.join(home, name)
+        os.makedirs(os.path.dirname(path), exist_ok=True)
+        with open(path, "w") as out:
+            out.write(text)
+    shutil.copy(os.path.join(ROOT, "HANDLES"), folder)
+    subprocess.run(["git", "init", "-q"], cwd=folder, check=True)
+    return home
+
+
+def outputs(program, libraries, cases):
+    """What such a program writes in each case, with no proof. Cases are the lines of its input, by names in digits."""
+    with tempfile.TemporaryDirectory() as folder:
+        home = make(folder, program, libraries)
+        inputs = os.path.join(folder, "cases")
+        os.makedirs(inputs)
+        for name, lines in cases.items():
+            with open(os.path.join(inputs, name), "w", encoding="utf-8") as out:
+                out.write("\n".join(lines) + "\n")
+        run = subprocess.run(["rt", "try", "--steps", "1", "--cases", inputs], cwd=home, stdout=subprocess.PIPE)
+    found = re.split(r"^== (\d+)\n", run.stdout.decode("utf-8"), flags=re.MULTILINE)
+    return dict(zip(found[1::2], found[2::2]))
+
+
+def run(usage, program, libraries, kit_libraries=(), command="run", modules=None):
+    """Ends with the status of `rt COMMAND` on such a program. A script that takes no words shows its usage where there are some."""
+    if len(sys.argv) != 1:
+        sys.exit(usage)
+    with tempfile.TemporaryDirectory() as folder:
+        home = make(folder, program, libraries, kit_libraries, modules)
+        sys.exit(subprocess.run(["rt", command], cwd=home).returncode)
