@@ -1,0 +1,9 @@
+pub mod Ends
+pub mod Fewest
+pub mod Grouping
+pub mod Least
+pub mod Lines
+pub mod Orders
+pub mod Placing
+pub mod Plans
+pub mod Stages

@@ -1,0 +1,6 @@
+pub mod Plan
+pub mod Planned
+pub mod Refused
+pub mod Runs
+pub mod Segments
+pub mod Target
