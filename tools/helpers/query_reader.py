@@ -253,7 +253,7 @@ class Printer:
 
     def literal(self, literal):
         if isinstance(literal, bytes):
-            return " text " + literal.hex()
+            return " text " + (literal.hex() or "-")
         return " " + str(literal).lower()
 
     def predicate(self, predicate):
