@@ -9,7 +9,7 @@ use Rattle.rt_rebalance.specs.Segments.{Segment, has_instance, kept_in, IsBelow,
 use Rattle.rt_rebalance.proofs.Lines.{one_if, by_line, leaves_in, comes_in, step_gone}
 
 -- those of a segment that a test takes
-abbrev count : (IdealEntry → Bool) → Segment → ℕ
+abbrev pub count : (IdealEntry → Bool) → Segment → ℕ
 count test [] = 0
 count test (e ∷ es) = one_if (test e) + count test es
 
@@ -43,13 +43,13 @@ none_below e (f ∷ fs) h =
 -- ---- of two segments, those of the first that the second has too are no more than those of the second
 
 module _ (test : ℕ → Bool) where
-  abbrev shared : Segment → Segment → ℕ
+  abbrev pub shared : Segment → Segment → ℕ
   shared old new = count (λ e. has_instance new e.instance && test e.instance.0) old
 
-  abbrev passing : Segment → ℕ
+  abbrev pub passing : Segment → ℕ
   passing new = count (λ e. test e.instance.0) new
 
-  shared_most : (old new : Segment) → AreAscending old → AreAscending new → shared old new ≤ passing new
+  pub shared_most : (old new : Segment) → AreAscending old → AreAscending new → shared old new ≤ passing new
   shared_most [] new h k = omega arith
   shared_most (e ∷ es) [] h k = none_at (e ∷ es)
     where
@@ -85,7 +85,7 @@ module _ (test : ℕ → Bool) where
 abbrev pub due : Segment → Segment → ℕ
 due goal stage = count (λ e. not (has_instance goal e.instance)) stage
 
-kept_counted : (new old : Segment) → length (kept_in old new) ≡ count (λ e. has_instance new e.instance) old
+pub kept_counted : (new old : Segment) → length (kept_in old new) ≡ count (λ e. has_instance new e.instance) old
 kept_counted new [] = refl
 kept_counted new (e ∷ es) = by (has_instance new e.instance) (kept_counted new es)
   where
@@ -131,7 +131,7 @@ has_more f goal (e ∷ es) h = (either (f.instance.0 == e.instance.0) (has_insta
     either true b is = refl
     either false b is = is
 
-has_all : (es : Segment) → AllByRecursion (λ (e : IdealEntry). has_instance es e.instance ≡ true) es
+pub has_all : (es : Segment) → AllByRecursion (λ (e : IdealEntry). has_instance es e.instance ≡ true) es
 has_all [] = tt
 has_all (e ∷ es) = (ap (λ b. b || has_instance es e.instance) (eq-eqb e.instance.0 e.instance.0 refl), has_more e es es (has_all es))
 

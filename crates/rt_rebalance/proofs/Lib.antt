@@ -6,4 +6,5 @@ pub mod Lines
 pub mod Orders
 pub mod Placing
 pub mod Plans
+pub mod Rehearsals
 pub mod Stages

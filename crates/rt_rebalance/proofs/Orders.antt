@@ -8,10 +8,10 @@ use Rattle.rt_model.specs.Order.{IsBeforeAll, IsAscending}
 use Rattle.rt_rebalance.specs.Segments.{Segment, is_beside, with_front, segments_of, IsBelow, AreAscending}
 use Rattle.rt_rebalance.proofs.Grouping.{IsRun, AreParted, beside_numbers, segments_parted}
 
-abbrev AllIn : (IdealEntry → Type 0) → List Segment → Type 0
+abbrev pub AllIn : (IdealEntry → Type 0) → List Segment → Type 0
 AllIn P segments = AllByRecursion (AllByRecursion P) segments
 
-front_all : (P : IdealEntry → Type 0) (e : IdealEntry) (segments : List Segment) → P e → AllIn P segments → AllIn P (with_front e segments)
+pub front_all : (P : IdealEntry → Type 0) (e : IdealEntry) (segments : List Segment) → P e → AllIn P segments → AllIn P (with_front e segments)
 front_all P e [] p h = ((p, tt), tt)
 front_all P e ([] ∷ ss) p h = ((p, tt), h.1)
 front_all P e ((f ∷ fs) ∷ ss) p h = by (is_beside e f)
