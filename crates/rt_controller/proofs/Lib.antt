@@ -1,0 +1,17 @@
+pub mod Counting
+pub mod Ending
+pub mod FailsJobs
+pub mod FailsRequests
+pub mod Found
+pub mod Going
+pub mod Keeps
+pub mod KeepsJobs
+pub mod KeepsRequests
+pub mod Making
+pub mod MayStep
+pub mod Parts
+pub mod Reacting
+pub mod Refusals
+pub mod Replicas
+pub mod RunningOut
+pub mod Telling

@@ -1,0 +1,11 @@
+pub mod Assignment
+pub mod Calls
+pub mod Causes
+pub mod Changes
+pub mod Controller
+pub mod Found
+pub mod IsController
+pub mod Job
+pub mod Laws
+pub mod Steps
+pub mod Told

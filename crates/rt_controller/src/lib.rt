@@ -1,0 +1,29 @@
+//! The controller of a table: it answers the requests of replicas by the completion machines of their segments, and commits
+//! segments by jobs, one call of a store a step.
+//!
+//! A controller that doesn't believe that it leads answers nothing else. What it read it keeps: the store ties it to the
+//! present by the version at which each write is made.
+#![tactic(auto)]
+
+mod answers;
+mod assignment;
+mod changes;
+mod controller;
+mod found_versions;
+mod handled;
+mod job;
+mod job_steps;
+mod laws;
+mod nodes;
+mod segment_machine;
+mod starting;
+mod work;
+
+pub use assignment::Assignment;
+pub use controller::Controller;
+pub use found_versions::FoundVersions;
+pub use handled::{Handled, JobRefused};
+pub use job::{Job, JobStage, Stepped};
+pub use laws::{a_job_replies_by_its_first_failure, jobs_end, told_calls_are_exact};
+pub use segment_machine::SegmentMachine;
+pub use work::Work;
