@@ -7,3 +7,8 @@ pub mod Keeps
 pub mod Places
 pub mod Holding
 pub mod Others
+pub mod Lasts
+pub mod Begins
+pub mod Answered
+pub mod Asking
+pub mod KeepsLasting

@@ -4,3 +4,4 @@ pub mod Batch
 pub mod Requests
 pub mod Held
 pub mod Serving
+pub mod Lasting

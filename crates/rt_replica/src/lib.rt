@@ -5,6 +5,7 @@
 mod built_file;
 mod consumer;
 mod consuming;
+mod lasting;
 mod laws;
 mod phase;
 mod refused;
@@ -19,6 +20,9 @@ mod waited;
 
 pub use built_file::BuiltFile;
 pub use consumer::Consumer;
+pub use lasting::{
+    a_replica_asks_what_is_right, each_step_keeps_what_lasts, what_lasts_stays_true,
+};
 pub use laws::{
     a_told_log_has_one_outcome, an_answer_to_another_number_changes_nothing,
     what_is_held_stays_held,
