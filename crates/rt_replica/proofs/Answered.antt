@@ -1,12 +1,12 @@
 -- What lasts of a replica is kept by an answer.
-use Rattle.std.proofs.Common.{◌≡◌, ◌≤◌, ◌<◌, ◌==◌, ℕ, Bool, true, false, cond, nat_lt, List, length, Option, Some, None, refl, sym, ap, subst, ◌∙◌, arith}
+use Rattle.std.proofs.Common.{◌≡◌, ◌<◌, ◌==◌, ℕ, Bool, true, false, cond, nat_lt, Option, Some, None, refl, sym, ap, subst, ◌∙◌}
 use Rattle.rt_base.specs.declared.numbers.Instance.{Instance}
 use Rattle.rt_base.specs.declared.numbers.Offset.{Offset}
 use Rattle.rt_base.specs.declared.numbers.Partition.{Partition}
 use Rattle.rt_base.specs.declared.numbers.Sequence.{Sequence}
 use Rattle.rt_mutable.specs.Consuming.{Consuming}
 use Rattle.rt_segment.specs.Segment.{SealedSegment}
-use Rattle.rt_model.specs.Messages.{same_number, asked_of}
+use Rattle.rt_model.specs.Messages.{same_number}
 use Rattle.rt_model.specs.declared.asked.Asked.{Asked}
 use Rattle.rt_model.proofs.Messages.{same_number_true}
 use Rattle.rt_model.specs.declared.node.Seen.{Seen}
@@ -15,22 +15,17 @@ use Rattle.rt_model.specs.declared.reply.ReplyStatus.{ReplyStatus}
 use Rattle.rt_model.specs.declared.reply.ReplyStatus.TheVariants.{Hold, CatchUp, Keep, Discard, Commit, NotLeader, CommitContinue, UploadSuccess, CommitSuccess, Processed, Failed}
 use Rattle.rt_model.specs.declared.request.Reason.{Reason}
 use Rattle.rt_model.specs.declared.request.Request.{Request}
-use Rattle.rt_model.specs.declared.request.RequestKind.{RequestKind}
 use Rattle.rt_model.specs.declared.request.RequestKind.TheVariants as kind
-use Rattle.rt_model.specs.declared.seg_meta.SeenMeta.{SeenMeta}
 use Rattle.rt_model.specs.declared.setup.Setup.{Setup}
 use Rattle.rt_model.specs.Chain.{start_by}
-use Rattle.rt_model.specs.Laws.{HasChains}
-use Rattle.rt_model.specs.Metadata.{IsOpen}
 use Rattle.rt_store.specs.Contents.{starting_of}
 use Rattle.rt_model.proofs.Lawful.{has_chains}
 use Rattle.rt_past.specs.Past.{Past}
-use Rattle.rt_past.specs.Files.{IsRightFile, Stands}
+use Rattle.rt_past.specs.Files.{IsRightFile}
 use Rattle.rt_past.specs.IsPast.{IsPast}
 use Rattle.rt_past.specs.Replies.{IsReply, IsStatus}
 use Rattle.rt_past.specs.Requests.{IsRequest, IsKind}
 use Rattle.rt_past.specs.Segments.{IsBegun, WasDone}
-use Rattle.rt_replica.specs.declared.phase.Discarded.{Discarded}
 use Rattle.rt_replica.specs.declared.phase.Phase.{Phase}
 use Rattle.rt_replica.specs.declared.phase.Phase.TheVariants as phase
 use Rattle.rt_replica.specs.declared.replies.Turn.{Turn}
@@ -40,8 +35,8 @@ use Rattle.rt_replica.specs.declared.stage.Stage.TheVariants.{InitialConsuming, 
 use Rattle.rt_replica.specs.declared.waited.Waited.{Waited}
 use Rattle.rt_replica.specs.declared.waited.Waited.TheVariants.{Step, Extend}
 use Rattle.rt_replica.specs.declared.consumer.Consumer.{Consumer}
-use Rattle.rt_replica.specs.Consumer.{IsConsumer, at, cur, cur_in, ends_at, number_of}
-use Rattle.rt_replica.specs.Replies.{consumed, continued, uploaded, ended, keeps, commits, answered_at, answered, extended_at, extended, stop_answered, is_processed, turned, turn_by, replied_to, replied}
+use Rattle.rt_replica.specs.Consumer.{IsConsumer, cur, cur_in, ends_at, number_of}
+use Rattle.rt_replica.specs.Replies.{consumed, continued, uploaded, ended, answered_at, answered, extended_at, extended, is_processed, turned, turn_by, replied_to, replied}
 use Rattle.rt_replica.specs.Held.{IsHeld}
 use Rattle.rt_replica.specs.Lasting.{StandsRight, IsToldAt, IsToldIn, WasAsked, WaitsFor, IsReplica}
 use Rattle.rt_replica.proofs.Holding.{replied_held}

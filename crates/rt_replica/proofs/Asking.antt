@@ -1,5 +1,5 @@
 -- What a replica asks is right, and is waited for.
-use Rattle.std.proofs.Common.{◌≡◌, ◌≤◌, ◌<◌, ◌^◌, ◌++◌, ℕ, Bool, true, false, cond, List, [], ◌∷◌, length, Option, Some, None, refl, sym, ap, subst, ◌∙◌, arith}
+use Rattle.std.proofs.Common.{◌≡◌, ◌≤◌, ◌<◌, ◌^◌, ℕ, Bool, true, false, cond, List, length, Option, Some, None, refl, sym, ap, subst, ◌∙◌, arith}
 use Rattle.rt_base.specs.declared.numbers.Instance.{Instance}
 use Rattle.rt_base.specs.declared.numbers.Offset.{Offset}
 use Rattle.rt_lists.proofs.Members.{Has-push}
@@ -7,11 +7,9 @@ use Rattle.std.proofs.lemmas.Bool.{false≢true}
 use Rattle.rt_mutable.specs.Consuming.{Consuming}
 use Rattle.rt_segment.specs.Spelling.{file_of}
 use Rattle.rt_schema.specs.declared.schema.Schema.{Schema}
-use Rattle.rt_schema.specs.declared.column.Column.{Column}
 use Rattle.rt_schema.specs.Row.{rows_in}
-use Rattle.rt_segment.specs.Segment.{SealedSegment, rows_of, are_columns}
+use Rattle.rt_segment.specs.Segment.{SealedSegment, are_columns}
 use Rattle.rt_stream.specs.Log.{messages_of}
-use Rattle.rt_model.specs.declared.request.Request.{Request}
 use Rattle.rt_model.specs.declared.request.RequestKind.{RequestKind}
 use Rattle.rt_model.specs.declared.request.RequestKind.TheVariants as kind
 use Rattle.rt_model.specs.declared.request.RequestNumber.{RequestNumber}
@@ -19,7 +17,7 @@ use Rattle.rt_model.specs.declared.sent.Sent.TheVariants as sent
 use Rattle.rt_model.specs.declared.setup.Setup.{Setup}
 use Rattle.rt_past.specs.Past.{Past, Grows, with_request}
 use Rattle.rt_past.specs.Requests.{IsRequest, IsKind, upload_path}
-use Rattle.rt_past.specs.Files.{IsRightFile, Stands}
+use Rattle.rt_past.specs.Files.{IsRightFile}
 use Rattle.rt_past.specs.Segments.{IsAssignedTo, IsIncarnation}
 use Rattle.rt_replica.specs.declared.phase.Phase.{Phase}
 use Rattle.rt_replica.specs.declared.phase.Phase.TheVariants as phase
@@ -27,12 +25,11 @@ use Rattle.rt_replica.specs.declared.settings.Settings.{Settings}
 use Rattle.rt_replica.specs.declared.stage.Stage.{Stage}
 use Rattle.rt_replica.specs.declared.stage.Stage.TheVariants.{InitialConsuming, CatchingUp, Holding, ConsumingToOnline, Retaining, Building, Starting, Uploading, Ending}
 use Rattle.rt_replica.specs.declared.waited.Waited.{Waited}
-use Rattle.rt_replica.specs.declared.waited.Waited.TheVariants.{Step, Extend}
 use Rattle.rt_replica.specs.declared.consumer.Consumer.{Consumer}
 use Rattle.rt_replica.specs.Consumer.{IsConsumer, IsPhase, IsStage, IsBuilt, AreRows, cur, cur_in, extends_at, extends_in, number_of}
-use Rattle.rt_replica.specs.Held.{IsHeld, HoldsIn, HoldsRows}
-use Rattle.rt_replica.specs.Requests.{kind_at, kind_in, more_time, request_with}
-use Rattle.rt_replica.specs.Lasting.{IsToldAt, IsToldIn, StandsRight, WasAsked, IsReplica}
+use Rattle.rt_replica.specs.Held.{HoldsIn, HoldsRows}
+use Rattle.rt_replica.specs.Requests.{kind_at, kind_in, request_with}
+use Rattle.rt_replica.specs.Lasting.{IsToldAt, IsToldIn, WasAsked, IsReplica}
 use Rattle.rt_replica.proofs.Holding.{file_held}
 use Rattle.rt_replica.proofs.Lasts.{replica_grows}
 

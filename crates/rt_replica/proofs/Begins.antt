@@ -1,10 +1,9 @@
 -- A segment begins within the log.
-use Rattle.std.proofs.Common.{◌≡◌, ◌≤◌, ◌<◌, ◌+◌, ℕ, zero, suc, Bool, true, false, nat_lt, List, length, add-one, refl, sym, ap, subst, ◌∙◌, arith}
+use Rattle.std.proofs.Common.{◌≡◌, ◌≤◌, ◌<◌, ◌+◌, ℕ, zero, suc, Bool, true, false, nat_lt, length, add-one, refl, sym, ap, subst, arith}
 use Rattle.std.proofs.lemmas.Bool.{ltb-true, ltb-false}
 use Rattle.rt_base.specs.declared.numbers.Offset.{Offset}
 use Rattle.rt_base.specs.declared.numbers.Partition.{Partition}
 use Rattle.rt_base.specs.declared.numbers.Sequence.{Sequence}
-use Rattle.rt_lists.specs.Members.{Has}
 use Rattle.rt_stream.specs.Log.{messages_of}
 use Rattle.rt_model.specs.declared.node.Key.{Key}
 use Rattle.rt_model.specs.declared.node.Node.{Node}
@@ -15,7 +14,6 @@ use Rattle.rt_model.specs.declared.setup.Setup.{Setup}
 use Rattle.rt_model.specs.declared.status.Status.{Status}
 use Rattle.rt_model.specs.declared.status.Status.TheVariants.{InProgress, Done, Abandoned}
 use Rattle.rt_model.specs.Chain.{IsChainOf, IsCreation, deletions_of, start_by}
-use Rattle.rt_model.specs.Laws.{EndsOnce, IsEnding}
 use Rattle.rt_model.specs.Metadata.{Ends, Follows, IsFinal, IsFinalStatus, StartsAfter, node_key, sequences_of}
 use Rattle.rt_model.proofs.Lawful.{has_chains, has_endings}
 use Rattle.rt_store.specs.Contents.{starting_of}

@@ -1,5 +1,5 @@
 -- What lasts of a replica is kept by its own steps.
-use Rattle.std.proofs.Common.{◌≡◌, ◌≤◌, ◌<◌, ◌-◌, ℕ, Bool, true, false, cond, nat_le, nat_lt, List, length, Option, Some, None, option_map, refl, sym, ap, subst, ◌∙◌, arith}
+use Rattle.std.proofs.Common.{◌≡◌, ◌<◌, ℕ, Bool, true, false, cond, nat_le, nat_lt, List, length, Option, Some, None, option_map, refl, sym, subst}
 use Rattle.rt_base.specs.declared.numbers.Instance.{Instance}
 use Rattle.rt_base.specs.declared.numbers.Moment.{Moment}
 use Rattle.rt_base.specs.declared.numbers.Offset.{Offset}
@@ -7,7 +7,6 @@ use Rattle.rt_base.specs.declared.numbers.Partition.{Partition}
 use Rattle.rt_base.specs.declared.numbers.Sequence.{Sequence}
 use Rattle.rt_mutable.specs.Consuming.{Consuming}
 use Rattle.rt_segment.specs.Segment.{SealedSegment}
-use Rattle.rt_stream.specs.Log.{Log, messages_of}
 use Rattle.rt_model.specs.declared.request.Reason.TheVariants.{Force}
 use Rattle.rt_model.specs.declared.seg_meta.SeenMeta.{SeenMeta}
 use Rattle.rt_model.specs.declared.seg_meta.SegMeta.{SegMeta}

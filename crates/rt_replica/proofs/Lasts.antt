@@ -1,10 +1,9 @@
 -- What lasts of a replica stays true as the past grows.
-use Rattle.std.proofs.Common.{◌≡◌, ◌≤◌, ◌<◌, ℕ, List, length, Option, Some, None, refl, sym, ap, subst, ◌∙◌, arith}
+use Rattle.std.proofs.Common.{ℕ, List, Option, Some, None}
 use Rattle.rt_base.specs.declared.numbers.Instance.{Instance}
 use Rattle.rt_base.specs.declared.numbers.Offset.{Offset}
 use Rattle.rt_base.specs.declared.numbers.Partition.{Partition}
 use Rattle.rt_base.specs.declared.numbers.Sequence.{Sequence}
-use Rattle.rt_lists.specs.Members.{Has}
 use Rattle.rt_lists.proofs.Members.{Has-front}
 use Rattle.rt_model.specs.declared.request.RequestNumber.{RequestNumber}
 use Rattle.rt_model.specs.declared.sent.Sent.TheVariants as sent

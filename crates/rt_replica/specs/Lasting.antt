@@ -19,7 +19,7 @@ use Rattle.rt_replica.specs.declared.stage.Stage.{Stage}
 use Rattle.rt_replica.specs.declared.stage.Stage.TheVariants.{InitialConsuming, CatchingUp, Holding, ConsumingToOnline, Retaining, Building, Starting, Uploading, Ending}
 use Rattle.rt_replica.specs.declared.waited.Waited.{Waited}
 use Rattle.rt_replica.specs.declared.consumer.Consumer.{Consumer}
-use Rattle.rt_replica.specs.Consumer.{cur, cur_in, number_of, settings_of}
+use Rattle.rt_replica.specs.Consumer.{cur, number_of, settings_of}
 use Rattle.rt_replica.specs.Held.{IsHeld}
 
 -- a right file of the segment, from its start up to an offset, stands at the path
