@@ -9,7 +9,7 @@ use rt_base::limits::{
 };
 use rt_call_words::{Stop, Words};
 use rt_model::Setup;
-use rt_schema::{Schema, Table, read_schema, read_table};
+use rt_schema::{Schema, SchemaRefused, Table, read_schema, read_table};
 use std::alloc::Global;
 
 /// The texts of a schema and of a table's settings.
@@ -38,11 +38,14 @@ pub(crate) struct KnownSetup {
 impl KnownTable {
     /// The table of these texts.
     pub(crate) fn read(alloc: Global, texts: TableTexts) -> Result<KnownTable, Stop> {
-        let Ok(schema) = read_schema(alloc, texts.schema) else {
-            return Err(Stop::Refused);
+        let schema = match read_schema(alloc, texts.schema) {
+            Ok(schema) => schema,
+            Err(SchemaRefused::Memory) => return Err(Stop::Memory),
+            Err(_) => return Err(Stop::Refused),
         };
         match read_table(alloc, texts.table, &schema) {
             Ok(table) => Ok(KnownTable { schema, table }),
+            Err(SchemaRefused::Memory) => Err(Stop::Memory),
             Err(_) => Err(Stop::Refused),
         }
     }

@@ -3,7 +3,7 @@ ghost use Rattle.rt_schema.specs.Schema.{IsSchema};
 use crate::consuming::Consuming;
 use rt_agg::Groups;
 use rt_call_words::Stop;
-use rt_schema::{Schema, read_schema};
+use rt_schema::{Schema, SchemaRefused, read_schema};
 use rt_segment::Sealed;
 use std::alloc::Global;
 
@@ -83,6 +83,7 @@ impl Tables {
     pub(crate) fn schema_again(&self, alloc: Global) -> Result<KnownSchema, Stop> {
         match read_schema(alloc, self.schema_text.as_str()) {
             Ok(schema) => Ok(KnownSchema { schema }),
+            Err(SchemaRefused::Memory) => Err(Stop::Memory),
             Err(_) => Err(Stop::Refused),
         }
     }
