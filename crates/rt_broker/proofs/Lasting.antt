@@ -115,7 +115,7 @@ asked_begins setup past query =
 
 -- ---- one partition is set
 
-got_of_set : {X : Type 0} (xs : List X) (i j : ℕ) (x y : X) → slice_get (slice_set xs i x) j ≡ Some y → ((j ≡ i) × (y ≡ x)) ⊎ (slice_get xs j ≡ Some y)
+pub got_of_set : {X : Type 0} (xs : List X) (i j : ℕ) (x y : X) → slice_get (slice_set xs i x) j ≡ Some y → ((j ≡ i) × (y ≡ x)) ⊎ (slice_get xs j ≡ Some y)
 got_of_set [] i j x y e = inr e
 got_of_set (z ∷ xs) zero zero x y e = inl (refl, cc)
 got_of_set (z ∷ xs) zero (suc j) x y e = inr e

@@ -104,6 +104,13 @@ impl Asked {
         })
     }
 
+    /// The query that is asked.
+    pub fn query(&self) -> &Query
+        ensures { result.now ≡ self.now.query }
+    {
+        &self.query
+    }
+
     /// Whether a partition was routed, or its routing met a fault. Takes no memory.
     pub fn tried(&self, partition: Partition) -> bool
         ensures { result ≡ is_tried self.now partition }

@@ -5,8 +5,8 @@ use rt_lists::{Items, Text};
 use rt_model::{Commit, IdealEntry, IdealState, MachineState, Mode, SegMeta, Status};
 use std::alloc::Global;
 
-/// `P/Q:sK:MODE ..`, or `-`.
-pub(crate) fn state_in(alloc: Global, list: &str) -> Result<IdealState, Stop> {
+/// `P/Q:sK:MODE ..`, or `-`: the entries of an ideal state.
+pub fn state_in(alloc: Global, list: &str) -> Result<IdealState, Stop> {
     let mut entries = Items::new(alloc);
     if list == "-" {
         return Ok(IdealState { entries });
@@ -40,7 +40,7 @@ fn mode_in(word: &str) -> Result<Mode, Stop> {
 }
 
 /// `START:WRITTEN:STATUS`, and `:END` behind `DONE`: metadata without a name, a path and rows.
-pub(crate) fn meta_in(alloc: Global, words: &mut Words) -> Result<SegMeta, Stop> {
+pub fn meta_in(alloc: Global, words: &mut Words) -> Result<SegMeta, Stop> {
     let start = Offset(words.number_until(':'));
     let written = Moment(words.number_until(':'));
     let status = status_in(alloc, words)?;

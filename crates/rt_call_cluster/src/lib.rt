@@ -11,8 +11,9 @@ mod setups;
 mod store_words;
 mod stores;
 
+pub use cluster_words::{meta_in, state_in};
 pub use ideals::{ideal, mode};
 pub use machines::machine;
-pub use metas::{meta, replica, replicas};
-pub use setups::TableTexts;
+pub use metas::{first_meta, meta, replica, replicas};
+pub use setups::{KnownSetup, KnownTable, TableTexts};
 pub use stores::store;

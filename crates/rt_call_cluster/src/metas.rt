@@ -2,7 +2,7 @@ use crate::cluster_words::write_instances;
 use crate::setups::{KnownTable, TableTexts};
 use rt_base::limits::LAST_MOMENT;
 use rt_base::{Moment, Offset, Partition};
-use rt_call_words::{Answer, Stop, Words};
+use rt_call_words::{Answer, Segment, Stop, Words};
 use rt_lists::Text;
 use rt_meta::{abandoned_of, done_of, first};
 use rt_model::{Commit, SegMeta};
@@ -37,10 +37,21 @@ fn first_of(alloc: Global, texts: TableTexts, words: &mut Words) -> Result<SegMe
     let start = Offset(words.number());
     let now = Moment(words.number());
     words.ended()?;
+    let known = KnownTable::read(alloc, texts)?;
+    first_meta(alloc, &known, segment, start, now)
+}
+
+/// The metadata of a new segment of the table.
+pub fn first_meta(
+    alloc: Global,
+    known: &KnownTable,
+    segment: Segment,
+    start: Offset,
+    now: Moment,
+) -> Result<SegMeta, Stop> {
     if now.0 > LAST_MOMENT {
         return Err(Stop::Refused);
     }
-    let known = KnownTable::read(alloc, texts)?;
     let table = known.table.name.as_str();
     Ok(first(
         alloc,

@@ -21,23 +21,23 @@ pub struct TableTexts<'a> {
 
 /// A table over its schema.
 #[derive(Drop)]
-pub(crate) struct KnownTable {
-    pub(crate) schema: Schema,
-    pub(crate) table: Table,
+pub struct KnownTable {
+    pub schema: Schema,
+    pub table: Table,
     ghost schema_read: { IsSchema schema },
     ghost table_read: { IsTable schema table },
 }
 
 /// A cluster within the limits.
 #[derive(Drop)]
-pub(crate) struct KnownSetup {
-    pub(crate) setup: Setup,
-    ghost within: { IsSetup setup },
+pub struct KnownSetup {
+    pub setup: Setup,
+    pub ghost within: { IsSetup setup },
 }
 
 impl KnownTable {
     /// The table of these texts.
-    pub(crate) fn read(alloc: Global, texts: TableTexts) -> Result<KnownTable, Stop> {
+    pub fn read(alloc: Global, texts: TableTexts) -> Result<KnownTable, Stop> {
         let schema = match read_schema(alloc, texts.schema) {
             Ok(schema) => schema,
             Err(SchemaRefused::Memory) => return Err(Stop::Memory),
@@ -47,6 +47,23 @@ impl KnownTable {
             Ok(table) => Ok(KnownTable { schema, table }),
             Err(SchemaRefused::Memory) => Err(Stop::Memory),
             Err(_) => Err(Stop::Refused),
+        }
+    }
+}
+
+impl KnownSetup {
+    /// The least cluster of a table, whose replicas build in a format.
+    pub fn of_table(known: KnownTable, format: u32) -> Result<KnownSetup, Stop> {
+        let numbers = Numbers {
+            servers: known.table.replication,
+            controllers: 1,
+            partitions: 1,
+            start: 0,
+        };
+        match format {
+            1 => numbers.setup(known, 1),
+            2 => numbers.setup(known, 2),
+            _ => Err(Stop::Refused),
         }
     }
 }
@@ -73,8 +90,11 @@ impl Numbers {
         Ok(numbers)
     }
 
-    /// A cluster of a table.
-    pub(crate) fn setup(self, known: KnownTable) -> Result<KnownSetup, Stop> {
+    /// A cluster of a table, whose replicas build in a format.
+    pub(crate) fn setup(self, known: KnownTable, format: u8) -> Result<KnownSetup, Stop>
+        requires first { 1 ≤ format }
+        requires last { format ≤ 2 }
+    {
         let replication = known.table.replication;
         if !self.are_within() || replication > MOST_REPLICATION || replication > self.servers {
             return Err(Stop::Refused);
@@ -88,7 +108,7 @@ impl Numbers {
             start: Moment(self.start),
             grace: 0,
             retention: None,
-            format: 2,
+            format,
         };
         Ok(KnownSetup { setup })
     }

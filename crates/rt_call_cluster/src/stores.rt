@@ -34,7 +34,7 @@ fn make(
     answer: &mut Answer,
 ) -> Result<MemoryStore, Stop> {
     let numbers = Numbers::read(words)?;
-    let known = numbers.setup(KnownTable::read(alloc, texts)?)?;
+    let known = numbers.setup(KnownTable::read(alloc, texts)?, 2)?;
     let store = MemoryStore::make(alloc, &known.setup)?;
     answer.number(store.history().len() as u64);
     Ok(store)

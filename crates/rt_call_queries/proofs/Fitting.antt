@@ -1,6 +1,5 @@
 -- A query of a schema fits the segments that have its columns.
-use Rattle.std.proofs.Common.{◌≡◌, List, ℕ, true, map, All, IsTrue}
-use Rattle.rt_lists.specs.Names.{is_among}
+use Rattle.std.proofs.Common.{◌≡◌, true, map}
 use Rattle.rt_schema.specs.declared.column.Column.{Column}
 use Rattle.rt_schema.specs.declared.schema.Schema.{Schema}
 use Rattle.rt_model.specs.declared.query.Query.{Query}
@@ -18,8 +17,3 @@ pub fits_consuming : (query : Query) (schema : Schema) (segment : Consuming) →
     map (λ (shape : Shape). shape.kind) segment.columns ≡ map (λ (column : Column). column.kind) schema.columns →
     FitsConsuming query segment
 fits_consuming query schema segment parsed names kinds = record { schema = schema; parsed = parsed; names = names; kinds = kinds }
-
--- names of a schema's columns are names of a segment's, where these are the same
-pub among_columns : (names given wanted : List (List ℕ)) → wanted ≡ given →
-    All (λ name. IsTrue (is_among name given)) names → All (λ name. IsTrue (is_among name wanted)) names
-among_columns names given wanted same known = rw same known

@@ -1,6 +1,6 @@
-use crate::schemas::schema;
-use crate::tables::Tables;
+use crate::asked::Asked;
 use crate::trees::write_query;
+use rt_call_schemas::{Tables, schema};
 use rt_call_words::{Answer, Stop, Words};
 use rt_sql::{SqlRefused, parse};
 use std::alloc::Global;
@@ -10,6 +10,7 @@ use std::alloc::Global;
 pub fn sql(
     alloc: Global,
     tables: &mut Tables,
+    asked: &mut Asked,
     words: &mut Words,
     answer: &mut Answer,
 ) -> Result<(), Stop> {
@@ -19,7 +20,7 @@ pub fn sql(
     let bytes = words.bytes(alloc);
     words.ended()?;
     match str::from_utf8(bytes.as_slice()) {
-        Ok(text) => take_query(alloc, tables, text, answer),
+        Ok(text) => take_query(alloc, tables, asked, text, answer),
         Err(_) => Err(Stop::Refused),
     }
 }
@@ -27,18 +28,20 @@ pub fn sql(
 /// `query TEXT`: the same, for a text that stands as it is.
 pub fn query(
     alloc: Global,
-    tables: &mut Tables,
+    tables: &Tables,
+    asked: &mut Asked,
     words: &mut Words,
     answer: &mut Answer,
 ) -> Result<(), Stop> {
     let text = words.rest();
     words.ended()?;
-    take_query(alloc, tables, text, answer)
+    take_query(alloc, tables, asked, text, answer)
 }
 
 fn take_query(
     alloc: Global,
-    tables: &mut Tables,
+    tables: &Tables,
+    asked: &mut Asked,
     text: &str,
     answer: &mut Answer,
 ) -> Result<(), Stop> {
@@ -46,8 +49,8 @@ fn take_query(
         Ok(_query) => {
             answer.add("ok");
             answer.written()?;
-            tables.query = String::from_str(alloc, text)?;
-            tables.groups = None;
+            asked.query = String::from_str(alloc, text)?;
+            asked.groups = None;
             Ok(())
         }
         Err(refused) => refuse(refused, answer),

@@ -3,10 +3,11 @@ ghost use Rattle.rt_schema.specs.Schema.{IsSchema};
 ghost use Rattle.rt_model.specs.Checked.{IsQuery};
 ghost use Rattle.rt_segment.specs.Segment.{are_columns};
 
-use crate::consuming::Consuming;
-use crate::tables::Tables;
+use crate::asked::Asked;
 use rt_agg::Groups;
 use rt_base::Offset;
+use rt_call_schemas::Tables;
+use rt_call_segments::{Consuming, HeldSegments};
 use rt_call_words::{Answer, Stop, Words};
 use rt_filter::passes;
 use rt_lines::answer_text;
@@ -22,26 +23,30 @@ use std::alloc::Global;
 /// `scan WAY`: the result rows of the last query, which later lines merge.
 pub fn scan(
     alloc: Global,
-    tables: &mut Tables,
+    tables: &Tables,
+    segments: &HeldSegments,
+    asked: &mut Asked,
     words: &mut Words,
     answer: &mut Answer,
 ) -> Result<(), Stop> {
-    let groups = scan_by(alloc, tables, words)?;
+    let groups = scan_by(alloc, tables, segments, asked.query.as_str(), words)?;
     write_groups(alloc, &groups, answer)?;
     answer.written()?;
-    tables.groups = Some(groups);
+    asked.groups = Some(groups);
     Ok(())
 }
 
 /// `merge WAY`: the result rows of what was scanned since the query, and of this.
 pub fn merge(
     alloc: Global,
-    tables: &mut Tables,
+    tables: &Tables,
+    segments: &HeldSegments,
+    asked: &mut Asked,
     words: &mut Words,
     answer: &mut Answer,
 ) -> Result<(), Stop> {
-    let groups = scan_by(alloc, tables, words)?;
-    match &mut tables.groups {
+    let groups = scan_by(alloc, tables, segments, asked.query.as_str(), words)?;
+    match &mut asked.groups {
         Some(merged) => {
             merged.merge(alloc, &groups)?;
             write_groups(alloc, merged, answer)
@@ -51,18 +56,24 @@ pub fn merge(
 }
 
 // `file`, `as`, `below X` or `rows`
-fn scan_by(alloc: Global, tables: &Tables, words: &mut Words) -> Result<Groups, Stop> {
+fn scan_by(
+    alloc: Global,
+    tables: &Tables,
+    segments: &HeldSegments,
+    text: &str,
+    words: &mut Words,
+) -> Result<Groups, Stop> {
     let way = words.word();
     if way == "below" {
         let offset = Offset(words.number());
         words.ended()?;
-        return scan_rows(alloc, tables, offset);
+        return scan_rows(alloc, tables, segments, text, offset);
     }
     words.ended()?;
     match way {
-        "file" => scan_file(alloc, tables),
-        "as" => scan_filled(alloc, tables),
-        "rows" => filter_rows(alloc, tables),
+        "file" => scan_file(alloc, tables, segments, text),
+        "as" => scan_filled(alloc, tables, segments, text),
+        "rows" => filter_rows(alloc, tables, segments, text),
         _ => Err(Stop::BadLine),
     }
 }
@@ -80,22 +91,27 @@ fn write_groups(alloc: Global, groups: &Groups, answer: &mut Answer) -> Result<(
     Ok(())
 }
 
-// The last query, over a schema.
-fn query_over(alloc: Global, tables: &Tables, schema: &Schema) -> Result<Query, Stop>
+// The query of a text, over a schema.
+fn query_over(alloc: Global, tables: &Tables, text: &str, schema: &Schema) -> Result<Query, Stop>
     requires { IsSchema schema.now }
     ensures { IfOk result (IsQuery schema.now) }
 {
-    match parse(alloc, tables.query.as_str(), schema, tables.table()) {
+    match parse(alloc, text, schema, tables.table()) {
         Ok(query) => Ok(query),
         Err(SqlRefused::Memory) => Err(Stop::Memory),
         Err(_) => Err(Stop::Refused),
     }
 }
 
-fn scan_file(alloc: Global, tables: &Tables) -> Result<Groups, Stop> {
+fn scan_file(
+    alloc: Global,
+    tables: &Tables,
+    segments: &HeldSegments,
+    text: &str,
+) -> Result<Groups, Stop> {
     let known = tables.schema()?;
-    let query = query_over(alloc, tables, &known.schema)?;
-    let sealed = tables.sealed()?;
+    let query = query_over(alloc, tables, text, &known.schema)?;
+    let sealed = segments.sealed()?;
     if !sealed.fits(&known.schema) {
         return Err(Stop::Refused);
     }
@@ -115,15 +131,26 @@ fn scan_fitting(
     Ok(rt_scan::scan(alloc, query, sealed)?)
 }
 
-fn scan_filled(alloc: Global, tables: &Tables) -> Result<Groups, Stop> {
+fn scan_filled(
+    alloc: Global,
+    tables: &Tables,
+    segments: &HeldSegments,
+    text: &str,
+) -> Result<Groups, Stop> {
     let known = tables.schema()?;
-    let query = query_over(alloc, tables, &known.schema)?;
-    Ok(scan_as(alloc, &query, &known.schema, tables.sealed()?)?)
+    let query = query_over(alloc, tables, text, &known.schema)?;
+    Ok(scan_as(alloc, &query, &known.schema, segments.sealed()?)?)
 }
 
-fn scan_rows(alloc: Global, tables: &Tables, offset: Offset) -> Result<Groups, Stop> {
-    let consuming = tables.consuming()?;
-    let query = query_over(alloc, tables, &consuming.schema)?;
+fn scan_rows(
+    alloc: Global,
+    tables: &Tables,
+    segments: &HeldSegments,
+    text: &str,
+    offset: Offset,
+) -> Result<Groups, Stop> {
+    let consuming = segments.consuming()?;
+    let query = query_over(alloc, tables, text, &consuming.schema)?;
     scan_consuming(alloc, &query, consuming, offset)
 }
 
@@ -139,9 +166,14 @@ fn scan_consuming(
     Ok(scan_below(alloc, query, &consuming.segment, offset)?)
 }
 
-fn filter_rows(alloc: Global, tables: &Tables) -> Result<Groups, Stop> {
-    let consuming = tables.consuming()?;
-    let query = query_over(alloc, tables, &consuming.schema)?;
+fn filter_rows(
+    alloc: Global,
+    tables: &Tables,
+    segments: &HeldSegments,
+    text: &str,
+) -> Result<Groups, Stop> {
+    let consuming = segments.consuming()?;
+    let query = query_over(alloc, tables, text, &consuming.schema)?;
     add_rows(alloc, &consuming.segment, &query)
 }
 
@@ -166,12 +198,14 @@ fn add_row(alloc: Global, row: &Row, query: &Query, groups: &mut Groups) -> Resu
 pub fn skips(
     alloc: Global,
     tables: &Tables,
+    segments: &HeldSegments,
+    asked: &Asked,
     words: &mut Words,
     answer: &mut Answer,
 ) -> Result<(), Stop> {
     words.ended()?;
     let known = tables.schema()?;
-    let query = query_over(alloc, tables, &known.schema)?;
-    answer.truth(rt_scan::skips(&query, tables.sealed()?));
+    let query = query_over(alloc, tables, asked.query.as_str(), &known.schema)?;
+    answer.truth(rt_scan::skips(&query, segments.sealed()?));
     Ok(())
 }

@@ -1,10 +1,10 @@
 //! The calls, by the first word of their lines.
 use crate::session::Session;
 use rt_call_cluster::{TableTexts, ideal, machine, meta, mode, replica, replicas, store};
-use rt_call_queries::{
-    columns, merge, message, query, row, rows, scan, schema, sealed, segment, settings, skips, sql,
-    table, tree,
-};
+use rt_call_nodes::{consumer, decide, plan, rebalance, retire, upsert, upsert_config};
+use rt_call_queries::{merge, query, scan, skips, sql, tree};
+use rt_call_schemas::{Tables, columns, message, row, schema, settings, table};
+use rt_call_segments::{rows, sealed, segment};
 use rt_call_storage::{
     clock, deep, dict, docset, format, gate, get, minute, name, pack, postings, sink, source,
     stream, unpack, width,
@@ -28,15 +28,30 @@ pub(crate) fn make_call(
         "settings" => settings(alloc, tables, words, answer),
         "row" => row(alloc, tables, words, answer),
         "message" => message(alloc, tables, words, answer),
-        "sql" => sql(alloc, tables, words, answer),
-        "query" => query(alloc, tables, words, answer),
+        _ => call_query(alloc, session, word, words, answer),
+    }
+}
+
+fn call_query(
+    alloc: Global,
+    session: &mut Session,
+    word: &str,
+    words: &mut Words,
+    answer: &mut Answer,
+) -> Result<(), Stop> {
+    let tables = &mut session.tables;
+    let segments = &mut session.segments;
+    let asked = &mut session.asked;
+    match word {
+        "sql" => sql(alloc, tables, asked, words, answer),
+        "query" => query(alloc, tables, asked, words, answer),
         "tree" => tree(alloc, tables, words, answer),
-        "segment" => segment(alloc, tables, words, answer),
-        "sealed" => sealed(alloc, tables, words, answer),
-        "rows" => rows(alloc, tables, words, answer),
-        "scan" => scan(alloc, tables, words, answer),
-        "merge" => merge(alloc, tables, words, answer),
-        "skips" => skips(alloc, tables, words, answer),
+        "segment" => segment(alloc, segments, words, answer),
+        "sealed" => sealed(alloc, tables, segments, words, answer),
+        "rows" => rows(alloc, tables, segments, words, answer),
+        "scan" => scan(alloc, tables, segments, asked, words, answer),
+        "merge" => merge(alloc, tables, segments, asked, words, answer),
+        "skips" => skips(alloc, tables, segments, asked, words, answer),
         _ => call_cluster(alloc, session, word, words, answer),
     }
 }
@@ -48,10 +63,7 @@ fn call_cluster(
     words: &mut Words,
     answer: &mut Answer,
 ) -> Result<(), Stop> {
-    let texts = TableTexts {
-        schema: session.tables.schema_text(),
-        table: session.tables.table_text(),
-    };
+    let texts = texts_of(&session.tables);
     match word {
         "machine" => machine(alloc, words, answer),
         "ideal" => ideal(alloc, words, answer),
@@ -62,6 +74,33 @@ fn call_cluster(
         "store" => store(alloc, &mut session.store, texts, words, answer),
         "deep" => deep(alloc, &mut session.deep, words, answer),
         "stream" => stream(alloc, &mut session.stream, words, answer),
+        _ => call_node(alloc, session, word, words, answer),
+    }
+}
+
+fn texts_of(tables: &Tables) -> TableTexts<'_> {
+    TableTexts {
+        schema: tables.schema_text(),
+        table: tables.table_text(),
+    }
+}
+
+fn call_node(
+    alloc: Global,
+    session: &mut Session,
+    word: &str,
+    words: &mut Words,
+    answer: &mut Answer,
+) -> Result<(), Stop> {
+    let texts = texts_of(&session.tables);
+    match word {
+        "decide" => decide(alloc, words, answer),
+        "retire" => retire(alloc, words, answer),
+        "plan" => plan(alloc, words, answer),
+        "rebalance" => rebalance(alloc, words, answer),
+        "upsert" => upsert(alloc, words, answer),
+        "upsert_config" => upsert_config(alloc, texts, words, answer),
+        "consumer" => consumer(alloc, &mut session.stream, texts, words, answer),
         _ => call_tool(alloc, word, words, answer),
     }
 }

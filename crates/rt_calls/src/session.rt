@@ -1,4 +1,6 @@
-use rt_call_queries::Tables;
+use rt_call_queries::Asked;
+use rt_call_schemas::Tables;
+use rt_call_segments::HeldSegments;
 use rt_deep::MemoryDeep;
 use rt_store::MemoryStore;
 use rt_stream::StreamLog;
@@ -7,6 +9,8 @@ use std::alloc::Global;
 /// What lines leave to later ones.
 pub(crate) struct Session {
     pub(crate) tables: Tables,
+    pub(crate) segments: HeldSegments,
+    pub(crate) asked: Asked,
     pub(crate) store: Option<MemoryStore>,
     pub(crate) deep: MemoryDeep,
     pub(crate) stream: Option<StreamLog>,
@@ -17,6 +21,8 @@ impl Drop for Session {
     fn drop(self) {
         let Session {
             tables: _,
+            segments: _,
+            asked: _,
             store: _,
             deep: _,
             stream: _,
@@ -29,6 +35,8 @@ impl Session {
     pub(crate) fn new(alloc: Global) -> Session {
         Session {
             tables: Tables::new(alloc),
+            segments: HeldSegments::new(),
+            asked: Asked::new(alloc),
             store: None,
             deep: MemoryDeep::make(alloc),
             stream: None,

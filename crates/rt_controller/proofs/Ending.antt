@@ -1,5 +1,5 @@
 -- How long a job lives, and with what it ends.
-use Rattle.std.proofs.Common.{◌≡◌, ℕ, ◌-◌, ◌*◌, ◌<◌, inl, inr, Bool, true, false, cond, List, [], ◌∷◌, ◌++◌, Option, Some, None, Result, Ok, Err, nat_lt, length, refl, sym, subst, arith}
+use Rattle.std.proofs.Common.{◌≡◌, ℕ, ◌<◌, inl, inr, Bool, true, false, cond, List, [], ◌∷◌, ◌++◌, Option, Some, None, Result, Ok, Err, nat_lt, length, refl, sym, subst, arith}
 use Rattle.std.proofs.lemmas.Bool.{ltb-true}
 use Rattle.std.proofs.lemmas.List.{length-append}
 use Rattle.rt_base.specs.declared.header.Header.{Header}
@@ -26,31 +26,17 @@ use Rattle.rt_controller.specs.declared.work.Work.{Work}
 use Rattle.rt_controller.specs.declared.work.Work.TheVariants as work
 use Rattle.rt_controller.specs.Calls.{Answer, nothing, put, got, read, set, created}
 use Rattle.rt_controller.specs.Job.{Stepping, goes, ends, fails, meta_in, seen_meta_of, header_in, is_wanted, wanted, commit_of, bad, checked, after_get, done_write, after_done, after_next, changes, success, after_read, after_set, step_at, is_commit, commits}
-use Rattle.rt_controller.specs.Laws.{Move, GoesOn, IsSuccess, Answers, MayGoOn, Tells}
+use Rattle.rt_controller.specs.Lasting.{commit_end}
+use Rattle.rt_controller.specs.Laws.{Move, GoesOn, IsTrying, steps_left, IsSuccess, Answers, MayGoOn, Tells}
 use Rattle.rt_controller.proofs.KeepsJobs.{same_step, not_ended, went}
 
 -- ---- the steps that are left
 
-abbrev IsTrying : JobStage → Type 0
-IsTrying (stage.Check from end path) = Unit {0}
-IsTrying (stage.Done from commit) = Unit {0}
-IsTrying (stage.Next done) = Unit {0}
-IsTrying (stage.IdealRead w found) = length found < 10
-IsTrying (stage.IdealSet w found ideal) = length found < 10
-IsTrying stage.Ended = ⊥
-
-abbrev steps_left : JobStage → ℕ
-steps_left (stage.Check from end path) = 23
-steps_left (stage.Done from commit) = 22
-steps_left (stage.Next done) = 21
-steps_left (stage.IdealRead w found) = 2 * (10 - length found)
-steps_left (stage.IdealSet w found ideal) = 2 * (10 - length found) - 1
-steps_left stage.Ended = 0
-
--- the job goes on, with fewer steps left
-record Falls (from to : JobStage) : Type 0 where
-  trying : IsTrying to
-  fewer : steps_left to < steps_left from
+-- the job goes on, with fewer steps left, up to the same end
+pub record Falls (from to : JobStage) : Type 0 where
+  pub trying : IsTrying to
+  pub fewer : steps_left to < steps_left from
+  pub end : commit_end to ≡ commit_end from
 
 falls_to : (from s : JobStage) (n : StepName) (o : StepOutcome) (x : Stepping) → goes s n o ≡ Some x → Falls from s → Falls from x.stage
 falls_to from s n o x e k = subst (Falls from) (sym (went s n o x e)) k
@@ -66,7 +52,7 @@ falls_check q from end path (Some h) x e f = by_test (is_wanted q (meta_in from.
         → Falls (stage.Check from end path) x.stage
     by_test true g =
         falls_to (stage.Check from end path) (stage.Done from (commit_of end path h)) name.Check outcome.Fine x g
-        (record { trying = tt; fewer = omega arith })
+        (record { trying = tt; fewer = omega arith; end = refl })
     by_test false g = absurd (not_ended name.Check outcome.Bad _ x g f)
 
 falls_get : (q : Asked) (from : Seen) (end : Offset) (path : List ℕ) (answer : Result (List ℕ) DeepRefused) (x : Stepping)
@@ -81,7 +67,7 @@ falls_done : (from : Seen) (commit : Commit) (now : Moment) (answer : Result ℕ
     → after_done from commit now answer ≡ Some x → x.did.status ≡ None → Falls (stage.Done from commit) x.stage
 falls_done from commit now (Ok version) x e f =
     falls_to (stage.Done from commit) (stage.Next (done_write from commit now version)) name.Done outcome.Fine x e
-    (record { trying = tt; fewer = omega arith })
+    (record { trying = tt; fewer = omega arith; end = refl })
 falls_done from commit now (Err NoNode) x e f = absurd (not_ended name.Done outcome.NoNode _ x e f)
 falls_done from commit now (Err (Exists found)) x e f = absurd (not_ended name.Done outcome.Failed _ x e f)
 falls_done from commit now (Err (VersionChanged expected found)) x e f =
@@ -93,11 +79,11 @@ falls_next : (done : Seen) (answer : Result (Unit {0}) StoreRefused) (x : Steppi
     → after_next done answer ≡ Some x → x.did.status ≡ None → Falls (stage.Next done) x.stage
 falls_next done (Ok u) x e f =
     falls_to (stage.Next done) (stage.IdealRead (work.Commit done) []) name.Next outcome.Fine x e
-    (record { trying = omega arith; fewer = omega arith })
+    (record { trying = omega arith; fewer = omega arith; end = refl })
 falls_next done (Err NoNode) x e f = absurd (not_ended name.Next outcome.Gone _ x e f)
 falls_next done (Err (Exists found)) x e f =
     falls_to (stage.Next done) (stage.IdealRead (work.Commit done) []) name.Next outcome.Exists x e
-    (record { trying = omega arith; fewer = omega arith })
+    (record { trying = omega arith; fewer = omega arith; end = refl })
 falls_next done (Err (VersionChanged expected found)) x e f =
     absurd (not_ended name.Next (outcome.Changed expected found) _ x e f)
 falls_next done (Err Failed) x e f = absurd (not_ended name.Next outcome.Failed _ x e f)
@@ -113,7 +99,7 @@ falls_read q w found (Ok ideal) x few e f = by_test (changes q w (entries_by ide
         → Falls (stage.IdealRead w found) x.stage
     by_test true h =
         falls_to (stage.IdealRead w found) (stage.IdealSet w found ideal) name.IdealRead outcome.Fine x h
-        (record { trying = few; fewer = omega (arith, few) })
+        (record { trying = few; fewer = omega (arith, few); end = refl })
     by_test false h = absurd (not_ended name.IdealRead outcome.Same (success w) x h f)
 falls_read q w found (Err NoNode) x few e f = absurd (not_ended name.IdealRead outcome.Failed _ x e f)
 falls_read q w found (Err (Exists version)) x few e f = absurd (not_ended name.IdealRead outcome.Failed _ x e f)
@@ -140,7 +126,7 @@ falls_set w found ideal (Err (VersionChanged expected version)) x e f = by_test 
         let lt = ltb-true (length found) 9 few in
         let more = length-append found (version ∷ []) in
         falls_to (stage.IdealSet w found ideal) (stage.IdealRead w (found ++ version ∷ [])) name.IdealSet (outcome.Changed expected version) x h
-        (record { trying = omega (arith, lt, more); fewer = omega (arith, lt, more) })
+        (record { trying = omega (arith, lt, more); fewer = omega (arith, lt, more); end = refl })
     by_test false few h = absurd (not_ended name.IdealSet (outcome.Changed expected version) _ x h f)
 falls_set w found ideal (Err Failed) x e f = absurd (not_ended name.IdealSet outcome.Failed _ x e f)
 falls_set w found ideal (Err Memory) x e f = absurd (cc)
@@ -196,7 +182,7 @@ by_step q now P check done next ideal sets stage.Ended (read answer) x e = absur
 by_step q now P check done next ideal sets stage.Ended (set answer) x e = absurd (cc)
 by_step q now P check done next ideal sets stage.Ended (created answer) x e = absurd (cc)
 
-falls : (q : Asked) (now : Moment) (from : JobStage) (answer : Answer) (x : Stepping) → IsTrying from
+pub falls : (q : Asked) (now : Moment) (from : JobStage) (answer : Answer) (x : Stepping) → IsTrying from
     → step_at q now from answer ≡ Some x → x.did.status ≡ None → Falls from x.stage
 falls q now from answer x t e =
     by_step q now (λ s y. IsTrying s → y.did.status ≡ None → Falls s y.stage)
@@ -207,7 +193,7 @@ falls q now from answer x t e =
     (λ w found ideal answer x e t f. falls_set w found ideal answer x e f)
     from answer x e t
 
-some_left : (s : JobStage) → IsTrying s → 0 < steps_left s
+pub some_left : (s : JobStage) → IsTrying s → 0 < steps_left s
 some_left (stage.Check from end path) t = omega arith
 some_left (stage.Done from commit) t = omega arith
 some_left (stage.Next done) t = omega arith

@@ -51,7 +51,7 @@ use Rattle.rt_controller.specs.Job.{Stepping, goes, ends, meta_in, header_in, is
 use Rattle.rt_controller.specs.Steps.{Works}
 use Rattle.rt_controller.proofs.KeepsJobs.{same_step}
 use Rattle.rt_controller.proofs.Making.{makes_some}
-use Rattle.rt_controller.proofs.Refusals.{read_no_node, read_exists, read_changed, set_exists, set_no_node}
+use Rattle.rt_store.proofs.Refusals.{read_no_node, read_exists, read_changed, set_exists, set_no_node}
 
 -- ---- what isn't a failure
 

@@ -47,7 +47,7 @@ use Rattle.rt_controller.specs.Causes.{Rose, IsFault}
 use Rattle.rt_controller.specs.Controller.{Controlling, Handling, Turn, not_leading, uploads, not_assigned, past_last, has_machine, has_none, turn_of, call_of, handled_at, after_put, at_machine, after_read, by_node, by_status, opens, first_state, follows_by, leads_to, commit_stage, named_file, status_of}
 use Rattle.rt_controller.specs.Steps.{Handles}
 use Rattle.rt_controller.proofs.Reacting.{IsOwnCause, IsOwnSaid, IsOwn, owned}
-use Rattle.rt_controller.proofs.Refusals.{read_exists, read_changed}
+use Rattle.rt_store.proofs.Refusals.{read_exists, read_changed}
 
 abbrev fault : ReplyStatus
 fault = status.Failed cause.StoreFault

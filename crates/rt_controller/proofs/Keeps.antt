@@ -22,7 +22,8 @@ use Rattle.rt_controller.specs.Controller.{Controlling, Working, machine_place, 
 use Rattle.rt_controller.specs.IsController.{IsAt, IsJob, IsMachine, IsController}
 use Rattle.rt_controller.specs.Job.{Stepping, job_call, job_step, commits}
 use Rattle.rt_controller.specs.Steps.{Works}
-use Rattle.rt_controller.proofs.Going.{GoesOn, goes_same, goes_idle, goes_made}
+use Rattle.rt_store.proofs.GoingOn.{GoesOn, goes_same}
+use Rattle.rt_controller.proofs.Going.{goes_idle, goes_made}
 use Rattle.rt_controller.proofs.KeepsJobs.{read_on, at_on, keeps_stage}
 use Rattle.rt_controller.proofs.Making.{makes_some}
 use Rattle.rt_controller.proofs.MayStep.{may_step}

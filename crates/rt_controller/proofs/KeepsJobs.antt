@@ -1,6 +1,5 @@
 -- What a job remembers stays so, through each of its steps and as more is seen.
 use Rattle.std.proofs.Common.{◌≡◌, ℕ, ◌+◌, ◌<◌, Bool, true, false, cond, List, [], ◌∷◌, ◌++◌, Option, Some, None, Result, Ok, Err, nat_lt, length, refl, sym, ◌∙◌, ap, subst}
-use Rattle.rt_base.proofs.Planned.{without_fault}
 use Rattle.rt_base.specs.declared.header.Header.{Header}
 use Rattle.rt_base.specs.declared.numbers.Moment.{Moment}
 use Rattle.rt_base.specs.declared.numbers.Offset.{Offset}
@@ -24,7 +23,6 @@ use Rattle.rt_model.specs.declared.reply.FailCause.TheVariants as cause
 use Rattle.rt_model.specs.declared.reply.ReplyStatus.{ReplyStatus}
 use Rattle.rt_model.specs.declared.reply.ReplyStatus.TheVariants as status
 use Rattle.rt_model.specs.Entries.{entries_by}
-use Rattle.rt_model.specs.History.{value_of}
 use Rattle.rt_model.specs.Lawful.{set, create_after, written_by, IsLawfulHistory}
 use Rattle.rt_model.specs.Metadata.{IsCreated}
 use Rattle.rt_model.specs.Starting.{Starting}
@@ -33,10 +31,9 @@ use Rattle.rt_deep.specs.declared.refused.DeepRefused.{DeepRefused}
 use Rattle.rt_deep.specs.declared.refused.DeepRefused.TheVariants as deep
 use Rattle.rt_store.specs.declared.refused.StoreRefused.{StoreRefused}
 use Rattle.rt_store.specs.declared.refused.StoreRefused.TheVariants.{NoNode, Exists, VersionChanged, Failed, Memory}
-use Rattle.rt_store.specs.Answers.{reading}
 use Rattle.rt_store.specs.Calls.{Reads, SetsFrom, CreatesAfter}
 use Rattle.rt_store.specs.Meaning.{Meaning}
-use Rattle.rt_store.proofs.Seeing.{read_seen, found_value}
+use Rattle.rt_store.proofs.Seeing.{read_seen}
 use Rattle.rt_store.proofs.Told.{answered_took}
 use Rattle.rt_controller.specs.declared.job.JobStage.{JobStage}
 use Rattle.rt_controller.specs.declared.job.JobStage.TheVariants as stage
@@ -46,8 +43,8 @@ use Rattle.rt_controller.specs.Assignment.{Assigned}
 use Rattle.rt_controller.specs.Calls.{Makes, DeepMeaning}
 use Rattle.rt_controller.specs.IsController.{IsRead, IsSetDone, IsNextThere, IsWork, IsCommitting, IsAt}
 use Rattle.rt_controller.specs.Job.{Stepping, goes, ends, meta_in, header_in, is_wanted, commit_of, bad, checked, after_get, done_node, done_write, after_done, next_key, next_node, after_next, changes, success, after_read, after_set, call_at, step_at}
-use Rattle.rt_controller.proofs.Going.{GoesOn}
-use Rattle.rt_controller.proofs.Refusals.{next_present}
+use Rattle.rt_store.proofs.GoingOn.{GoesOn, read_is}
+use Rattle.rt_store.proofs.Refusals.{next_present}
 
 -- ---- as more is seen
 
@@ -203,10 +200,7 @@ pub ideal_read : (st : Starting) (s t : Meaning) (ideal : Seen) → GoesOn st s 
     → (i : IdealState) × (ideal.node ≡ node.Ideal i)
 ideal_read st s t ideal g c =
     let there = has_ideal_state st t.seen g.lawful in
-    let told = without_fault Failed c.fault (reading key.Ideal c.base) (Ok ideal) c.base c.base t.seen (λ e. cc) c.goes.answered c.goes.seen in
-    let is : value_of t.seen key.Ideal ≡ Some ideal =
-    ap (λ h. value_of h key.Ideal) told.1 ∙ found_value (value_of c.base key.Ideal) ideal told.0 in
-    let same : there.0 ≡ ideal = same_write there.0 ideal (sym there.2 ∙ is) in
+    let same : there.0 ≡ ideal = same_write there.0 ideal (sym there.2 ∙ read_is s t key.Ideal ideal c) in
     (there.1, ap (λ (w : Seen). w.node) (sym same) ∙ there.3)
 
 keeps_read : (st : Starting) (s t : Meaning) (q : Asked) (w : Work) (found : List ℕ) (answer : Result Seen StoreRefused) (x : Stepping)

@@ -1,8 +1,8 @@
 -- What a controller remembers stays so, through each request.
-use Rattle.std.proofs.Common.{◌≡◌, ℕ, ◌<◌, ◌==◌, not, nat_le, Bool, true, false, cond, List, [], ◌∷◌, ◌++◌, Option, Some, None, Result, Ok, Err, refl, sym, subst}
+use Rattle.std.proofs.Common.{◌≡◌, ℕ, ◌<◌, ◌==◌, not, nat_le, Bool, true, false, cond, List, [], ◌∷◌, ◌++◌, Option, Some, None, Result, Ok, Err, refl, sym, ap, subst}
 use Rattle.std.specs.Prelude.{slice_get, slice_set, All}
 use Rattle.std.specs.List.{remove}
-use Rattle.std.proofs.lemmas.Bool.{and_parts, eqb-true, leb-false}
+use Rattle.std.proofs.lemmas.Bool.{and_parts, eqb-true, false≢true, leb-false}
 use Rattle.std.proofs.lemmas.Option.{get_or_from_slice_get}
 use Rattle.std.proofs.lemmas.List.Elements.{All-set, All-push}
 use Rattle.std.proofs.lemmas.List.Quantifiers.{position-Some}
@@ -45,31 +45,40 @@ use Rattle.rt_controller.specs.declared.job.JobStage.{JobStage}
 use Rattle.rt_controller.specs.declared.segment_machine.SegmentMachine.{SegmentMachine}
 use Rattle.rt_controller.specs.Assignment.{is_replica, replicas_in}
 use Rattle.rt_controller.specs.Calls.{Makes, DeepMeaning}
-use Rattle.rt_controller.specs.Controller.{Controlling, Handling, Turn, not_leading, uploads, not_assigned, past_last, has_machine, has_none, is_of, machine_place, by_place, asked_turn, kind_turn, turn_of, call_of, handled_at, after_put, at_machine, after_read, by_node, by_status, opens, first_state, follows, follows_by, leads_to, commit_stage, named_file, named_in, read_write, replaced, added, with_machine, has_ended}
+use Rattle.rt_controller.specs.Controller.{Controlling, Handling, Turn, ask_in, not_leading, uploads, not_assigned, past_last, has_machine, has_none, is_of, machine_place, by_place, asked_turn, kind_turn, turn_of, call_of, handled_at, after_put, at_machine, after_read, by_node, by_status, opens, first_state, follows, follows_by, leads_to, commit_stage, named_file, named_in, read_write, replaced, added, with_machine, has_ended}
 use Rattle.rt_controller.specs.IsController.{IsRead, IsCommitting, IsAt, IsJob, IsMachine, IsController, machine_write}
 use Rattle.rt_controller.specs.Steps.{Handles}
-use Rattle.rt_controller.proofs.Going.{goes_same, goes_idle, goes_read}
+use Rattle.rt_store.proofs.GoingOn.{goes_same, goes_read}
+use Rattle.rt_controller.proofs.Going.{goes_idle}
 use Rattle.rt_controller.proofs.Keeps.{All-remove, controller_on, unchanged}
 use Rattle.rt_controller.proofs.Reacting.{IsOwn, owned}
 
 -- ---- which rule applies
 
 -- what the rules before have told
-abbrev Tells : Controlling → Request → Turn → Type 0
+abbrev pub Tells : Controlling → Request → Turn → Type 0
 Tells c r not_leading = Unit {0}
-Tells c r (uploads path bytes) = Unit {0}
-Tells c r not_assigned = Unit {0}
+Tells c r (uploads path bytes) = r.kind ≡ kind.Upload path bytes
+Tells c r not_assigned = is_replica c.assigned r.partition r.number.instance ≡ false
 Tells c r past_last = Unit {0}
-Tells c r (has_machine place what) = (r.sequence.0 < LAST_NUMBER) × (machine_place c.machines r.partition r.sequence ≡ Some place)
-Tells c r (has_none what) = r.sequence.0 < LAST_NUMBER
+Tells c r (has_machine place what) =
+    (r.sequence.0 < LAST_NUMBER) × (machine_place c.machines r.partition r.sequence ≡ Some place)
+    × (ask_in r.offset r.kind ≡ Some what)
+Tells c r (has_none what) =
+    (r.sequence.0 < LAST_NUMBER) × (machine_place c.machines r.partition r.sequence ≡ None)
+    × (ask_in r.offset r.kind ≡ Some what)
 
 told_place : (c : Controlling) (r : Request) (what : Ask) (o : Option ℕ) → r.sequence.0 < LAST_NUMBER
-    → machine_place c.machines r.partition r.sequence ≡ o → Tells c r (by_place o what)
-told_place c r what None small e = small
-told_place c r what (Some place) small e = (small, e)
+    → ask_in r.offset r.kind ≡ Some what → machine_place c.machines r.partition r.sequence ≡ o → Tells c r (by_place o what)
+told_place c r what None small asks e = (small, e, asks)
+told_place c r what (Some place) small asks e = (small, e, asks)
 
-told_asked : (c : Controlling) (r : Request) (what : Ask) → Tells c r (asked_turn c r what)
-told_asked c r what = by_assigned (not (is_replica c.assigned r.partition r.number.instance))
+is_false : (b : Bool) → not b ≡ true → b ≡ false
+is_false true e = absurd (false≢true e)
+is_false false e = refl
+
+told_asked : (c : Controlling) (r : Request) (what : Ask) → ask_in r.offset r.kind ≡ Some what → Tells c r (asked_turn c r what)
+told_asked c r what asks = by_assigned (not (is_replica c.assigned r.partition r.number.instance)) refl
   where
     rest : Turn
     rest = by_place (machine_place c.machines r.partition r.sequence) what
@@ -77,25 +86,27 @@ told_asked c r what = by_assigned (not (is_replica c.assigned r.partition r.numb
     by_last : (b : Bool) → nat_le LAST_NUMBER r.sequence.0 ≡ b → Tells c r (cond b past_last rest)
     by_last true e = tt
     by_last false e =
-        told_place c r what (machine_place c.machines r.partition r.sequence) (leb-false LAST_NUMBER r.sequence.0 e) refl
+        told_place c r what (machine_place c.machines r.partition r.sequence) (leb-false LAST_NUMBER r.sequence.0 e) asks refl
 
-    by_assigned : (b : Bool) → Tells c r (cond b not_assigned (cond (nat_le LAST_NUMBER r.sequence.0) past_last rest))
-    by_assigned true = tt
-    by_assigned false = by_last (nat_le LAST_NUMBER r.sequence.0) refl
+    by_assigned :
+        (b : Bool) → not (is_replica c.assigned r.partition r.number.instance) ≡ b
+        → Tells c r (cond b not_assigned (cond (nat_le LAST_NUMBER r.sequence.0) past_last rest))
+    by_assigned true e = is_false (is_replica c.assigned r.partition r.number.instance) e
+    by_assigned false e = by_last (nat_le LAST_NUMBER r.sequence.0) refl
 
-told_kind : (c : Controlling) (r : Request) (k : RequestKind) → Tells c r (kind_turn c r k)
-told_kind c r (kind.Upload path bytes) = tt
-told_kind c r (kind.Consumed reason) = told_asked c r _
-told_kind c r kind.Stopped = told_asked c r _
-told_kind c r kind.CommitStart = told_asked c r _
-told_kind c r (kind.CommitEnd path) = told_asked c r _
-told_kind c r (kind.Extend millis) = told_asked c r _
+told_kind : (c : Controlling) (r : Request) (k : RequestKind) → r.kind ≡ k → Tells c r (kind_turn c r k)
+told_kind c r (kind.Upload path bytes) e = e
+told_kind c r (kind.Consumed reason) e = told_asked c r _ (ap (ask_in r.offset) e)
+told_kind c r kind.Stopped e = told_asked c r _ (ap (ask_in r.offset) e)
+told_kind c r kind.CommitStart e = told_asked c r _ (ap (ask_in r.offset) e)
+told_kind c r (kind.CommitEnd path) e = told_asked c r _ (ap (ask_in r.offset) e)
+told_kind c r (kind.Extend millis) e = told_asked c r _ (ap (ask_in r.offset) e)
 
-told_turn : (c : Controlling) (r : Request) → Tells c r (turn_of c r)
+pub told_turn : (c : Controlling) (r : Request) → Tells c r (turn_of c r)
 told_turn c r = by_leading c.leads
   where
     by_leading : (b : Bool) → Tells c r (cond b (kind_turn c r r.kind) not_leading)
-    by_leading true = told_kind c r r.kind
+    by_leading true = told_kind c r r.kind refl
     by_leading false = tt
 
 -- ---- what follows of a reaction
@@ -145,19 +156,19 @@ still_machine st seen m n e k =
     (record { key = key.Meta m.partition m.sequence; version = x.version; node = node.Meta x.meta }) in
     record { within = k.within; small = k.small; read = subst P (sym e) k.read }
 
-keeps_replaced : (st : Starting) (seen : List Seen) (ms : List SegmentMachine) (place : ℕ) (m : SegmentMachine)
-    → All (IsMachine st seen) ms → IsMachine st seen m → All (IsMachine st seen) (replaced ms place m)
-keeps_replaced st seen ms place m k is = by_end (has_ended m.machine.state)
+pub All-replaced : (P : SegmentMachine → Type 0) (ms : List SegmentMachine) (place : ℕ) (m : SegmentMachine)
+    → All P ms → P m → All P (replaced ms place m)
+All-replaced P ms place m k is = by_end (has_ended m.machine.state)
   where
-    put : All (IsMachine st seen) (slice_set ms place m)
-    put = All-set (IsMachine st seen) ms place m is k
+    put : All P (slice_set ms place m)
+    put = All-set P ms place m is k
 
-    by_end : (b : Bool) → All (IsMachine st seen) (cond b (remove (slice_set ms place m) place) (slice_set ms place m))
-    by_end true = All-remove (IsMachine st seen) (slice_set ms place m) place put
+    by_end : (b : Bool) → All P (cond b (remove (slice_set ms place m) place) (slice_set ms place m))
+    by_end true = All-remove P (slice_set ms place m) place put
     by_end false = put
 
 -- the machine at a place is the segment's
-its_machine : (ms : List SegmentMachine) (p : Partition) (s : Sequence) (place : ℕ) (m : SegmentMachine)
+pub its_machine : (ms : List SegmentMachine) (p : Partition) (s : Sequence) (place : ℕ) (m : SegmentMachine)
     → machine_place ms p s ≡ Some place → slice_get ms place ≡ Some m → (m.partition ≡ p) × (m.sequence ≡ s)
 its_machine ms p s place m e at =
     let found = position-Some (is_of p s) ms place m e in
@@ -188,7 +199,7 @@ keeps_machine st seen c r now place what m within small k found at =
     (record {
       assigned = k.assigned;
       lawful = k.lawful;
-      machines = keeps_replaced st seen c.machines place (with_machine m x.1) k.machines (still_machine st seen m x.1 own.seen is);
+      machines = All-replaced (IsMachine st seen) c.machines place (with_machine m x.1) k.machines (still_machine st seen m x.1 own.seen is);
       jobs = k.jobs;
     })
     (is_start seen r m.machine x.0 own.own (read_by seen r m its.0 its.1 is.read))
@@ -213,15 +224,14 @@ keeps_slot st seen c r now place what (Some m) x within small k found at e =
 
 -- ---- a segment without a machine
 
-keeps_added : (st : Starting) (seen : List Seen) (ms : List SegmentMachine) (m : SegmentMachine)
-    → All (IsMachine st seen) ms → IsMachine st seen m → All (IsMachine st seen) (added ms m)
-keeps_added st seen ms m k is = by_end (has_ended m.machine.state)
+pub All-added : (P : SegmentMachine → Type 0) (ms : List SegmentMachine) (m : SegmentMachine) → All P ms → P m → All P (added ms m)
+All-added P ms m k is = by_end (has_ended m.machine.state)
   where
-    by_end : (b : Bool) → All (IsMachine st seen) (cond b ms (ms ++ m ∷ []))
+    by_end : (b : Bool) → All P (cond b ms (ms ++ m ∷ []))
     by_end true = k
-    by_end false = All-push (IsMachine st seen) ms m k is
+    by_end false = All-push P ms m k is
 
-abbrev made : Request → Completion → SegmentMachine
+abbrev pub made : Request → Completion → SegmentMachine
 made r n = record { partition = r.partition; sequence = r.sequence; machine = n }
 
 is_made : (st : Starting) (seen : List Seen) (r : Request) (m : SeenMeta) (n : Completion)
@@ -242,7 +252,7 @@ keeps_opens st seen c r now what m within small k read =
     (record {
       assigned = k.assigned;
       lawful = k.lawful;
-      machines = keeps_added st seen c.machines (made r x.1) k.machines (is_made st seen r m x.1 within small own.seen read);
+      machines = All-added (IsMachine st seen) c.machines (made r x.1) k.machines (is_made st seen r m x.1 within small own.seen read);
       jobs = k.jobs;
     })
     (is_start seen r n x.0 own.own read)
@@ -268,7 +278,7 @@ keeps_node st seen c r now what version (node.Ideal i) within small k has = k
 keeps_node st seen c r now what version node.Boot within small k has = k
 keeps_node st seen c r now what version node.Gone within small k has = k
 
-has_at : (seen : List Seen) (r : Request) (w : Seen) → Has seen w → w.key ≡ key.Meta r.partition r.sequence → Has seen (write_at r w.version w.node)
+pub has_at : (seen : List Seen) (r : Request) (w : Seen) → Has seen w → w.key ≡ key.Meta r.partition r.sequence → Has seen (write_at r w.version w.node)
 has_at seen r w has e =
     let P : Key → Type 0 = λ k. Has seen (record { key = k; version = w.version; node = w.node }) in
     subst P e has
@@ -312,7 +322,7 @@ keeps_turn st s t d e c r now (has_machine place what) x within k told m =
     keeps_slot st t.seen c r now place what (slice_get c.machines place) x within told.0
     (controller_on st s t c (goes_same st s t k.lawful m.0) k) told.1 refl m.2
 keeps_turn st s t d e c r now (has_none what) x within k told (answer, read, same, is) =
-    keeps_read st s t c r now what answer x within told
+    keeps_read st s t c r now what answer x within told.0
     (controller_on st s t c (goes_read st s t (key.Meta r.partition r.sequence) answer k.lawful read) k) read is
 
 pub keeps_request :

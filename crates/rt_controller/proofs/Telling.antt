@@ -78,7 +78,7 @@ filed t u answer after result go y none c e = by_cases (deep_seeing.told_exact t
     by_cases (inr x) = (x.1, ap go (sym x.0) ∙ e)
 
 -- nothing is made where memory ran out in the call
-abbrev RunsOut : {Y : Type 0} → (Answer → Option Y) → Call → Type 0
+abbrev pub RunsOut : {Y : Type 0} → (Answer → Option Y) → Call → Type 0
 RunsOut f calls_nothing = Unit {0}
 RunsOut f (puts path bytes) = f (put (Err deep.Memory)) ≡ None
 RunsOut f (gets path) = f (got (Err deep.Memory)) ≡ None
@@ -112,7 +112,7 @@ told_call t u d e (creates k n prior) f y none (answer, c, same, p) =
 
 -- ---- a request
 
-out_turn : (c : Controlling) (r : Request) (now : Moment) (turn : Turn) → RunsOut (handled_at c r now turn) (call_of r turn)
+pub out_turn : (c : Controlling) (r : Request) (now : Moment) (turn : Turn) → RunsOut (handled_at c r now turn) (call_of r turn)
 out_turn c r now not_leading = tt
 out_turn c r now (uploads path bytes) = refl
 out_turn c r now not_assigned = tt
@@ -151,7 +151,7 @@ out_slot c now place None = tt
 out_slot c now place (Some j) =
     out_worked c place j (job_step j now) (job_call c.assigned j now) (out_stage c.assigned j.asked now j.stage)
 
-out_place : (c : Controlling) (now : Moment) (o : Option ℕ) → RunsOut (λ a. work_on c now a o) (work_call_on c now o)
+pub out_place : (c : Controlling) (now : Moment) (o : Option ℕ) → RunsOut (λ a. work_on c now a o) (work_call_on c now o)
 out_place c now None = tt
 out_place c now (Some place) = out_slot c now place (slice_get c.jobs place)
 

@@ -1,5 +1,5 @@
 -- What is true of the whole life of a job.
-use Rattle.std.specs.Prelude.{◌≡◌, ℕ, ◌⊎◌, Bool, true, false, List, [], ◌∷◌, Option, Some, None}
+use Rattle.std.specs.Prelude.{◌≡◌, ℕ, ◌<◌, ◌-◌, ◌*◌, ◌⊎◌, Bool, true, false, List, [], ◌∷◌, length, Option, Some, None}
 use Rattle.rt_base.specs.declared.header.Header.{Header}
 use Rattle.rt_base.specs.declared.numbers.Moment.{Moment}
 use Rattle.rt_model.specs.declared.asked.Asked.{Asked}
@@ -10,6 +10,7 @@ use Rattle.rt_model.specs.declared.reply.ReplyStatus.{ReplyStatus}
 use Rattle.rt_model.specs.declared.reply.ReplyStatus.TheVariants as status
 use Rattle.rt_model.specs.declared.seg_meta.SeenMeta.{SeenMeta}
 use Rattle.rt_controller.specs.declared.job.JobStage.{JobStage}
+use Rattle.rt_controller.specs.declared.job.JobStage.TheVariants as stage
 use Rattle.rt_controller.specs.Calls.{Answer}
 use Rattle.rt_controller.specs.Job.{Stepping, step_at}
 
@@ -23,6 +24,24 @@ abbrev pub GoesOn : Asked → JobStage → List Move → JobStage → Type 0
 GoesOn q from [] to = from ≡ to
 GoesOn q from (m ∷ ms) to =
     (x : Stepping) × (step_at q m.now from m.answer ≡ Some x) × (x.did.status ≡ None) × GoesOn q x.stage ms to
+
+-- a job that hasn't ended has found fewer than ten other versions
+abbrev pub IsTrying : JobStage → Type 0
+IsTrying (stage.Check from end path) = Unit {0}
+IsTrying (stage.Done from commit) = Unit {0}
+IsTrying (stage.Next done) = Unit {0}
+IsTrying (stage.IdealRead w found) = length found < 10
+IsTrying (stage.IdealSet w found ideal) = length found < 10
+IsTrying stage.Ended = ⊥
+
+-- how many steps it has left at most
+abbrev pub steps_left : JobStage → ℕ
+steps_left (stage.Check from end path) = 23
+steps_left (stage.Done from commit) = 22
+steps_left (stage.Next done) = 21
+steps_left (stage.IdealRead w found) = 2 * (10 - length found)
+steps_left (stage.IdealSet w found ideal) = 2 * (10 - length found) - 1
+steps_left stage.Ended = 0
 
 -- a job that commits answers COMMIT_SUCCESS, and one that turns an instance OFFLINE answers PROCESSED
 abbrev pub IsSuccess : Bool → ReplyStatus → Type 0

@@ -6,6 +6,8 @@ pub mod Controller
 pub mod Found
 pub mod IsController
 pub mod Job
+pub mod Lasting
 pub mod Laws
+pub mod Right
 pub mod Steps
 pub mod Told

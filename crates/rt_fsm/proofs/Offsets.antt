@@ -161,6 +161,40 @@ offsets_stay_within seen replicas state made messages limit p c few =
     (λ message q. λ x r e past. (past, at_most_when limit x r message.ask q e)) messages few)
     c (keeps_first (IsWithin seen.meta.start limit) seen replicas state made p))
 
+-- One message.
+
+-- a machine's offsets are within the limit, and its segment and its replicas are another one's
+pub record StaysWithin (limit : ℕ) (m n : Completion) : Type 0 where
+  pub within : HasOffsetsWithin limit n
+  pub seen : n.seen ≡ m.seen
+  pub replicas : instances n.reporters ≡ instances m.reporters
+
+note_has : (start : Offset) (limit : ℕ) (o : Option Offset) → IsNoteWithin start limit o → NoteHas (IsWithin start limit) o
+note_has start limit None p = p
+note_has start limit (Some x) p = p
+
+keeps_within : (limit : ℕ) (m : Completion) → HasOffsetsWithin limit m → Keeps (IsWithin m.seen.meta.start limit) m.seen (instances m.reporters) m
+keeps_within limit m k = record {
+  notes = All-weaker (λ r. IsNoteWithin m.seen.meta.start limit r.note) (λ r. NoteHas (IsWithin m.seen.meta.start limit) r.note)
+      (λ r q. note_has m.seen.meta.start limit r.note q) m.reporters k.notes;
+  offset = k.offset;
+  segment = refl;
+  replicas = refl;
+}
+
+pub offsets_kept : (limit : ℕ) (m : Completion) (i : Instance) (ask : Ask) (now : Moment) → ReportsAtMost limit ask
+    → Contains (instances m.reporters) i → HasOffsetsWithin limit m → StaysWithin limit m (react m i ask now).1
+offsets_kept limit m i ask now few c k =
+    let P : Offset → Type 0 = IsWithin m.seen.meta.start limit in
+    let a : Keeps P m.seen (instances m.reporters) (react m i ask now).1 =
+    kept P m.seen (instances m.reporters) m i ask now (λ x r e past. (past, at_most_when limit x r ask few e)) c (keeps_within limit m k) in
+    record { within = within m.seen (instances m.reporters) limit (react m i ask now).1 a; seen = a.segment; replicas = a.replicas }
+
+pub first_within : (limit : ℕ) (seen : SeenMeta) (replicas : List Instance) (state : MachineState) (made : Moment) → IsBeforePick state
+    → HasOffsetsWithin limit (first seen replicas state made)
+first_within limit seen replicas state made p =
+    within seen replicas limit (first seen replicas state made) (keeps_first (IsWithin seen.meta.start limit) seen replicas state made p)
+
 -- A timely CommitEnd.
 
 cond_true : {X : Type 0} (b : Bool) (x y : X) → b ≡ true → cond b x y ≡ x
@@ -180,7 +214,7 @@ taken m =
     cond_true (m.winner.0 == m.winner.0) (cond (m.offset.0 == m.offset.0) (StartCommit m.offset, goes m Committing) (wrong_offset m m.offset)) (not_committer m) (eq-eqb m.winner.0 m.winner.0 refl)
     ∙ cond_true (m.offset.0 == m.offset.0) (StartCommit m.offset, goes m Committing) (wrong_offset m m.offset) (eq-eqb m.offset.0 m.offset.0 refl)
 
-starts : (m : Completion) (now : Moment) → m.seen.meta.start.0 < m.offset.0 → StartsItsJob m now
+pub starts : (m : Completion) (now : Moment) → m.seen.meta.start.0 < m.offset.0 → StartsItsJob m now
 starts m now past e time =
     let in_time : is_late m now ≡ false = and_false (has_deadline m.state) (nat_lt m.deadline.0 now.0) (le-ltb m.deadline.0 now.0 time) in
     let above : nat_le m.offset.0 m.seen.meta.start.0 ≡ false = lt-leb m.offset.0 m.seen.meta.start.0 past in

@@ -98,3 +98,8 @@ bounded c replication e =
       enough = leb-true _ _ both.1;
       start = leb-true _ _ m.0;
     }
+
+-- a cluster that goes beyond no limit has few nodes and partitions
+pub few_nodes : (c : Cluster) (replication : ℕ) → cluster_fault c replication ≡ None →
+    (c.servers ≤ MOST_SERVERS) × (c.controllers ≤ MOST_CONTROLLERS) × (c.partitions ≤ MOST_PARTITIONS)
+few_nodes c replication e = let b = bounded c replication e in (b.servers.1, b.controllers.1, b.partitions.1)

@@ -15,7 +15,7 @@ use Rattle.rt_lines.specs.declared.line_reason.LineReason.{LineReason}
 use Rattle.rt_lines.specs.declared.line_reason.LineReason.TheVariants.{BadLine, Schema as BadSchema, Table as BadTable}
 use Rattle.rt_lines.specs.declared.play_fault.PlayFault.{PlayFault}
 use Rattle.rt_lines.specs.declared.play_fault.PlayFault.TheVariants.{Refused, Memory, Limit}
-use Rattle.rt_lines.specs.Cluster.{cluster_of, cluster_fault, is_single, is_within}
+use Rattle.rt_lines.specs.Cluster.{cluster_of, cluster_fault, is_within}
 use Rattle.rt_lines.specs.Lines.{ScriptLines}
 use Rattle.rt_lines.specs.Header.{NumberedLine, then_ok, numbered_fault, refused_by, if_taken, text_behind, if_well_formed, schema_at, table_at, setup_of, setup_with, setup_at, with_rest, next_line, header_of}
 
@@ -99,13 +99,9 @@ limits_other c replication =
     (first_limit (not (nat_le replication MOST_REPLICATION && nat_le replication c.servers)) Replication _ replication_other
     (first_limit (not (nat_le c.start LAST_MOMENT)) Moment None moment_other tt))))
 
-single_other : (test : Bool) (setup : Setup) (line : ℕ) → IfErr (if test then Ok setup else Err (Refused line BadLine)) IsOther
-single_other true setup line = tt
-single_other false setup line = refused_other line BadLine
-
 with_other : (schema : Schema) (table : Table) (line : ℕ) (c : Cluster) (o : Option Which) → IsOtherLimit o → IfErr (setup_with schema table line c o) IsOther
 with_other schema table line c (Some which) h = limit_other which h
-with_other schema table line c None h = single_other (is_single c table.replication) (setup_of schema table c) line
+with_other schema table line c None h = tt
 
 setup_other : (schema : Schema) (table : Table) (line : NumberedLine) → IfErr (setup_at schema table line) IsOther
 setup_other schema table line =

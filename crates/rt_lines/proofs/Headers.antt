@@ -1,4 +1,4 @@
-use Rattle.std.proofs.Common.{◌≡◌, ℕ, Bool, true, false, List, [], ◌∷◌, Option, Some, None, Result, Ok, Err, refl, ap, sym, ◌∙◌, subst, arith, eqb, eqb-true}
+use Rattle.std.proofs.Common.{◌≡◌, ℕ, Bool, true, false, List, [], ◌∷◌, Option, Some, None, Result, Ok, Err, refl, ap, sym, ◌∙◌, subst}
 use Rattle.std.specs.Prelude.{IfOk, IfSome, cond, codes, ◌&&◌}
 use Rattle.std.specs.Str.{IsUtf8, is_utf8}
 use Rattle.std.proofs.lemmas.Str.{IsUtf8-from_is_utf8, is_utf8-from_IsUtf8}
@@ -13,7 +13,6 @@ use Rattle.rt_schema.specs.TableText.{table_of, IsTable}
 use Rattle.rt_schema.proofs.Schemas.{answered_is_schema}
 use Rattle.rt_schema.proofs.Tables.{answered_is_table}
 use Rattle.rt_model.specs.declared.setup.Setup.{Setup}
-use Rattle.rt_model.specs.FirstCluster.{IsFirstCluster}
 use Rattle.rt_model.specs.Setup.{IsSetup}
 use Rattle.rt_lines.proofs.Clusters.{HasFormat, IsBounded, bounded, cluster_has}
 use Rattle.rt_lines.specs.declared.cluster.Cluster.{Cluster}
@@ -182,41 +181,27 @@ setup_taken schema table c is has format within = record {
   last_format = format.1;
 }
 
-single_at : (schema : Schema) (table : Table) (line : ℕ) (c : Cluster) (s k p r : Bool) → eqb c.servers 1 ≡ s → eqb c.controllers 1 ≡ k → eqb c.partitions 1 ≡ p → eqb table.replication 1 ≡ r →
-    IsSetup (setup_of schema table c) → IfOk (cond (((s && k) && p) && r) (Ok (setup_of schema table c)) (Err (Refused line BadLine))) IsFirstCluster
-single_at schema table line c true true true true s k p r is = record {
-  taken = is;
-  servers = eqb-true c.servers 1 s;
-  controllers = eqb-true c.controllers 1 k;
-  partitions = eqb-true c.partitions 1 p;
-  replication = eqb-true table.replication 1 r;
-}
-single_at schema table line c true true true false s k p r is = tt
-single_at schema table line c true true false r' s k p r is = tt
-single_at schema table line c true false p' r' s k p r is = tt
-single_at schema table line c false k' p' r' s k p r is = tt
-
 with_has : (schema : Schema) (table : Table) (line : ℕ) (c : Cluster) (o : Option Which) → cluster_fault c table.replication ≡ o → IsSchema schema → IsTable schema table → HasFormat c →
-    IfOk (setup_with schema table line c o) IsFirstCluster
+    IfOk (setup_with schema table line c o) IsSetup
 with_has schema table line c (Some which) e is has format = tt
 with_has schema table line c None e is has format =
-    single_at schema table line c _ _ _ _ refl refl refl refl (setup_taken schema table c is has format (bounded c table.replication e))
+    setup_taken schema table c is has format (bounded c table.replication e)
 
-setup_has : (schema : Schema) (table : Table) → IsSchema schema → IsTable schema table → (line : NumberedLine) → IfOk (setup_at schema table line) IsFirstCluster
+setup_has : (schema : Schema) (table : Table) → IsSchema schema → IsTable schema table → (line : NumberedLine) → IfOk (setup_at schema table line) IsSetup
 setup_has schema table is has line =
-    well_formed_given IsFirstCluster HasFormat line.0 (cluster_of line.1) (λ c. setup_with schema table line.0 c (cluster_fault c table.replication)) (cluster_has line.1)
+    well_formed_given IsSetup HasFormat line.0 (cluster_of line.1) (λ c. setup_with schema table line.0 c (cluster_fault c table.replication)) (cluster_has line.1)
     (λ c format. with_has schema table line.0 c (cluster_fault c table.replication) refl is has format)
 
-header_has : (script : ScriptLines) → IfOk (header_of script) (λ x. IsFirstCluster x.0)
+header_has : (script : ScriptLines) → IfOk (header_of script) (λ x. IsSetup x.0)
 header_has script =
-    then_has (λ x. IsFirstCluster x.0) (λ x. IsSchema x.0) (next_line schema_at script.after script.lines) (behind_schema script.after) (next_has IsSchema schema_at script.after script.lines schema_has)
-    (λ schema is. then_has (λ x. IsFirstCluster x.0) (λ x. IsTable schema.0 x.0) (next_line (table_at schema.0) script.after schema.1) (behind_table schema.0 script.after) (next_has (IsTable schema.0) (table_at schema.0) script.after schema.1 (table_has schema.0))
-    (λ table has. next_has IsFirstCluster (setup_at schema.0 table.0) script.after table.1 (setup_has schema.0 table.0 is has)))
+    then_has (λ x. IsSetup x.0) (λ x. IsSchema x.0) (next_line schema_at script.after script.lines) (behind_schema script.after) (next_has IsSchema schema_at script.after script.lines schema_has)
+    (λ schema is. then_has (λ x. IsSetup x.0) (λ x. IsTable schema.0 x.0) (next_line (table_at schema.0) script.after schema.1) (behind_table schema.0 script.after) (next_has (IsTable schema.0) (table_at schema.0) script.after schema.1 (table_has schema.0))
+    (λ table has. next_has IsSetup (setup_at schema.0 table.0) script.after table.1 (setup_has schema.0 table.0 is has)))
 
 -- a setup that a header says is one that is taken
-pub header_taken : (script : ScriptLines) (setup : Setup) (lines : List NumberedLine) → header_of script ≡ Ok (setup, lines) → IsFirstCluster setup
-header_taken script setup lines e = subst (λ r. IfOk r (λ x. IsFirstCluster x.0)) e (header_has script)
+pub header_taken : (script : ScriptLines) (setup : Setup) (lines : List NumberedLine) → header_of script ≡ Ok (setup, lines) → IsSetup setup
+header_taken script setup lines e = subst (λ r. IfOk r (λ x. IsSetup x.0)) e (header_has script)
 
-pub reads_taken : (old new : ScriptLines) (result : Result Setup PlayFault) → ReadsHeader old new result → IfOk result IsFirstCluster
+pub reads_taken : (old new : ScriptLines) (result : Result Setup PlayFault) → ReadsHeader old new result → IfOk result IsSetup
 reads_taken old new (Ok setup) h = header_taken old setup new.lines h.0
 reads_taken old new (Err fault) h = tt

@@ -79,7 +79,3 @@ cluster_fault c replication =
     (if not (is_within 1 MOST_PARTITIONS c.partitions) then Some Partitions else
     (if not (nat_le replication MOST_REPLICATION && nat_le replication c.servers) then Some Replication else
     (if not (nat_le c.start LAST_MOMENT) then Some Moment else None))))
-
--- so far a cluster has one server, one controller, one partition and one replica of each segment
-abbrev pub is_single : Cluster → ℕ → Bool
-is_single c replication = ((c.servers == 1 && c.controllers == 1) && c.partitions == 1) && replication == 1

@@ -14,7 +14,7 @@ use Rattle.rt_lines.specs.declared.line_reason.LineReason.{LineReason}
 use Rattle.rt_lines.specs.declared.line_reason.LineReason.TheVariants.{BadLine, Schema as BadSchema, Table as BadTable}
 use Rattle.rt_lines.specs.declared.play_fault.PlayFault.{PlayFault}
 use Rattle.rt_lines.specs.declared.play_fault.PlayFault.TheVariants.{Usage, Refused, ReadFault, WriteFault, Memory, Limit}
-use Rattle.rt_lines.specs.Cluster.{cluster_of, cluster_fault, is_single}
+use Rattle.rt_lines.specs.Cluster.{cluster_of, cluster_fault}
 use Rattle.rt_lines.specs.Lines.{ScriptLines}
 use Rattle.rt_lines.specs.Words.{then_some, after_prefix}
 
@@ -68,10 +68,10 @@ setup_of schema table c = record {
   format = c.options.format;
 }
 
--- a cluster beyond no limit; of those only one with a single node of each kind is taken so far
+-- a cluster beyond no limit
 abbrev pub setup_with : Schema → Table → ℕ → Cluster → Option Which → Result Setup PlayFault
 setup_with schema table line c (Some which) = Err (Limit which)
-setup_with schema table line c None = if is_single c table.replication then Ok (setup_of schema table c) else Err (Refused line BadLine)
+setup_with schema table line c None = Ok (setup_of schema table c)
 
 abbrev pub setup_at : Schema → Table → NumberedLine → Result Setup PlayFault
 setup_at schema table line = if_well_formed line.0 (cluster_of line.1) (λ c. setup_with schema table line.0 c (cluster_fault c table.replication))

@@ -35,3 +35,10 @@ number_up_to most word = if is_numeral word && nat_le (digits_value 10 word) mos
 -- a number of a script fits 64 bits
 abbrev pub number_of : List ℕ → Option ℕ
 number_of word = number_up_to 18446744073709551615 word
+
+-- the number that a program's word writes: at most 20 decimal digits as they stand, leading zeros included
+abbrev pub word_number : List ℕ → Option ℕ
+word_number word =
+    if (nat_lt 0 (length word) && nat_le (length word) 20) && list_all is_ascii_digit word
+    then (if nat_le (digits_value 10 word) 18446744073709551615 then Some (digits_value 10 word) else None)
+    else None

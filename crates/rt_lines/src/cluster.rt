@@ -5,7 +5,6 @@ ghost use Rattle.rt_lines.specs.Cluster.{
   end_of,
   field_of,
   format_of,
-  is_single,
   next_field,
   options_of,
 };
@@ -75,13 +74,6 @@ pub(crate) fn beyond(cluster: Cluster, replication: u32) -> Option<Which>
         return Some(Which::Moment);
     }
     None
-}
-
-/// Whether a cluster has one node of each kind, one partition and one replica of each segment.
-pub(crate) fn is_single(cluster: Cluster, replication: u32) -> bool
-    ensures { result ≡ is_single cluster replication }
-{
-    cluster.servers == 1 && cluster.controllers == 1 && cluster.partitions == 1 && replication == 1
 }
 
 // The grace, and the options behind it.

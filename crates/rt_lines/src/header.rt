@@ -1,5 +1,5 @@
-ghost use Rattle.std.specs.Prelude.{◌≡◌, ◌<◌, ◌^◌, Some, None, IfOk, IfSome, IfNone, OnErr, OnOk, length};
-ghost use Rattle.rt_model.specs.FirstCluster.{IsFirstCluster};
+ghost use Rattle.std.specs.Prelude.{◌≡◌, ◌<◌, ◌≤◌, ◌^◌, Some, None, IfOk, IfSome, IfNone, OnErr, OnOk, length};
+ghost use Rattle.rt_model.specs.Setup.{IsSetup};
 ghost use Rattle.rt_lines.specs.declared.line_reason.LineReason.TheVariants.{Schema as BadSchema, Table as BadTable};
 ghost use Rattle.rt_lines.specs.Header.{
   Reads,
@@ -14,10 +14,11 @@ ghost use Rattle.rt_lines.specs.Header.{
   text_behind,
 };
 
-use crate::cluster::{Cluster, beyond, is_single, read_cluster};
+use crate::cluster::{Cluster, beyond, read_cluster};
 use crate::parts::after_prefix;
 use crate::{LineReason, Lines, PlayFault};
 use rt_base::Moment;
+use rt_base::limits::{MOST_CONTROLLERS, MOST_PARTITIONS, MOST_SERVERS};
 use rt_model::Setup;
 use rt_schema::{Schema, SchemaRefused, Table, read_schema, read_table};
 use std::alloc::Global;
@@ -25,11 +26,10 @@ use std::alloc::Global;
 /// Reads the three header lines: the schema, the table and the cluster. The first of them that is
 /// missing or outside the grammar, or whose text is refused or goes beyond a limit, ends the reading. A
 /// line that is missing has the number after the last line. Where the header is refused, or memory runs
-/// out, the lines are as they were. So far a cluster has one server, one controller, one partition and
-/// one replica of each segment; others within the limits are refused as lines outside the grammar are.
+/// out, the lines are as they were.
 pub fn read_header(alloc: Global, lines: &mut Lines<'_>) -> Result<Setup, PlayFault>
     ensures reads { ReadsHeader lines.old lines.new result }
-    ensures taken { IfOk result IsFirstCluster }
+    ensures taken { IfOk result IsSetup }
     ensures refused { OnErr result (lines.new ≡ lines.old) }
     ensures few { OnOk result (length lines.new.lines < 2 ^ 64) }
 {
@@ -41,7 +41,7 @@ pub fn read_header(alloc: Global, lines: &mut Lines<'_>) -> Result<Setup, PlayFa
 
 fn read_lines(alloc: Global, lines: &mut Lines<'_>) -> Result<Setup, PlayFault>
     ensures reads { ReadsHeader lines.old lines.new result }
-    ensures taken { IfOk result IsFirstCluster }
+    ensures taken { IfOk result IsSetup }
     ensures few { length lines.new.lines < 2 ^ 64 }
 {
     let schema = read_schema_line(alloc, lines)?;
@@ -117,6 +117,7 @@ fn table(alloc: Global, number: u64, line: &[u8], schema: &Schema) -> Result<Tab
 }
 
 // What a schema and a table make with the cluster of a line.
+#[tactic(auto, using(crate::proofs::Clusters::few_nodes))]
 fn setup(schema: Schema, table: Table, number: u64, line: &[u8]) -> Result<Setup, PlayFault>
     ensures { Says (setup_at schema table (number, line.now)) result }
 {
@@ -126,16 +127,11 @@ fn setup(schema: Schema, table: Table, number: u64, line: &[u8]) -> Result<Setup
     if let Some(which) = beyond(cluster, table.replication) {
         return Err(PlayFault::Limit(which));
     }
-    if !is_single(cluster, table.replication) {
-        return Err(bad_line(number));
-    }
     Ok(setup_of(schema, table, cluster))
 }
 
 fn setup_of(schema: Schema, table: Table, cluster: Cluster) -> Setup
-    requires servers { cluster.servers ≡ 1 }
-    requires controllers { cluster.controllers ≡ 1 }
-    requires partitions { cluster.partitions ≡ 1 }
+    requires { (cluster.servers ≤ MOST_SERVERS) × (cluster.controllers ≤ MOST_CONTROLLERS) × (cluster.partitions ≤ MOST_PARTITIONS) }
     ensures { result ≡ setup_of schema table cluster }
 {
     Setup {

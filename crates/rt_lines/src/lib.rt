@@ -19,6 +19,6 @@ pub use header::read_header;
 pub use laws::cluster_lines_are_what_they_spell;
 pub use line_reason::LineReason;
 pub use lines::Lines;
-pub use numeral::{is_numeral, number_up_to};
+pub use numeral::{is_numeral, number_up_to, word_number};
 pub use parts::{after_prefix, part_at};
 pub use play_fault::PlayFault;

@@ -2,7 +2,7 @@ ghost use Rattle.std.specs.Prelude.{◌≡◌, ◌<◌, true, IfSome, IfNone};
 ghost use Rattle.std.specs.Char.{is_ascii_digit};
 ghost use Rattle.std.specs.List.{list_all};
 ghost use Rattle.std.specs.Str.Parse.{digits_value};
-ghost use Rattle.rt_lines.specs.Words.{is_numeral, number_up_to};
+ghost use Rattle.rt_lines.specs.Words.{is_numeral, number_up_to, word_number};
 
 /// The number that a word writes, at most this one: decimal digits without sign or leading zeros.
 pub fn number_up_to(most: u64, word: &[u8]) -> Option<u64>
@@ -15,6 +15,16 @@ pub fn number_up_to(most: u64, word: &[u8]) -> Option<u64>
         Some(value) if value <= most => Some(value),
         _ => None,
     }
+}
+
+/// The number that a program's word writes: at most 20 decimal digits as they stand, whose value fits 64 bits.
+pub fn word_number(word: &[u8]) -> Option<u64>
+    ensures { result ≡ word_number word.now }
+{
+    if word.is_empty() || word.len() > 20 || !are_digits(word) {
+        return None;
+    }
+    value_of_digits(word)
 }
 
 /// Whether a word is decimal digits without leading zeros.

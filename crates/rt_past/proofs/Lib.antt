@@ -1,5 +1,6 @@
 pub mod Entries
 pub mod Growth
+pub mod Lowest
 pub mod Numbers
 pub mod Paths
 pub mod Reaching

@@ -14,6 +14,9 @@ ghost use Rattle.rt_model.specs.declared.sent.Sent.TheVariants as sent;
 ghost use Rattle.rt_model.specs.declared.setup.Setup.{Setup};
 ghost use Rattle.rt_model.specs.Ideal.{add_consuming_of, commit_step_of, remove_segment_of, set_offline_of};
 ghost use Rattle.rt_model.specs.Lawful.{IsLawful, IsLawfulHistory, Write, written_by};
+ghost use Rattle.rt_model.specs.Chain.{IsPresent, deletions_of};
+ghost use Rattle.rt_model.specs.Entries.{HasEntry, entries_of};
+ghost use Rattle.rt_model.specs.Metadata.{sequences_of};
 ghost use Rattle.rt_model.specs.Setup.{IsSetup};
 ghost use Rattle.rt_msgs.specs.Numbered.{Numbered, number_at};
 ghost use Rattle.rt_assign.specs.Placement.{replicas_of};
@@ -139,4 +142,11 @@ pub fn a_path_has_one_upload()
 pub fn entries_reach_the_last_segment()
     ensures { (setup : Setup) (a : Past) (p : Partition) → IsSetup setup → IsPast setup a → p.0 < setup.partitions
         → ReachesLast a.history p }
+{}
+
+/// A segment that is present and isn't the last one, and that the ideal state has no entry of, is the lowest one.
+pub fn a_segment_without_entries_is_the_lowest()
+    ensures { (setup : Setup) (a : Past) (p : Partition) (q : ℕ) → IsSetup setup → IsPast setup a → p.0 < setup.partitions
+        → IsPresent a.history p q → (HasEntry (entries_of a.history) p q → ⊥) → q + 1 < sequences_of a.history p
+        → q ≡ deletions_of a.history p }
 {}

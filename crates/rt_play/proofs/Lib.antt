@@ -1,7 +1,9 @@
 pub mod Completes
+pub mod Doing
 pub mod Headers
-pub mod Limits
-pub mod Queries
-pub mod Runs
+pub mod Reaching
+pub mod ReachingMacros
+pub mod ScriptRuns
 pub mod Tellings
+pub mod Turns
 pub mod Writes

@@ -1,21 +1,18 @@
-use Rattle.std.proofs.Common.{◌≡◌, ℕ, List, [], ◌∷◌, ◌++◌, length, take, Option, Some, None, Ok, Err, refl, ap, sym, ◌∙◌, subst, arith, append_assoc}
+-- How a report is told, line by line.
+use Rattle.std.proofs.Common.{◌≡◌, ℕ, List, [], ◌∷◌, ◌++◌, length, Option, Some, None, Ok, Err, refl, ap, sym, ◌∙◌, subst, arith, append_assoc}
 use Rattle.std.specs.List.{concat}
 use Rattle.std.proofs.lemmas.List.{append-nil}
-use Rattle.std.proofs.lemmas.Grind.{common_steps}
 use Rattle.rt_base.specs.Sink.{SinkMeaning, added}
+use Rattle.rt_lines.specs.Header.{NumberedLine}
 use Rattle.rt_lines.specs.declared.play_fault.PlayFault.{PlayFault}
 use Rattle.rt_lines.specs.declared.play_fault.PlayFault.TheVariants.{Usage, Refused, ReadFault, WriteFault, Memory, Limit}
+use Rattle.rt_play.specs.declared.play_end.PlayEnd.{PlayEnd}
+use Rattle.rt_play.specs.Plays.{Puts, FailsWithin, TellsFrom, TellsAll, TellsSome, PlaysLine}
+use Rattle.rt_play.specs.Report.{FrontRuns, IsReportFrom, RunAll, Runs, Stops}
+use Rattle.rt_play.proofs.Writes.{added_more}
+use Rattle.rt_script.specs.Line.{line_in}
 use Rattle.rt_world.specs.Kept.{Kept}
 use Rattle.rt_world.specs.declared.state.State.{State}
-use Rattle.rt_play.specs.declared.play_end.PlayEnd.{PlayEnd}
-use Rattle.rt_play.specs.Line.{line_in}
-use Rattle.rt_play.specs.Plays.{Puts, Stops, FailsWithin, PutsLines, Tells, PlaysLine}
-use Rattle.rt_play.specs.Report.{Report, ended, stopped, told, report_line}
-use Rattle.rt_play.proofs.Writes.{added_more}
-
--- a report with texts before it
-abbrev pub told_all : List (List ℕ) → Report → Report
-told_all texts report = record { texts = texts ++ report.texts; stop = report.stop }
 
 concat-append : (xs ys : List (List ℕ)) → concat (xs ++ ys) ≡ concat xs ++ concat ys
 concat-append [] ys = refl
@@ -28,55 +25,90 @@ added_nothing (Some bytes) = ap Some (sym (append-nil bytes))
 pub nothing_put : (s : SinkMeaning) → Puts s s []
 nothing_put s = record { taken = added_nothing s.taken; counts = omega arith }
 
--- the last text goes before what is left
-pub told_one : (texts : List (List ℕ)) (text : List ℕ) (report : Report) → told_all texts (told text report) ≡ told_all (texts ++ text ∷ []) report
-told_one texts text report = ap (λ all. record { texts = all; stop = report.stop }) (sym (append_assoc texts (text ∷ []) report.texts))
+-- the bytes of the texts and one more
+concat_one : (texts : List (List ℕ)) (text : List ℕ) → concat (texts ++ text ∷ []) ≡ concat texts ++ text
+concat_one texts text = concat-append texts (text ∷ []) ∙ ap (λ x. concat texts ++ x) (append-nil text)
 
 pub put_text : (old mid new : SinkMeaning) (texts : List (List ℕ)) (text : List ℕ) → Puts old mid (concat texts) → Puts mid new text → Puts old new (concat (texts ++ text ∷ []))
 put_text old mid new texts text before now = record {
-  taken = now.taken ∙ ap (λ x. added x text) before.taken ∙ added_more old.taken (concat texts) text ∙ ap (added old.taken) (sym (concat-append texts (text ∷ []) ∙ ap (λ x. concat texts ++ x) (append-nil text)));
+  taken = now.taken ∙ ap (λ x. added x text) before.taken ∙ added_more old.taken (concat texts) text ∙ ap (added old.taken) (sym (concat_one texts text));
   counts = omega (arith, before.counts, now.counts);
 }
 
--- a run whose lines are at their end
-pub tells_end : (report : Report) (texts : List (List ℕ)) (old now : SinkMeaning) (end : PlayEnd) → report ≡ told_all texts ended → Puts old now (concat texts) → end.lines ≡ length texts → Tells report old now (Ok end)
-tells_end report texts old now end same puts count =
-    let whole : report.texts ≡ texts = ap (λ r. r.texts) same ∙ append-nil texts in (
-      record { stop = ap (λ r. r.stop) same; puts = subst (λ all. Puts old now (concat all)) (sym whole) puts },
-      count ∙ ap length (sym whole),
-    )
-
-stops_there : (report : Report) (texts : List (List ℕ)) (old now : SinkMeaning) (fault : PlayFault) → report ≡ told_all texts (stopped fault) → Puts old now (concat texts) → Stops report old now (Some fault)
-stops_there report texts old now fault same puts =
-    let whole : report.texts ≡ texts = ap (λ r. r.texts) same ∙ append-nil texts in
-    record { stop = ap (λ r. r.stop) same; puts = subst (λ all. Puts old now (concat all)) (sym whole) puts }
-
-take_front : (xs ys : List (List ℕ)) → take (length xs) (xs ++ ys) ≡ xs
-take_front xs ys = grind (arith, common_steps)
-
-pub runs_out_there : (report rest : Report) (texts : List (List ℕ)) (old now : SinkMeaning) → report ≡ told_all texts rest → Puts old now (concat texts) → PutsLines report old now
-runs_out_there report rest texts old now same puts =
-    let first : take (length texts) report.texts ≡ texts = ap (λ r. take (length texts) r.texts) same ∙ take_front texts rest.texts in
-    record { count = length texts; puts = subst (λ all. Puts old now (concat all)) (sym first) puts }
-
--- a line that stops the run
-pub tells_stop : (fault : PlayFault) (number : ℕ) (line text : List ℕ) (w v : Kept) (rest : State → Report) (report : Report) (texts : List (List ℕ)) (old now : SinkMeaning) →
-    PlaysLine number line w v text (Err fault) → report ≡ told_all texts (report_line number (line_in w.state.setup line) w.state rest) → Puts old now (concat texts) → Tells report old now (Err fault)
-tells_stop (Refused at reason) number line text w v rest report texts old now plays same puts = stops_there report texts old now _ (same ∙ ap (told_all texts) (plays rest)) puts
-tells_stop (Limit which) number line text w v rest report texts old now plays same puts = stops_there report texts old now _ (same ∙ ap (told_all texts) (plays rest)) puts
-tells_stop Memory number line text w v rest report texts old now plays same puts = runs_out_there report _ texts old now same puts
-tells_stop Usage number line text w v rest report texts old now plays same puts = absurd plays
-tells_stop ReadFault number line text w v rest report texts old now plays same puts = absurd plays
-tells_stop WriteFault number line text w v rest report texts old now plays same puts = absurd plays
-
 -- a text that was written in part
-pub tells_fault : (report rest : Report) (texts : List (List ℕ)) (text : List ℕ) (old mid new : SinkMeaning) → report ≡ told_all texts (told text rest) → Puts old mid (concat texts) → FailsWithin text mid new →
-    FailsWithin (concat report.texts) old new
-tells_fault report rest texts text old mid new same puts fails = record {
+pub put_in_part : (old mid new : SinkMeaning) (texts : List (List ℕ)) (text : List ℕ) → Puts old mid (concat texts) → FailsWithin text mid new → FailsWithin (concat (texts ++ text ∷ [])) old new
+put_in_part old mid new texts text puts fails = record {
   front = concat texts ++ fails.front;
-  rest = fails.rest ++ concat rest.texts;
-  whole = ap (λ r. concat r.texts) same ∙ concat-append texts (text ∷ rest.texts) ∙ ap (λ x. concat texts ++ (x ++ concat rest.texts)) fails.whole
-      ∙ ap (λ x. concat texts ++ x) (append_assoc fails.front fails.rest (concat rest.texts)) ∙ sym (append_assoc (concat texts) fails.front _);
+  rest = fails.rest;
+  whole = concat_one texts text ∙ ap (λ x. concat texts ++ x) fails.whole ∙ sym (append_assoc (concat texts) fails.front fails.rest);
   taken = fails.taken ∙ ap (λ x. added x fails.front) puts.taken ∙ added_more old.taken (concat texts) fails.front;
   counts = (omega (arith, puts.counts, fails.counts.0), λ h. omega (arith, puts.counts, fails.counts.0, fails.counts.1, h));
+}
+
+-- a line more runs behind those that ran
+pub run_more : (done : List NumberedLine) (line : NumberedLine) (w x v : State) (texts : List (List ℕ)) (text : List ℕ)
+    → RunAll done w x texts → Runs (line_in x.setup line.1) x v text → RunAll (done ++ line ∷ []) w v (texts ++ text ∷ [])
+run_more [] line w x v texts text run now = record {
+  between = v;
+  text = text;
+  others = [];
+  first = subst (λ (y : State). Runs (line_in y.setup line.1) y v text) run.0 now;
+  then_others = (refl, refl);
+  whole = ap (λ ts. ts ++ text ∷ []) run.1;
+}
+run_more (d ∷ done) line w x v texts text run now = record {
+  between = run.between;
+  text = run.text;
+  others = run.others ++ text ∷ [];
+  first = run.first;
+  then_others = run_more done line run.between x v run.others text run.then_others now;
+  whole = ap (λ ts. ts ++ text ∷ []) run.whole;
+}
+
+-- what ran, and the next line
+pub one_more : (lines done rest : List NumberedLine) (line : NumberedLine) (left : List NumberedLine) → lines ≡ done ++ rest → rest ≡ line ∷ left → lines ≡ (done ++ line ∷ []) ++ left
+one_more lines done rest line left whole e = whole ∙ ap (λ ls. done ++ ls) e ∙ sym (append_assoc done (line ∷ []) left)
+
+-- a run whose lines are at their end
+pub tells_end : (lines done : List NumberedLine) (w x : State) (texts : List (List ℕ)) (rest : List NumberedLine) (old now : SinkMeaning) (end : PlayEnd)
+    → lines ≡ done ++ rest → rest ≡ [] → RunAll done w x texts → Puts old now (concat texts) → end.lines ≡ length texts → TellsFrom lines w old now (Ok end)
+tells_end lines done w x texts rest old now end whole none run puts count = (
+  record {
+    report = record { texts = texts; stop = None };
+    is = record { runs = record { front = done; rest = []; last = x; whole = whole ∙ ap (λ ls. done ++ ls) none; run = run }; stops = refl };
+    stop = refl;
+    puts = puts;
+  },
+  count,
+)
+
+stops_there : (lines done : List NumberedLine) (w x : State) (texts : List (List ℕ)) (line : NumberedLine) (left : List NumberedLine) (old now : SinkMeaning) (fault : PlayFault)
+    → lines ≡ done ++ (line ∷ left) → RunAll done w x texts → Puts old now (concat texts) → Stops line.0 (line_in x.setup line.1) x fault → TellsAll (IsReportFrom lines w) old now (Some fault)
+stops_there lines done w x texts line left old now fault whole run puts stops = record {
+  report = record { texts = texts; stop = Some fault };
+  is = record { runs = record { front = done; rest = line ∷ left; last = x; whole = whole; run = run }; stops = (fault, stops, refl) };
+  stop = refl;
+  puts = puts;
+}
+
+-- a line that stops the run
+pub tells_stop : (fault : PlayFault) (lines done : List NumberedLine) (w : State) (x v : Kept) (texts : List (List ℕ)) (rest : List NumberedLine) (line : NumberedLine) (left : List NumberedLine) (text : List ℕ) (old now : SinkMeaning)
+    → lines ≡ done ++ rest → rest ≡ line ∷ left → RunAll done w x.state texts → Puts old now (concat texts) → PlaysLine line.0 line.1 x v text (Err fault) → TellsFrom lines w old now (Err fault)
+tells_stop (Refused at reason) lines done w x v texts rest line left text old now whole e run puts plays =
+    stops_there lines done w x.state texts line left old now (Refused at reason) (whole ∙ ap (λ ls. done ++ ls) e) run puts plays
+tells_stop (Limit which) lines done w x v texts rest line left text old now whole e run puts plays =
+    stops_there lines done w x.state texts line left old now (Limit which) (whole ∙ ap (λ ls. done ++ ls) e) run puts plays
+tells_stop Memory lines done w x v texts rest line left text old now whole e run puts plays = record { texts = texts; is = record { front = done; rest = rest; last = x.state; whole = whole; run = run }; puts = puts }
+tells_stop Usage lines done w x v texts rest line left text old now whole e run puts plays = absurd plays
+tells_stop ReadFault lines done w x v texts rest line left text old now whole e run puts plays = absurd plays
+tells_stop WriteFault lines done w x v texts rest line left text old now whole e run puts plays = absurd plays
+
+-- a line that ran, and whose text was written in part
+pub tells_fault : (lines done : List NumberedLine) (w x v : State) (texts : List (List ℕ)) (rest : List NumberedLine) (line : NumberedLine) (left : List NumberedLine) (text written : List ℕ) (old mid new : SinkMeaning)
+    → lines ≡ done ++ rest → rest ≡ line ∷ left → RunAll done w x texts → Puts old mid (concat texts) → Runs (line_in x.setup line.1) x v text → written ≡ text → FailsWithin written mid new
+    → TellsSome (FrontRuns lines w) old new
+tells_fault lines done w x v texts rest line left text written old mid new whole e run puts now same fails = record {
+  texts = texts ++ text ∷ [];
+  is = record { front = done ++ line ∷ []; rest = left; last = v; whole = one_more lines done rest line left whole e; run = run_more done line w x v texts text run now };
+  fails = put_in_part old mid new texts text puts (subst (λ t. FailsWithin t mid new) same fails);
 }

@@ -1,6 +1,10 @@
-pub mod Fits
-pub mod Line
-pub mod Outcome
+pub mod Doing
+pub mod Exchanging
+pub mod Filling
+pub mod Outcomes
 pub mod Plays
+pub mod Querying
 pub mod Report
-pub mod Script
+pub mod Saying
+pub mod Settling
+pub mod Words

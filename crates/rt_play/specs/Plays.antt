@@ -1,5 +1,5 @@
 -- What a run does to its source and its sink, and what it answers.
-use Rattle.std.specs.Prelude.{◌≡◌, ℕ, ◌+◌, ◌<◌, ◌≤◌, List, ◌++◌, length, take, false, Option, None, Some, Result, Ok, Err, nat_lt, if◌then◌else◌}
+use Rattle.std.specs.Prelude.{◌≡◌, ◌⊎◌, ℕ, ◌+◌, ◌<◌, ◌≤◌, List, ◌++◌, length, false, Option, None, Some, Result, Ok, Err}
 use Rattle.std.specs.List.{concat}
 use Rattle.rt_base.specs.declared.limits.TheConstants.{MOST_INPUT}
 use Rattle.rt_base.specs.declared.which.Which.TheVariants.{Input, Partitions, Servers, Controllers, Replication, Message, Events, Sent, Queries, Stored, Moment, Rows}
@@ -11,12 +11,12 @@ use Rattle.rt_play.specs.declared.play_end.PlayEnd.{PlayEnd}
 use Rattle.rt_base.specs.declared.failed.Failed.{Failed}
 use Rattle.rt_world.specs.Kept.{Kept}
 use Rattle.rt_world.specs.declared.state.State.{State}
+use Rattle.rt_lines.specs.Header.{NumberedLine}
 use Rattle.rt_play.specs.declared.reading.ReadStop.{ReadStop}
 use Rattle.rt_play.specs.declared.reading.ReadStop.TheVariants as stop
-use Rattle.rt_play.specs.declared.line.Line.{Line}
-use Rattle.rt_play.specs.Line.{line_in}
-use Rattle.rt_play.specs.Report.{Report, report_of, report_line, told, stopped}
-use Rattle.rt_play.specs.Script.{IsSafeScript}
+use Rattle.rt_play.specs.Report.{FrontRuns, IsFrontOfReport, IsReport, IsReportFrom, Report, Runs, Stops}
+use Rattle.rt_script.specs.Line.{line_in}
+use Rattle.rt_script.specs.declared.line.Line.{Line}
 
 -- the most bytes of a script
 abbrev pub input_limit : ℕ
@@ -39,11 +39,6 @@ pub record Puts (old new : SinkMeaning) (text : List ℕ) : Type 0 where
   pub taken : new.taken ≡ added old.taken text
   pub counts : old.faults ≤ new.faults
 
--- the whole report was written, and this is why it stops
-pub record Stops (report : Report) (old new : SinkMeaning) (why : Option PlayFault) : Type 0 where
-  pub stop : report.stop ≡ why
-  pub puts : Puts old new (concat report.texts)
-
 -- a front of a text was written, and the sink failed
 pub record FailsWithin (text : List ℕ) (old new : SinkMeaning) : Type 0 where
   pub front : List ℕ
@@ -52,28 +47,46 @@ pub record FailsWithin (text : List ℕ) (old new : SinkMeaning) : Type 0 where
   pub taken : new.taken ≡ added old.taken front
   pub counts : Rises old.faults new.faults
 
--- some first lines of a report were written, whole
-pub record PutsLines (report : Report) (old new : SinkMeaning) : Type 0 where
-  pub count : ℕ
-  pub puts : Puts old new (concat (take count report.texts))
+-- the whole report of some input was written, and this is why it stops
+pub record TellsAll (Is : Report → Type 0) (old new : SinkMeaning) (why : Option PlayFault) : Type 0 where
+  pub report : Report
+  pub is : Is report
+  pub stop : report.stop ≡ why
+  pub puts : Puts old new (concat report.texts)
+
+-- a front of the texts of some first lines was written, and the sink failed
+pub record TellsSome (Is : List (List ℕ) → Type 0) (old new : SinkMeaning) : Type 0 where
+  pub texts : List (List ℕ)
+  pub is : Is texts
+  pub fails : FailsWithin (concat texts) old new
+
+-- the texts of some first lines were written, whole
+pub record TellsFront (Is : List (List ℕ) → Type 0) (old new : SinkMeaning) : Type 0 where
+  pub texts : List (List ℕ)
+  pub is : Is texts
+  pub puts : Puts old new (concat texts)
 
 -- a report was written: up to its end, to where it stops, to where the sink failed or to where memory ran out
-abbrev pub Tells : Report → SinkMeaning → SinkMeaning → Result PlayEnd PlayFault → Type 0
-Tells report old new (Ok end) = Stops report old new None × (end.lines ≡ length report.texts)
-Tells report old new (Err (Refused line reason)) = Stops report old new (Some (Refused line reason))
-Tells report old new (Err (Limit which)) = Stops report old new (Some (Limit which))
-Tells report old new (Err WriteFault) = FailsWithin (concat report.texts) old new
-Tells report old new (Err Memory) = PutsLines report old new
-Tells report old new (Err Usage) = ⊥
-Tells report old new (Err ReadFault) = ⊥
+abbrev pub Tells : (Report → Type 0) → (List (List ℕ) → Type 0) → SinkMeaning → SinkMeaning → Result PlayEnd PlayFault → Type 0
+Tells IsAll IsFront old new (Ok end) = (all : TellsAll IsAll old new None) × (end.lines ≡ length all.report.texts)
+Tells IsAll IsFront old new (Err (Refused line reason)) = TellsAll IsAll old new (Some (Refused line reason))
+Tells IsAll IsFront old new (Err (Limit which)) = TellsAll IsAll old new (Some (Limit which))
+Tells IsAll IsFront old new (Err WriteFault) = TellsSome IsFront old new
+Tells IsAll IsFront old new (Err Memory) = TellsFront IsFront old new
+Tells IsAll IsFront old new (Err Usage) = ⊥
+Tells IsAll IsFront old new (Err ReadFault) = ⊥
+
+abbrev pub TellsInput : List ℕ → SinkMeaning → SinkMeaning → Result PlayEnd PlayFault → Type 0
+TellsInput input old new result = Tells (IsReport input) (IsFrontOfReport input) old new result
+
+abbrev pub TellsFrom : List NumberedLine → State → SinkMeaning → SinkMeaning → Result PlayEnd PlayFault → Type 0
+TellsFrom lines w old new result = Tells (IsReportFrom lines w) (FrontRuns lines w) old new result
 
 -- the input was read to its end, and its report written
 pub record PlaysAll (from to : SourceMeaning) (old new : SinkMeaning) (result : Result PlayEnd PlayFault) : Type 0 where
   pub input : List ℕ
   pub reads : Reads from to input
-  pub tells : Tells (report_of input) old new result
-  -- every world of its run is safe, and every answer in it is right
-  pub safe : IsSafeScript input
+  pub tells : TellsInput input old new result
 
 -- the source failed
 pub record FailsToRead (from to : SourceMeaning) (old new : SinkMeaning) : Type 0 where
@@ -93,16 +106,15 @@ pub record IsTooLong (from to : SourceMeaning) (old new : SinkMeaning) : Type 0 
 pub record RunsOut (from to : SourceMeaning) (old new : SinkMeaning) : Type 0 where
   pub input : List ℕ
   pub taken : Takes from to input
-  pub lines : PutsLines (report_of input) old new
-  pub ended : 0 < lines.count → Reads from to input
-  pub safe : IsSafeScript input
+  pub lines : TellsFront (IsFrontOfReport input) old new
+  pub ended : 0 < length lines.texts → Reads from to input
 
 -- what a run does, by its answer
 abbrev pub PlaysInput : SourceMeaning → SourceMeaning → SinkMeaning → SinkMeaning → Result PlayEnd PlayFault → Type 0
 PlaysInput from to old new (Err Usage) = ⊥
 PlaysInput from to old new (Err ReadFault) = FailsToRead from to old new
 PlaysInput from to old new (Err Memory) = RunsOut from to old new
-PlaysInput from to old new (Err (Limit Input)) = IsTooLong from to old new
+PlaysInput from to old new (Err (Limit Input)) = IsTooLong from to old new ⊎ PlaysAll from to old new (Err (Limit Input))
 PlaysInput from to old new (Err (Limit Partitions)) = PlaysAll from to old new (Err (Limit Partitions))
 PlaysInput from to old new (Err (Limit Servers)) = PlaysAll from to old new (Err (Limit Servers))
 PlaysInput from to old new (Err (Limit Controllers)) = PlaysAll from to old new (Err (Limit Controllers))
@@ -118,23 +130,38 @@ PlaysInput from to old new (Err WriteFault) = PlaysAll from to old new (Err Writ
 PlaysInput from to old new (Err (Refused line reason)) = PlaysAll from to old new (Err (Refused line reason))
 PlaysInput from to old new (Ok end) = PlaysAll from to old new (Ok end)
 
--- the answer of a script by itself, where nothing outside fails
+-- the answer of a report
 abbrev pub answer_by : Report → Option PlayFault → Result PlayEnd PlayFault
 answer_by report None = Ok (record { lines = length report.texts })
 answer_by report (Some fault) = Err fault
 
-abbrev pub answer_of : List ℕ → Result PlayEnd PlayFault
-answer_of input = if nat_lt input_limit (length input) then Err (Limit Input) else answer_by (report_of input) (report_of input).stop
+-- an answer that a script has by itself, where nothing outside fails
+pub record IsAnswer (input : List ℕ) (result : Result PlayEnd PlayFault) : Type 0 where
+  pub within : length input ≤ input_limit
+  pub report : Report
+  pub is : IsReport input report
+  pub same : result ≡ answer_by report report.stop
 
--- the answer is that one, or want of memory
-abbrev pub Meets : Result PlayEnd PlayFault → Result PlayEnd PlayFault → Type 0
-Meets answer (Ok end) = Ok end ≡ answer
-Meets answer (Err Memory) = Unit {0}
-Meets answer (Err Usage) = Err Usage ≡ answer
-Meets answer (Err ReadFault) = Err ReadFault ≡ answer
-Meets answer (Err WriteFault) = Err WriteFault ≡ answer
-Meets answer (Err (Refused line reason)) = Err (Refused line reason) ≡ answer
-Meets answer (Err (Limit which)) = Err (Limit which) ≡ answer
+-- the answer is one of an input's own, or want of memory
+abbrev pub Meets : List ℕ → Result PlayEnd PlayFault → Type 0
+Meets input (Ok end) = IsAnswer input (Ok end)
+Meets input (Err Memory) = Unit {0}
+Meets input (Err Usage) = ⊥
+Meets input (Err ReadFault) = ⊥
+Meets input (Err WriteFault) = ⊥
+Meets input (Err (Refused line reason)) = IsAnswer input (Err (Refused line reason))
+Meets input (Err (Limit Input)) = (input_limit < length input) ⊎ IsAnswer input (Err (Limit Input))
+Meets input (Err (Limit Partitions)) = IsAnswer input (Err (Limit Partitions))
+Meets input (Err (Limit Servers)) = IsAnswer input (Err (Limit Servers))
+Meets input (Err (Limit Controllers)) = IsAnswer input (Err (Limit Controllers))
+Meets input (Err (Limit Replication)) = IsAnswer input (Err (Limit Replication))
+Meets input (Err (Limit Message)) = IsAnswer input (Err (Limit Message))
+Meets input (Err (Limit Events)) = IsAnswer input (Err (Limit Events))
+Meets input (Err (Limit Sent)) = IsAnswer input (Err (Limit Sent))
+Meets input (Err (Limit Queries)) = IsAnswer input (Err (Limit Queries))
+Meets input (Err (Limit Stored)) = IsAnswer input (Err (Limit Stored))
+Meets input (Err (Limit Moment)) = IsAnswer input (Err (Limit Moment))
+Meets input (Err (Limit Rows)) = IsAnswer input (Err (Limit Rows))
 
 -- a piece was written whole, or up to where the sink failed
 abbrev pub WritesAll : SinkMeaning → SinkMeaning → List ℕ → Result Unit Failed → Type 0
@@ -152,15 +179,12 @@ ReadsAll from to (Err stop.Failed) = TakesSome from to × Rises from.faults to.f
 ReadsAll from to (Err stop.TooLong) = (some : TakesSome from to) × (input_limit < length some.input)
 ReadsAll from to (Err stop.Memory) = TakesSome from to
 
--- what is reported of what a line says, from a world on
+-- what a line says was run, or it stops the run
 abbrev pub PlaysSaid : ℕ → Option Line → Kept → Kept → List ℕ → Result Unit PlayFault → Type 0
-PlaysSaid number said old new text (Ok done) =
-    (new.spent ≡ false) × ((rest : State → Report) → report_line number said old.state rest ≡ told text (rest new.state))
+PlaysSaid number said old new text (Ok done) = (new.spent ≡ false) × Runs said old.state new.state text
 PlaysSaid number said old new text (Err Memory) = Unit {0}
-PlaysSaid number said old new text (Err (Refused at reason)) =
-    (rest : State → Report) → report_line number said old.state rest ≡ stopped (Refused at reason)
-PlaysSaid number said old new text (Err (Limit which)) =
-    (rest : State → Report) → report_line number said old.state rest ≡ stopped (Limit which)
+PlaysSaid number said old new text (Err (Refused at reason)) = Stops number said old.state (Refused at reason)
+PlaysSaid number said old new text (Err (Limit which)) = Stops number said old.state (Limit which)
 PlaysSaid number said old new text (Err Usage) = ⊥
 PlaysSaid number said old new text (Err ReadFault) = ⊥
 PlaysSaid number said old new text (Err WriteFault) = ⊥

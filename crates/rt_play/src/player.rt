@@ -1,15 +1,21 @@
-ghost use Rattle.std.specs.Prelude.{◌≡◌, ◌<◌, ◌≤◌, ◌↔◌, ℕ, List, Some, Err, length};
+ghost use Rattle.std.specs.Prelude.{◌≡◌, ◌↔◌, ℕ, List, map, Some, None, Err};
 ghost use Rattle.rt_base.specs.Source.{Rises};
-ghost use Rattle.rt_play.specs.Plays.{Meets, PlaysInput, answer_of};
+ghost use Rattle.rt_play.specs.Plays.{Meets, PlaysInput};
+ghost use Rattle.rt_play.specs.Words.{asked_of};
+ghost use Rattle.rt_play.specs.declared.generating.Generated.{Generated};
+ghost use Rattle.rt_play.specs.declared.words.Asked.TheVariants as Asked;
 
 use crate::PlayEnd;
+use crate::generating::generate;
 use crate::reading::{ReadStop, read_all};
 use crate::running::play_input;
+use crate::words::{Asked, read_words};
 use rt_base::{Sink, Source, Which};
 use rt_lines::PlayFault;
 use std::alloc::Global;
 
-/// Runs the script that a source gives, and writes its report to a sink. It takes no words so far.
+/// Runs the script that a source gives, and writes its report to a sink; by the words `gen SEED PARTITIONS ROWS` a
+/// generated run, which reads nothing.
 ///
 /// The whole input is read before the first line runs. A line outside the grammar, or whose event is refused, is
 /// `Refused` by its number; the lines before it are reported. A fault of the source or the sink comes
@@ -20,23 +26,25 @@ pub fn play<S: Source, K: Sink>(
     source: &mut S,
     sink: &mut K,
 ) -> Result<PlayEnd, PlayFault>
-    // Usage comes exactly where there is a word, and then nothing is read or written.
-    ensures usage { (result ≡ Err PlayFault.Usage) ↔ (0 < length words.now) }
-    ensures untouched { 0 < length words.now → (S.meaning source.new ≡ S.meaning source.old) × (K.meaning sink.new ≡ K.meaning sink.old) }
+    // Usage comes exactly where the words are none of the program's, and then nothing is read or written.
+    ensures usage { (result ≡ Err PlayFault.Usage) ↔ (asked_of (map (λ word. word.now) words.now) ≡ None) }
+    ensures untouched { asked_of (map (λ word. word.now) words.now) ≡ None → (S.meaning source.new ≡ S.meaning source.old) × (K.meaning sink.new ≡ K.meaning sink.old) }
 
-    // What is read and written, by the answer. Of the input that was read, every world of the run is safe and every
-    // answer right, and the report is that of this run.
-    ensures plays { length words.now ≡ 0 → PlaysInput (S.meaning source.old) (S.meaning source.new) (K.meaning sink.old) (K.meaning sink.new) result }
+    // What is read and written of a script, by the answer: the report is one of the input that was read.
+    ensures plays { asked_of (map (λ word. word.now) words.now) ≡ Some Asked.Script → PlaysInput (S.meaning source.old) (S.meaning source.new) (K.meaning sink.old) (K.meaning sink.new) result }
 
-    // Where the source tells what is left and no count rises, the answer is the script's own, or want of memory.
-    ensures complete { (input : List ℕ) → length words.now ≡ 0 → (S.meaning source.old).left ≡ Some input →
+    // Where the source tells what is left and no count rises, the answer is one of the script's own, or want of memory.
+    ensures complete { (input : List ℕ) → asked_of (map (λ word. word.now) words.now) ≡ Some Asked.Script → (S.meaning source.old).left ≡ Some input →
         (Rises (S.meaning source.old).faults (S.meaning source.new).faults → ⊥) →
-        (Rises (K.meaning sink.old).faults (K.meaning sink.new).faults → ⊥) → Meets (answer_of input) result }
+        (Rises (K.meaning sink.old).faults (K.meaning sink.new).faults → ⊥) → Meets input result }
+
+    // A generated run reads nothing.
+    ensures unread { (asked : Generated) → asked_of (map (λ word. word.now) words.now) ≡ Some (Asked.Generated asked) → S.meaning source.new ≡ S.meaning source.old }
 {
-    if words.is_empty() {
-        play_source(alloc, source, sink)
-    } else {
-        Err(PlayFault::Usage)
+    match read_words(words) {
+        Some(Asked::Script) => play_source(alloc, source, sink),
+        Some(Asked::Generated(asked)) => generate(alloc, asked, sink),
+        None => Err(PlayFault::Usage),
     }
 }
 

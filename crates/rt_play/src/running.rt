@@ -1,18 +1,22 @@
-ghost use Rattle.std.specs.Prelude.{◌≡◌, ◌<◌, ◌^◌, [], false, Some, length, string_bytes};
-ghost use Rattle.rt_model.specs.FirstCluster.{IsFirstCluster};
-ghost use Rattle.rt_world.specs.Step.{start};
-ghost use Rattle.rt_play.specs.Plays.{PlaysLine, PlaysSaid, Tells};
-ghost use Rattle.rt_play.specs.declared.line.Line.TheVariants as Line;
-ghost use Rattle.rt_world.specs.Fits.{Fits};
-ghost use Rattle.rt_play.specs.Report.{fault_at, report_from, report_of};
+ghost use Rattle.std.specs.Prelude.{◌≡◌, ◌<◌, ◌^◌, [], false, length, string_bytes};
+ghost use Rattle.rt_model.specs.Setup.{IsSetup};
+ghost use Rattle.rt_play.specs.Doing.{DoesText};
+ghost use Rattle.rt_play.specs.Plays.{PlaysLine, TellsFrom, TellsInput};
+ghost use Rattle.rt_play.specs.Report.{fault_at};
+ghost use Rattle.rt_play.specs.Saying.{EventTold, LineTold, PassTold};
+ghost use Rattle.rt_events.specs.Fits.{Fits};
+ghost use Rattle.rt_script.specs.Line.{FitsLine};
+ghost use Rattle.rt_world.specs.Start.{start};
 
 use crate::PlayEnd;
-use crate::line::{Line, read_line};
-use crate::outcome_line::{write_noquery, write_outcome};
+use crate::acting::{apply, pass};
+use crate::macros::play_macro;
 use crate::writing::write_all;
 use rt_base::Sink;
 use rt_lines::{LineReason, Lines, PlayFault, read_header};
 use rt_model::Setup;
+use rt_report::{write_noquery, write_outcome};
+use rt_script::{Line, read_line};
 use rt_world::{Event, Refusal, World};
 use std::alloc::Global;
 
@@ -22,7 +26,7 @@ pub(crate) fn play_input<K: Sink>(
     input: &[u8],
     sink: &mut K,
 ) -> Result<PlayEnd, PlayFault>
-    ensures { Tells (report_of input.now) (K.meaning sink.old) (K.meaning sink.new) result }
+    ensures { TellsInput input.now (K.meaning sink.old) (K.meaning sink.new) result }
 {
     let mut lines = Lines::make(input);
     match read_header(alloc, &mut lines) {
@@ -39,9 +43,9 @@ fn play_from_start<K: Sink>(
     lines: &mut Lines<'_>,
     sink: &mut K,
 ) -> Result<PlayEnd, PlayFault>
-    requires setup { IsFirstCluster setup }
+    requires setup { IsSetup setup }
     requires few { length lines.old.lines < 2 ^ 64 }
-    ensures { Tells (report_from lines.old.lines (start setup)) (K.meaning sink.old) (K.meaning sink.new) result }
+    ensures { TellsFrom lines.old.lines (start setup) (K.meaning sink.old) (K.meaning sink.new) result }
 {
     match World::make(alloc, setup) {
         Ok(mut world) => play_lines(alloc, &mut world, lines, sink),
@@ -58,7 +62,7 @@ fn play_lines<K: Sink>(
 ) -> Result<PlayEnd, PlayFault>
     requires unspent { world.old.spent ≡ false }
     requires few { length lines.old.lines < 2 ^ 64 }
-    ensures { Tells (report_from lines.old.lines world.old.state) (K.meaning sink.old) (K.meaning sink.new) result }
+    ensures { TellsFrom lines.old.lines world.old.state (K.meaning sink.old) (K.meaning sink.new) result }
 {
     let mut text = String::new(alloc);
     let mut count = 0;
@@ -76,7 +80,7 @@ fn play_lines<K: Sink>(
     Ok(PlayEnd { lines: count })
 }
 
-// Has the event of a line happen, and makes the text that is reported of it.
+// Has the events of a line happen, and makes the text that is reported of it.
 fn play_line(
     alloc: Global,
     world: &mut World,
@@ -88,57 +92,67 @@ fn play_line(
     ensures { PlaysLine number line.now world.old world.new (string_bytes text.new) result }
 {
     text.clear();
-    match read_line(alloc, world.schema(), world.table_name(), line)? {
-        Some(Line::Event(event)) => play_event(alloc, world, number, &event, text),
-        Some(Line::NoQuery(refused)) => pass_line(world, number, refused, text),
-        None => Err(refused(number, LineReason::BadLine)),
+    let setup = world.setup();
+    let Some(said) = read_line(alloc, &setup.schema, &setup.table.name, line)? else {
+        return Err(refused(number, LineReason::BadLine));
+    };
+    match play_said(alloc, world, said, text) {
+        Ok(()) => Ok(()),
+        Err(refusal) => Err(fault(number, refusal)),
+    }
+}
+
+/// Has the events of what a line says happen, and makes the text that is reported of it.
+pub(crate) fn play_said(
+    alloc: Global,
+    world: &mut World,
+    said: Line,
+    text: &mut String,
+) -> Result<(), Refusal>
+    requires unspent { world.old.spent ≡ false }
+    requires fits { FitsLine world.old.state.setup.schema said }
+    requires empty { string_bytes text.old ≡ [] }
+    ensures { DoesText (LineTold said world.old.state) world.new (string_bytes text.new) result }
+{
+    match said {
+        Line::Event(event) => play_event(alloc, world, &event, text),
+        Line::Macro(said) => play_macro(alloc, world, said, text),
+        Line::NoQuery(number) => pass_line(world, number, text),
     }
 }
 
 // Has an event happen, and makes the text that is reported of it.
+#[tactic(auto, using(crate::proofs::Doing::does_then, crate::proofs::Doing::does_refused, crate::proofs::Doing::does_told))]
 fn play_event(
     alloc: Global,
     world: &mut World,
-    number: u64,
     event: &Event,
     text: &mut String,
-) -> Result<(), PlayFault>
+) -> Result<(), Refusal>
     requires unspent { world.old.spent ≡ false }
     requires fits { Fits world.old.state.setup.schema event.now }
     requires empty { string_bytes text.old ≡ [] }
-    ensures { PlaysSaid number (Some (Line.Event event.now)) world.old world.new (string_bytes text.new) result }
+    ensures { DoesText (EventTold event.now world.old.state) world.new (string_bytes text.new) result }
 {
-    match world.apply(alloc, event) {
-        Ok(outcome) => {
-            write_outcome(alloc, text, event, &outcome)?;
-            Ok(())
-        }
-        Err(refusal) => Err(fault(number, refusal)),
-    }
+    let outcome = apply(alloc, world, event)?;
+    write_outcome(alloc, text, event, &outcome)?;
+    Ok(())
 }
 
 // Passes over a text that is no query, and makes the text that is reported of it.
-fn pass_line(
-    world: &mut World,
-    number: u64,
-    refused: u32,
-    text: &mut String,
-) -> Result<(), PlayFault>
+#[tactic(auto, using(crate::proofs::Doing::does_then, crate::proofs::Doing::does_refused, crate::proofs::Doing::does_told))]
+fn pass_line(world: &mut World, number: u32, text: &mut String) -> Result<(), Refusal>
     requires unspent { world.old.spent ≡ false }
     requires empty { string_bytes text.old ≡ [] }
-    ensures { PlaysSaid number (Some (Line.NoQuery refused)) world.old world.new (string_bytes text.new) result }
+    ensures { DoesText (PassTold number world.old.state) world.new (string_bytes text.new) result }
 {
-    match world.pass() {
-        Ok(()) => {
-            write_noquery(text, refused)?;
-            Ok(())
-        }
-        Err(refusal) => Err(fault(number, refusal)),
-    }
+    pass(world)?;
+    write_noquery(text, number)?;
+    Ok(())
 }
 
-// Why a refused event stops the run at its line.
-fn fault(line: u64, refusal: Refusal) -> PlayFault
+/// Why a refused event stops the run at its line.
+pub(crate) fn fault(line: u64, refusal: Refusal) -> PlayFault
     ensures { result ≡ fault_at line refusal }
 {
     match refusal {

@@ -28,7 +28,7 @@ use Rattle.rt_repair.specs.IsRepair.{Remembers, IsRepair}
 use Rattle.rt_repair.specs.Repairing.{Repairing, create_write, ideal_write, abandon_write, abandon_by, added_entries, decision_at}
 use Rattle.rt_repair.specs.RepairSteps.{Stepped, after_list, after_read, created, abandoned, ideal_set, Sets, Does, StepsAt, Steps}
 use Rattle.rt_repair.proofs.MayRepair.{state_read}
-use Rattle.rt_repair.proofs.Refusals.{list_no_node, list_exists, list_changed, read_no_node, read_exists, read_changed, set_exists, set_no_node, create_no_node}
+use Rattle.rt_store.proofs.Refusals.{list_no_node, list_exists, list_changed, read_no_node, read_exists, read_changed, set_exists, set_no_node, create_no_node}
 
 abbrev Rose : Meaning → Meaning → Type 0
 Rose old new = old.faults < new.faults

@@ -10,7 +10,6 @@ pub mod Lists
 pub mod MayRepair
 pub mod MayRetire
 pub mod Realized
-pub mod Refusals
 pub mod RetireFailing
 pub mod RetireKeeping
 pub mod RetireRunningOut

@@ -24,7 +24,7 @@ use Rattle.rt_repair.specs.IsRetire.{Remembers, IsRetire}
 use Rattle.rt_repair.specs.Retirement.{Retirement, delete_write, retiring_at}
 use Rattle.rt_repair.specs.RetireSteps.{Stepped, after_list, after_read, removed, deleted, Deletes, Does, StepsAt, Steps}
 use Rattle.rt_repair.proofs.MayRepair.{state_read}
-use Rattle.rt_repair.proofs.Refusals.{list_no_node, list_exists, list_changed, read_no_node, read_exists, read_changed, set_exists, set_no_node, delete_exists}
+use Rattle.rt_store.proofs.Refusals.{list_no_node, list_exists, list_changed, read_no_node, read_exists, read_changed, set_exists, set_no_node, delete_exists}
 
 abbrev Rose : Meaning → Meaning → Type 0
 Rose old new = old.faults < new.faults

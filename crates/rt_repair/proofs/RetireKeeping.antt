@@ -24,7 +24,8 @@ use Rattle.rt_repair.specs.ReadNode.{lowest_node}
 use Rattle.rt_repair.specs.RepairSteps.{MaySet}
 use Rattle.rt_repair.specs.Retirement.{Retirement, goes, remove_write, delete_write, retiring_at}
 use Rattle.rt_repair.specs.RetireSteps.{Stepped, after_list, after_read, with_ideal, Deletes, Does, StepsAt, Steps, MayDo, MayWriteAt}
-use Rattle.rt_repair.proofs.Keeping.{GoesOn, goes_same, goes_ran_out, goes_list, goes_read, goes_write, list_is, read_is, past_on, ideal_on}
+use Rattle.rt_store.proofs.GoingOn.{GoesOn, goes_same, goes_list, goes_read, goes_write, list_is, read_is}
+use Rattle.rt_repair.proofs.Keeping.{goes_ran_out, past_on, ideal_on}
 use Rattle.rt_repair.proofs.MayRetire.{may_retire}
 
 listed_on :

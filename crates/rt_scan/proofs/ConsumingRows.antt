@@ -13,10 +13,10 @@ use Rattle.rt_schema.specs.declared.value.Value.TheVariants as value
 use Rattle.rt_schema.specs.Row.{IsRowOf}
 use Rattle.rt_schema.specs.Value.{kind_of}
 use Rattle.rt_mutable.specs.Consuming.{Consuming, Placed, IsConsuming, FitsColumns, value_at, values_at}
+use Rattle.rt_seek.specs.Table.{item_at, cell_at, row_at, rows_by}
+use Rattle.rt_seek.proofs.Keys.{item}
+use Rattle.rt_seek.proofs.Sets.{map_agree, map_map, map_range_more}
 use Rattle.rt_scan.specs.Scanned.{first_at}
-use Rattle.rt_scan.specs.Table.{item_at, cell_at, row_at, rows_by}
-use Rattle.rt_scan.proofs.Keys.{item}
-use Rattle.rt_scan.proofs.Sets.{map_agree, map_map, map_range_more}
 
 -- a column more
 pub pushed_more : {X Y : Type 0} (f : X → Y) (g : ℕ → Y) (xs us : List X) (x : X) (n : ℕ) → us ≡ xs ++ x ∷ [] → map f xs ≡ map g (range_with_len 0 n) → f x ≡ g n → map f us ≡ map g (range_with_len 0 (n + 1))

@@ -24,10 +24,10 @@ use Rattle.rt_model.specs.Values.{against, number_against, text_against, truth_a
 use Rattle.rt_segment.specs.declared.dictionary.Dictionary.{Dictionary}
 use Rattle.rt_segment.specs.declared.dictionary.Dictionary.TheVariants.{Int, Long, Text, Bool as Truth, Time}
 use Rattle.rt_segment.specs.Column.{IsDictionary, count_in, values_in}
+use Rattle.rt_seek.specs.Table.{item_at}
+use Rattle.rt_seek.proofs.Keys.{mapped_at}
 use Rattle.rt_scan.specs.declared.standing.Standing.{Standing}
 use Rattle.rt_scan.specs.Skips.{against_if, standing_by, standing_in, reaches, can_compare, can_lie, is_above}
-use Rattle.rt_scan.specs.Table.{item_at}
-use Rattle.rt_scan.proofs.Keys.{mapped_at}
 
 -- what stands so to a literal can come before what stands so
 abbrev pub up : Ordering → Ordering → Bool

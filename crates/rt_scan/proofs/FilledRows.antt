@@ -14,10 +14,10 @@ use Rattle.rt_schema.specs.Row.{IsRowOf}
 use Rattle.rt_schema.specs.Value.{kind_of, missing_of}
 use Rattle.rt_segment.specs.Column.{SealedColumn, IsColumn, values_in}
 use Rattle.rt_segment.specs.Segment.{SealedSegment, IsSealed, is_column}
+use Rattle.rt_seek.specs.Table.{item_at, cell_at, row_at}
+use Rattle.rt_seek.proofs.Sets.{map_agree, map_map}
 use Rattle.rt_scan.specs.Filled.{stored_as, values_or, values_as}
-use Rattle.rt_scan.specs.Table.{item_at, cell_at, row_at}
 use Rattle.rt_scan.proofs.SealedRows.{kind_same, kind_of_cell}
-use Rattle.rt_scan.proofs.Sets.{map_agree, map_map}
 
 missing_kind : (kind : Kind) (role : Role) → kind_of (missing_of kind role) ≡ kind
 missing_kind kinds.Int Dimension = refl

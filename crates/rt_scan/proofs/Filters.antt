@@ -13,8 +13,8 @@ use Rattle.rt_postings.specs.DocSet.{both, either}
 use Rattle.rt_model.specs.declared.query_parts.ColumnAt.{ColumnAt}
 use Rattle.rt_model.specs.Match.{matches, matches_all, matches_any, meets, value_at}
 use Rattle.rt_model.specs.Tree.{Tree, And, Or, Not, trees}
-use Rattle.rt_scan.specs.Table.{cell_at, row_at, rows_by}
-use Rattle.rt_scan.proofs.Sets.{map_agree, map_map, map_constant, both_assoc, both_maps, both_all, all_both, either_assoc, either_maps, either_none, none_either}
+use Rattle.rt_seek.specs.Table.{cell_at, row_at, rows_by}
+use Rattle.rt_seek.proofs.Sets.{map_agree, map_map, map_constant, both_assoc, both_maps, both_all, all_both, either_assoc, either_maps, either_none, none_either}
 
 module _ (rows : List Row) where
   pub all_start : (ts : List Tree) (set : List Bool) → set ≡ replicate (length rows) true → both set (map (matches_all (trees ts)) rows) ≡ map (matches_all (trees ts)) rows

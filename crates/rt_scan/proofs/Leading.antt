@@ -10,7 +10,7 @@ use Rattle.rt_model.specs.Match.{value_in}
 use Rattle.rt_agg.specs.Grouped.{Grouped, KeysStay, keys_in_order}
 use Rattle.rt_scan.specs.Grouping.{value_by, value_with, key_by, Leads}
 use Rattle.std.proofs.lemmas.List.Elements.{Contains-push_cases}
-use Rattle.rt_scan.specs.Table.{cell_at, row_at}
+use Rattle.rt_seek.specs.Table.{cell_at, row_at}
 
 module _ {C : Type 0} (values : C → List Value) (value_of : C → ℕ → Value) (columns : List C) where
   -- a column that isn't there

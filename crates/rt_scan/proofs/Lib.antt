@@ -1,16 +1,9 @@
-pub mod Sets
-pub mod Keys
-pub mod Rows
 pub mod Filters
-pub mod Posted
-pub mod Held
 pub mod Noted
 pub mod Leading
 pub mod Walked
 pub mod SealedRows
-pub mod Arrived
 pub mod ConsumingRows
 pub mod FilledRows
 pub mod Edges
 pub mod Skipped
-pub mod Sought

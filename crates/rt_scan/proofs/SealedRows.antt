@@ -19,8 +19,8 @@ use Rattle.rt_segment.specs.declared.dictionary.Dictionary.{Dictionary}
 use Rattle.rt_segment.specs.declared.dictionary.Dictionary.TheVariants.{Int, Long, Text, Bool as Truth, Time}
 use Rattle.rt_segment.specs.Column.{SealedColumn, IsColumn, kind_in, count_in, values_in, values_of}
 use Rattle.rt_segment.specs.Segment.{SealedSegment, IsSealed, IsColumnOf, cell_in, row_in, kind_eq, are_columns}
-use Rattle.rt_scan.specs.Table.{item_at, cell_at, row_at, rows_by}
-use Rattle.rt_scan.proofs.Sets.{map_agree, map_map}
+use Rattle.rt_seek.specs.Table.{item_at, cell_at, row_at, rows_by}
+use Rattle.rt_seek.proofs.Sets.{map_agree, map_map}
 
 -- rows come from the values of the columns alone
 pub same_row : {C D : Type 0} (f : C → List Value) (g : D → List Value) (cs : List C) (ds : List D) → map f cs ≡ map g ds → (r : ℕ) → row_at f cs r ≡ row_at g ds r

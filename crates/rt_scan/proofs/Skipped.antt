@@ -28,11 +28,11 @@ use Rattle.rt_model.specs.Tree.{Tree, Trees, Compare, Between, OneOf, NoneOf, No
 use Rattle.rt_model.specs.Values.{against}
 use Rattle.rt_segment.specs.Column.{SealedColumn, IsColumn, values_in}
 use Rattle.rt_segment.specs.Segment.{SealedSegment, IsSealed, AreNew, cell_in, row_in, rows_of, is_column, are_columns}
+use Rattle.rt_seek.specs.Table.{item_at, row_at}
 use Rattle.rt_scan.specs.declared.standing.Standing.{Standing}
 use Rattle.rt_scan.specs.Filled.{HasKindOf, HasKinds, stored_as, values_or, values_as, rows_as}
 use Rattle.rt_scan.specs.Scanned.{FitsSealed}
 use Rattle.rt_scan.specs.Skips.{standing_in, standing_of, can_be_one, can_match, can_match_all, can_match_any, can_pass, skips_of}
-use Rattle.rt_scan.specs.Table.{item_at, row_at}
 use Rattle.rt_scan.proofs.Edges.{Framed, compared, lain, framed_in, not_above}
 use Rattle.rt_scan.proofs.SealedRows.{column_at_place}
 

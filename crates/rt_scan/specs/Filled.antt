@@ -8,7 +8,7 @@ use Rattle.rt_schema.specs.declared.value.Value.{Value}
 use Rattle.rt_schema.specs.Value.{missing_of}
 use Rattle.rt_segment.specs.Column.{SealedColumn, values_of}
 use Rattle.rt_segment.specs.Segment.{SealedSegment, is_column}
-use Rattle.rt_scan.specs.Table.{rows_by}
+use Rattle.rt_seek.specs.Table.{rows_by}
 
 -- the file's column of a schema's name and kind
 abbrev pub stored_as : Column → List SealedColumn → Option SealedColumn

@@ -1,13 +1,5 @@
-pub mod ColumnTest
-pub mod Keys
-pub mod KeyLaws
-pub mod RowSets
-pub mod Table
-pub mod FileColumn
 pub mod GroupIds
 pub mod Grouping
 pub mod Scanned
-pub mod ConsumingColumn
 pub mod Filled
 pub mod Skips
-pub mod Sought

@@ -8,8 +8,8 @@ use Rattle.rt_model.specs.declared.query.Query.{Query}
 use Rattle.rt_model.specs.Checked.{IsQuery}
 use Rattle.rt_mutable.specs.Consuming.{Consuming, Placed, is_before, values_at}
 use Rattle.rt_segment.specs.Segment.{SealedSegment, are_columns}
-use Rattle.rt_scan.specs.declared.consuming_column.ConsumingColumn.{ConsumingColumn}
-use Rattle.rt_scan.specs.ConsumingColumn.{first_values}
+use Rattle.rt_seek.specs.declared.consuming_column.ConsumingColumn.{ConsumingColumn}
+use Rattle.rt_seek.specs.ConsumingColumn.{first_values}
 
 -- the query is one of a schema whose columns are the segment's by name and kind, in order
 pub record FitsSealed (query : Query) (sealed : SealedSegment) : Type 0 where

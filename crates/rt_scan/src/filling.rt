@@ -3,14 +3,14 @@ ghost use Rattle.std.specs.Prelude.{◌≡◌, None, Some, IfNone, IfOk, IfSome,
 ghost use Rattle.rt_agg.specs.Grouped.{Holds};
 ghost use Rattle.rt_model.specs.Aggregate.{taken};
 ghost use Rattle.rt_model.specs.Checked.{IsQuery};
-ghost use Rattle.rt_scan.specs.FileColumn.{file_values};
+ghost use Rattle.rt_seek.specs.FileColumn.{file_values};
 ghost use Rattle.rt_scan.specs.Filled.{rows_as, stored_as, values_as};
 
-use crate::file_column::FileColumn;
 use crate::scanning::groups_taken;
 use rt_agg::Groups;
 use rt_model::Query;
 use rt_schema::{Column, Schema};
+use rt_seek::FileColumn;
 use rt_segment::{Sealed, SegmentColumn};
 use std::alloc::{AllocError, Global};
 

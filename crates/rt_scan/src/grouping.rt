@@ -4,17 +4,17 @@ ghost use Rattle.rt_schema.specs.declared.row.Row.{Row as AnyRow};
 ghost use Rattle.rt_model.specs.Aggregate.{key_of, taken};
 ghost use Rattle.rt_model.specs.Match.{passes, value_in};
 ghost use Rattle.rt_agg.specs.Grouped.{AddsUnder, Fits, Holds};
-ghost use Rattle.rt_scan.specs.Table.{row_at, rows_by};
+ghost use Rattle.rt_seek.specs.Table.{row_at, rows_by};
 ghost use Rattle.rt_scan.specs.Grouping.{key_by, value_by, Leads};
 
 use crate::group_ids::GroupIds;
 use crate::row_reader::RowReader;
-use crate::scan_column::ScanColumn;
 use rt_agg::Groups;
 use rt_lists::Items;
 use rt_model::{ColumnAt, Query};
 use rt_postings::DocSet;
 use rt_schema::Value;
+use rt_seek::ScanColumn;
 use std::alloc::{AllocError, Global};
 
 /// The groups of the rows of a set. Fails only where memory is refused.

@@ -1,14 +1,12 @@
 //! The rows that meet a predicate, as a set.
 ghost use Rattle.std.specs.Prelude.{◌≡◌, All, length, map, IfOk};
 ghost use Rattle.rt_model.specs.Match.{matches, meets, passes, value_at};
-ghost use Rattle.rt_scan.specs.ColumnTest.{passes_test};
-ghost use Rattle.rt_scan.specs.Table.{rows_by};
+ghost use Rattle.rt_seek.specs.ColumnTest.{passes_test};
+ghost use Rattle.rt_seek.specs.Table.{rows_by};
 
-use crate::column_test::ColumnTest;
-use crate::row_sets::all_rows;
-use crate::scan_column::ScanColumn;
 use rt_model::{ColumnAt, Condition, Predicate};
 use rt_postings::DocSet;
+use rt_seek::{ColumnTest, ScanColumn, all_rows};
 use std::alloc::{AllocError, Global};
 
 /// Which of so many rows pass a filter. Fails only where memory is refused.

@@ -1,8 +1,8 @@
 ghost use Rattle.std.specs.Prelude.{◌≡◌};
-ghost use Rattle.rt_scan.specs.Table.{row_at};
+ghost use Rattle.rt_seek.specs.Table.{row_at};
 
-use crate::scan_column::ScanColumn;
 use rt_agg::{ReadRow, Scalar};
+use rt_seek::ScanColumn;
 
 /// A row of a table of columns.
 #[derive(Clone, Copy)]

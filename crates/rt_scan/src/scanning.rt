@@ -4,22 +4,20 @@ ghost use Rattle.rt_model.specs.Aggregate.{taken};
 ghost use Rattle.rt_segment.specs.Column.{values_of};
 ghost use Rattle.rt_segment.specs.Segment.{rows_of};
 ghost use Rattle.rt_agg.specs.Grouped.{Fits, Holds};
-ghost use Rattle.rt_scan.specs.FileColumn.{file_values};
-ghost use Rattle.rt_scan.specs.Table.{row_at, rows_by};
+ghost use Rattle.rt_seek.specs.FileColumn.{file_values};
+ghost use Rattle.rt_seek.specs.Table.{row_at, rows_by};
 ghost use Rattle.rt_mutable.specs.Consuming.{IsConsuming};
 ghost use Rattle.std.specs.List.{range_with_len};
 ghost use Rattle.rt_scan.specs.Scanned.{FitsSealed, FitsConsuming, rows_before, first_at, consuming_values};
 
-use crate::consuming_column::ConsumingColumn;
-use crate::file_column::FileColumn;
 use crate::grouping::groups_of;
 use crate::matching::rows_that_pass;
-use crate::scan_column::ScanColumn;
 use crate::skipping::skips;
 use rt_agg::Groups;
 use rt_base::Offset;
 use rt_model::Query;
 use rt_mutable::MutableSegment;
+use rt_seek::{ConsumingColumn, FileColumn, ScanColumn};
 use rt_segment::{Sealed, SegmentColumn};
 use std::alloc::{AllocError, Global};
 

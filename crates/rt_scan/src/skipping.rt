@@ -3,11 +3,11 @@ ghost use Rattle.std.specs.Prelude.{◌≡◌, ◌<◌, slice_get};
 ghost use Rattle.rt_segment.specs.Column.{count_in, values_in};
 ghost use Rattle.rt_scan.specs.Skips.{against_if, can_be_one, can_compare, can_lie, can_match, can_pass, is_above, reaches, skips_of, standing_in, standing_of};
 
-use crate::comparable::Comparable;
 use crate::standing::Standing;
 use rt_filter::{accepted, number_against, text_against, truth_against};
 use rt_lists::Text;
 use rt_model::{Comparison, Condition, Literal, Predicate, Query};
+use rt_seek::Comparable;
 use rt_segment::{Dictionary, Sealed, SegmentColumn};
 use std::cmp::Ordering;
 

@@ -5,13 +5,13 @@ use Rattle.std.proofs.lemmas.List.{append-nil}
 use Rattle.std.proofs.lemmas.Option.{same_Some, none-some}
 use Rattle.rt_lists.specs.Members.{Has}
 use Rattle.rt_lists.proofs.Members.{Has-append_left, Has-append_right, map-Has}
+use Rattle.rt_grammar.specs.declared.parts.ItemAt.{ItemAt}
+use Rattle.rt_grammar.specs.declared.parts.GroupAt.{GroupAt}
+use Rattle.rt_grammar.specs.declared.parts.KeyAt.{KeyAt}
+use Rattle.rt_grammar.specs.declared.parts.Parts.{Parts}
 use Rattle.rt_sql.specs.Breaches as breaches
 use Rattle.rt_sql.specs.Breaches.{IsBreach, IsFirstBreach, no_aggregate}
 use Rattle.rt_sql.specs.Rules.{has_aggregate, first_byte, may_stand, ungrouped, is_grouped, repeated, is_selected, is_group, stray, first_of, breach}
-use Rattle.rt_sql.specs.declared.parts.ItemAt.{ItemAt}
-use Rattle.rt_sql.specs.declared.parts.GroupAt.{GroupAt}
-use Rattle.rt_sql.specs.declared.parts.KeyAt.{KeyAt}
-use Rattle.rt_sql.specs.declared.parts.Parts.{Parts}
 use Rattle.rt_sql.proofs.Rising.{Rising, item_byte, group_byte, key_byte, bytes_of}
 
 -- Numbers that ascend

@@ -19,26 +19,27 @@ use Rattle.rt_model.specs.declared.query_parts.ColumnAt.{ColumnAt}
 use Rattle.rt_model.specs.declared.query_parts.Item.{Item}
 use Rattle.rt_model.specs.declared.query_parts.Item.TheVariants as item
 use Rattle.rt_model.specs.declared.query_parts.Literal.{Literal}
+use Rattle.rt_tokens.specs.Literals.{rows, or_none}
+use Rattle.rt_tokens.specs.Tokens.{tokens_of}
+use Rattle.rt_tokens.specs.declared.lexeme.Lexeme.TheVariants.{Word, Name}
+use Rattle.rt_tokens.specs.declared.lexeme.Word.TheVariants as word
+use Rattle.rt_tokens.specs.declared.token.Token.{Token}
+use Rattle.rt_grammar.specs.Columns.{place_of, column_at}
+use Rattle.rt_grammar.specs.Grammar as grammar
+use Rattle.rt_grammar.specs.Grammar.{tok, Repeats, no_more, comma, IsLiteral, number, minus, quoted, truth, untruth, IsList, list, IsTest, between, one_of, none_of, IsTerm, negated, enclosed, test as tested_name, IsCondition, condition, MoreTerms, no_term, and, IsPredicate, predicate, MoreConditions, no_condition, or, IsItem, column, count, sum, min, max, IsKey, key, IsName, name, IsWhere, unfiltered, filtered, IsGroups, grouped, IsOrder, unordered, ordered, IsLimit, unlimited, limited, IsQuery, query, or_else}
+use Rattle.rt_grammar.specs.Whole.{query_with}
+use Rattle.rt_grammar.specs.Run.{Answers}
+use Rattle.rt_grammar.specs.declared.parts.ItemAt.{ItemAt}
+use Rattle.rt_grammar.specs.declared.parts.GroupAt.{GroupAt}
+use Rattle.rt_grammar.specs.declared.parts.KeyAt.{KeyAt}
+use Rattle.rt_grammar.specs.declared.parts.Parts.{Parts}
+use Rattle.rt_grammar.specs.declared.sql_refused.SqlRefused.{SqlRefused}
 use Rattle.rt_sql.specs.Checks.{are_known}
-use Rattle.rt_sql.specs.Columns.{place_of, column_at}
-use Rattle.rt_sql.specs.Grammar as grammar
-use Rattle.rt_sql.specs.Grammar.{tok, Repeats, no_more, comma, IsLiteral, number, minus, quoted, truth, untruth, IsList, list, IsTest, between, one_of, none_of, IsTerm, negated, enclosed, test as tested_name, IsCondition, condition, MoreTerms, no_term, and, IsPredicate, predicate, MoreConditions, no_condition, or, IsItem, column, count, sum, min, max, IsKey, key, IsName, name, IsWhere, unfiltered, filtered, IsGroups, grouped, IsOrder, unordered, ordered, IsLimit, unlimited, limited, IsQuery, query, or_else}
 use Rattle.rt_sql.specs.Kinds.{is_kind, is_typed_item, are_typed_items, is_typed_filter, is_typed_query}
-use Rattle.rt_sql.specs.Literals.{rows, or_none}
-use Rattle.rt_sql.specs.Parsing.{query_with, query_of}
+use Rattle.rt_sql.specs.Parsing.{query_of}
 use Rattle.rt_sql.specs.Queries.{IsTextOf}
 use Rattle.rt_sql.specs.Rules.{is_grouped, is_aggregate, has_aggregate, may_stand, ungrouped, repeated, same_aggregate, same_item, is_selected, is_group, stray, first_of, breach}
-use Rattle.rt_sql.specs.Run.{Answers}
-use Rattle.rt_sql.specs.Tokens.{tokens_of}
 use Rattle.rt_sql.specs.declared.before.Before.TheVariants.{Other}
-use Rattle.rt_sql.specs.declared.lexeme.Lexeme.TheVariants.{Word, Name}
-use Rattle.rt_sql.specs.declared.lexeme.Word.TheVariants as word
-use Rattle.rt_sql.specs.declared.parts.ItemAt.{ItemAt}
-use Rattle.rt_sql.specs.declared.parts.GroupAt.{GroupAt}
-use Rattle.rt_sql.specs.declared.parts.KeyAt.{KeyAt}
-use Rattle.rt_sql.specs.declared.parts.Parts.{Parts}
-use Rattle.rt_sql.specs.declared.sql_refused.SqlRefused.{SqlRefused}
-use Rattle.rt_sql.specs.declared.token.Token.{Token}
 use Rattle.rt_sql.proofs.Texts.{answered_text, none_broken}
 
 -- Columns by their names

@@ -5,8 +5,8 @@ use Rattle.std.proofs.lemmas.List.{take_more}
 use Rattle.std.specs.BTreeSet.{insert_key}
 use Rattle.rt_schema.proofs.Lists.{drop_next}
 use Rattle.rt_schema.proofs.Names.{has_key, has_key-insert_key, key_cmp}
+use Rattle.rt_grammar.specs.declared.parts.GroupAt.{GroupAt}
 use Rattle.rt_sql.specs.Rules.{is_grouped, repeated}
-use Rattle.rt_sql.specs.declared.parts.GroupAt.{GroupAt}
 
 or_false : (b : Bool) → (b || false) ≡ (false || b)
 or_false true = refl

@@ -1,15 +1,6 @@
-pub mod Places
-pub mod Nots
-pub mod Completing
-pub mod Sound
-pub mod Forward
-pub mod Deeper
-pub mod Viable
-pub mod Deepest
 pub mod Grouped
 pub mod Rising
 pub mod Breaches
 pub mod Texts
-pub mod Cutting
 pub mod Answered
 pub mod Fitting

@@ -1,57 +1,24 @@
--- The bytes at which tokens begin ascend, and so do those of the parts that are read from them.
-use Rattle.std.proofs.Common.{ℕ, zero, suc, ◌-◌, ◌≤◌, Bool, true, false, List, [], ◌∷◌, ◌++◌, map, Option, Some, None, if◌then◌else◌, arith}
+-- The bytes of the parts that are read from ascending tokens ascend.
+use Rattle.std.proofs.Common.{ℕ, ◌≤◌, Bool, List, [], ◌∷◌, ◌++◌, map, Option, arith}
 use Rattle.rt_schema.specs.declared.schema.Schema.{Schema}
 use Rattle.rt_model.specs.Tree.{Tree}
 use Rattle.rt_model.specs.declared.query_parts.ColumnAt.{ColumnAt}
 use Rattle.rt_model.specs.declared.query_parts.Literal.{Literal}
-use Rattle.rt_sql.specs.Grammar as grammar
-use Rattle.rt_sql.specs.Grammar.{tok, Repeats, no_more, comma, IsLiteral, number, minus, quoted, truth, untruth, IsList, list, IsTest, compares, between, one_of, none_of, IsTerm, negated, enclosed, test as tested_name, IsCondition, condition, MoreTerms, no_term, and, IsPredicate, predicate, MoreConditions, no_condition, or, IsItem, column, count, sum, min, max, IsDirection, unsaid, ascending, descending, IsKey, key, IsName, name, IsWhere, unfiltered, filtered, IsGroups, grouped, IsOrder, unordered, ordered, IsQuery, query}
-use Rattle.rt_sql.specs.Tokens.{is_blank, first_token, begin, tokens_at, tokens_of}
-use Rattle.rt_sql.specs.declared.lexeme.Lexeme.TheVariants.{Word, Name, Number}
-use Rattle.rt_sql.specs.declared.lexeme.Word.TheVariants as word
-use Rattle.rt_sql.specs.declared.lexer.Lexed.{Lexed}
-use Rattle.rt_sql.specs.declared.parts.ItemAt.{ItemAt}
-use Rattle.rt_sql.specs.declared.parts.GroupAt.{GroupAt}
-use Rattle.rt_sql.specs.declared.parts.KeyAt.{KeyAt}
-use Rattle.rt_sql.specs.declared.parts.Parts.{Parts}
-use Rattle.rt_sql.specs.declared.token.Token.{Token}
+use Rattle.rt_tokens.specs.declared.lexeme.Lexeme.TheVariants.{Word, Name, Number}
+use Rattle.rt_tokens.specs.declared.lexeme.Word.TheVariants as word
+use Rattle.rt_tokens.specs.declared.token.Token.{Token}
+use Rattle.rt_tokens.proofs.Rising.{Rises, lower, behind}
+use Rattle.rt_grammar.specs.Grammar as grammar
+use Rattle.rt_grammar.specs.Grammar.{tok, Repeats, no_more, comma, IsLiteral, number, minus, quoted, truth, untruth, IsList, list, IsTest, compares, between, one_of, none_of, IsTerm, negated, enclosed, test as tested_name, IsCondition, condition, MoreTerms, no_term, and, IsPredicate, predicate, MoreConditions, no_condition, or, IsItem, column, count, sum, min, max, IsDirection, unsaid, ascending, descending, IsKey, key, IsName, name, IsWhere, unfiltered, filtered, IsGroups, grouped, IsOrder, unordered, ordered, IsQuery, query}
+use Rattle.rt_grammar.specs.declared.parts.ItemAt.{ItemAt}
+use Rattle.rt_grammar.specs.declared.parts.GroupAt.{GroupAt}
+use Rattle.rt_grammar.specs.declared.parts.KeyAt.{KeyAt}
+use Rattle.rt_grammar.specs.declared.parts.Parts.{Parts}
 
 -- numbers that ascend from one on
 abbrev pub Rising : ℕ → List ℕ → Type 0
 Rising n [] = Unit {0}
 Rising n (b ∷ bs) = (n ≤ b) × Rising b bs
-
-abbrev pub Rises : ℕ → List Token → Type 0
-Rises n [] = Unit {0}
-Rises n (t ∷ ts) = (n ≤ t.byte) × Rises t.byte ts
-
-lower : (m n : ℕ) (ts : List Token) → m ≤ n → Rises n ts → Rises m ts
-lower m n [] le h = tt
-lower m n (t ∷ ts) le (first, rest) = (omega (arith, le, first), rest)
-
-behind : (n byte : ℕ) (ts : List Token) → (n ≤ byte) × Rises byte ts → Rises n ts
-behind n byte ts (first, rest) = lower n byte ts first rest
-
--- Tokens
-
-begun : (n byte : ℕ) (o : Option Lexed) (more : ℕ → List Token) → n ≤ byte → ((skip : ℕ) → Rises byte (more skip)) → Rises n (begin byte o more)
-begun n byte None more le h = (le, tt)
-begun n byte (Some lexed) more le h = (le, h (lexed.length - 1))
-
-either_way : (n : ℕ) (b : Bool) (xs ys : List Token) → Rises n xs → Rises n ys → Rises n (if b then xs else ys)
-either_way n true xs ys h k = h
-either_way n false xs ys h k = k
-
-tokens_rise : (n skip byte : ℕ) (bytes : List ℕ) → n ≤ byte → Rises n (tokens_at skip byte bytes)
-tokens_rise n skip byte [] le = tt
-tokens_rise n (suc skip) byte (b ∷ bytes) le = tokens_rise n skip (suc byte) bytes (omega (arith, le))
-tokens_rise n zero byte (b ∷ bytes) le =
-    either_way n (is_blank b) (tokens_at 0 (suc byte) bytes) (begin byte (first_token (b ∷ bytes)) (λ skip. tokens_at skip (suc byte) bytes))
-    (tokens_rise n 0 (suc byte) bytes (omega (arith, le)))
-    (begun n byte (first_token (b ∷ bytes)) (λ skip. tokens_at skip (suc byte) bytes) le (λ skip. tokens_rise byte skip (suc byte) bytes (omega arith)))
-
-pub text_rises : (x : List ℕ) → Rises 0 (tokens_of x)
-text_rises x = tokens_rise 0 0 0 x (omega arith)
 
 -- What follows a part
 

@@ -3,28 +3,30 @@ use Rattle.std.proofs.Common.{◌≡◌, ℕ, Bool, true, false, List, ◌∷◌
 use Rattle.std.proofs.lemmas.Bool.{leb-true, leb-false, le-leb}
 use Rattle.rt_schema.specs.declared.schema.Schema.{Schema}
 use Rattle.rt_model.specs.declared.query.Query.{Query}
+use Rattle.rt_tokens.specs.Tokens.{tokens_of}
+use Rattle.rt_tokens.specs.declared.token.Token.{Token}
+use Rattle.rt_tokens.proofs.Rising.{text_rises}
+use Rattle.rt_grammar.specs.Faults.{NestsDeeper}
+use Rattle.rt_grammar.specs.Grammar.{IsQuery, query}
+use Rattle.rt_grammar.specs.Whole.{query_with}
+use Rattle.rt_grammar.specs.Run.{Answers, nothing, run}
+use Rattle.rt_grammar.specs.declared.parts.ItemAt.{ItemAt}
+use Rattle.rt_grammar.specs.declared.parts.Parts.{Parts}
+use Rattle.rt_grammar.specs.declared.sql_refused.SqlRefused.{SqlRefused}
+use Rattle.rt_grammar.specs.declared.sql_refused.SqlRefused.TheVariants.{Syntax, NoTable, NoColumn, WrongType, Limit, Memory}
+use Rattle.rt_grammar.proofs.Sound.{sound}
+use Rattle.rt_grammar.proofs.Forward.{complete}
+use Rattle.rt_grammar.proofs.Viable.{first_fault, refused_deep}
+use Rattle.rt_grammar.proofs.Deepest.{deep_nests}
 use Rattle.rt_sql.specs.Breaches.{IsBreach}
 use Rattle.rt_sql.specs.Checks.{are_known, are_within}
-use Rattle.rt_sql.specs.Faults.{NestsDeeper}
-use Rattle.rt_sql.specs.Grammar.{IsQuery, query}
 use Rattle.rt_sql.specs.Kinds.{is_typed_query}
-use Rattle.rt_sql.specs.Parsing.{is_table, query_with, checked, query_from, query_of}
+use Rattle.rt_sql.specs.Parsing.{is_table, checked, query_from, query_of}
 use Rattle.rt_sql.specs.Queries.{IsOfTable, IsTextOf, IsMisspelt, by_grammar, by_rule, IsReadAs, IfMisspelt, IsLimited, PassesLimit, by_length, by_depth, by_number, IfLimited}
 use Rattle.rt_sql.specs.Rules.{breach}
-use Rattle.rt_sql.specs.Run.{Answers, nothing, run}
-use Rattle.rt_sql.specs.Tokens.{tokens_of}
 use Rattle.rt_sql.specs.declared.before.Before.TheVariants.{Other}
-use Rattle.rt_sql.specs.declared.parts.ItemAt.{ItemAt}
-use Rattle.rt_sql.specs.declared.parts.Parts.{Parts}
-use Rattle.rt_sql.specs.declared.sql_refused.SqlRefused.{SqlRefused}
-use Rattle.rt_sql.specs.declared.sql_refused.SqlRefused.TheVariants.{Syntax, NoTable, NoColumn, WrongType, Limit, Memory}
-use Rattle.rt_sql.specs.declared.token.Token.{Token}
 use Rattle.rt_sql.proofs.Breaches.{breach_found, first_breach, no_breach}
-use Rattle.rt_sql.proofs.Rising.{text_rises, query_rises}
-use Rattle.rt_sql.proofs.Sound.{sound}
-use Rattle.rt_sql.proofs.Forward.{complete}
-use Rattle.rt_sql.proofs.Viable.{first_fault, refused_deep}
-use Rattle.rt_sql.proofs.Deepest.{deep_nests}
+use Rattle.rt_sql.proofs.Rising.{query_rises}
 
 if_ok : {A : Type 0} (b : Bool) (x : Result A SqlRefused) (e : SqlRefused) (q : A) → (if b then x else Err e) ≡ Ok q → (b ≡ true) × (x ≡ Ok q)
 if_ok true x e q h = (refl, h)

@@ -1,11 +1,11 @@
 -- Where a query of the grammar breaks a further rule of syntax.
 use Rattle.std.specs.Prelude.{◌≡◌, ◌≤◌, ℕ, true, false, List, ◌∷◌, ◌++◌}
 use Rattle.rt_lists.specs.Members.{Has}
+use Rattle.rt_grammar.specs.declared.parts.ItemAt.{ItemAt}
+use Rattle.rt_grammar.specs.declared.parts.GroupAt.{GroupAt}
+use Rattle.rt_grammar.specs.declared.parts.KeyAt.{KeyAt}
+use Rattle.rt_grammar.specs.declared.parts.Parts.{Parts}
 use Rattle.rt_sql.specs.Rules.{has_aggregate, may_stand, is_grouped, is_selected, is_group}
-use Rattle.rt_sql.specs.declared.parts.ItemAt.{ItemAt}
-use Rattle.rt_sql.specs.declared.parts.GroupAt.{GroupAt}
-use Rattle.rt_sql.specs.declared.parts.KeyAt.{KeyAt}
-use Rattle.rt_sql.specs.declared.parts.Parts.{Parts}
 
 -- a rule is broken by what begins at this byte
 pub data IsBreach (parts : Parts) : ℕ → Type 0 where

@@ -1,14 +1,14 @@
 -- What is asked of each token of a query, by the token before it.
 use Rattle.std.specs.Prelude.{◌&&◌, Bool, true, false, List, [], ◌∷◌, length, nat_lt, is_some}
 use Rattle.rt_schema.specs.declared.schema.Schema.{Schema}
-use Rattle.rt_sql.specs.Columns.{place_of}
-use Rattle.rt_sql.specs.Literals.{whole, rows}
+use Rattle.rt_tokens.specs.Literals.{whole, rows}
+use Rattle.rt_tokens.specs.declared.lexeme.Lexeme.{Lexeme}
+use Rattle.rt_tokens.specs.declared.lexeme.Lexeme.TheVariants.{Word, Name, Number}
+use Rattle.rt_tokens.specs.declared.lexeme.Word.TheVariants as word
+use Rattle.rt_tokens.specs.declared.token.Token.{Token}
+use Rattle.rt_grammar.specs.Columns.{place_of}
 use Rattle.rt_sql.specs.declared.before.Before.{Before}
 use Rattle.rt_sql.specs.declared.before.Before.TheVariants.{From, Limit, Minus, Other}
-use Rattle.rt_sql.specs.declared.lexeme.Lexeme.{Lexeme}
-use Rattle.rt_sql.specs.declared.lexeme.Lexeme.TheVariants.{Word, Name, Number}
-use Rattle.rt_sql.specs.declared.lexeme.Word.TheVariants as word
-use Rattle.rt_sql.specs.declared.token.Token.{Token}
 
 abbrev pub before_next : Lexeme → Before
 before_next (Word word.From) = From

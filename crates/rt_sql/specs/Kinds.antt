@@ -8,8 +8,8 @@ use Rattle.rt_model.specs.Tree.{Tree}
 use Rattle.rt_model.specs.declared.query_parts.Aggregate.TheVariants as aggregate
 use Rattle.rt_model.specs.declared.query_parts.Item.{Item}
 use Rattle.rt_model.specs.declared.query_parts.Item.TheVariants as item
-use Rattle.rt_sql.specs.declared.parts.ItemAt.{ItemAt}
-use Rattle.rt_sql.specs.declared.parts.Parts.{Parts}
+use Rattle.rt_grammar.specs.declared.parts.ItemAt.{ItemAt}
+use Rattle.rt_grammar.specs.declared.parts.Parts.{Parts}
 
 -- there is a column, and its kind passes a test
 abbrev pub is_kind : (Kind → Bool) → Option Kind → Bool

@@ -1,16 +1,6 @@
-pub mod Columns
-pub mod Literals
-pub mod Testing
-pub mod Nested
-pub mod Steps
-pub mod Run
-pub mod Tokens
-pub mod Grammar
 pub mod Rules
 pub mod Breaches
 pub mod Kinds
 pub mod Checks
 pub mod Parsing
-pub mod Faults
-pub mod Laws
 pub mod Queries

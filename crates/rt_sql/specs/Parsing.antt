@@ -1,25 +1,23 @@
 -- The query that a text is, or why it is none.
-use Rattle.std.specs.Prelude.{ℕ, ◌||◌, Bool, List, ◌++◌, map, length, nat_le, codes, Option, Some, None, Result, Ok, Err, if◌then◌else◌}
+use Rattle.std.specs.Prelude.{ℕ, ◌||◌, Bool, List, ◌++◌, length, nat_le, codes, Option, Some, None, Result, Ok, Err, if◌then◌else◌}
 use Rattle.std.specs.Str.{bytes_eq}
 use Rattle.rt_schema.specs.declared.schema.Schema.{Schema}
 use Rattle.rt_model.specs.declared.query.Query.{Query}
+use Rattle.rt_tokens.specs.Tokens.{tokens_of}
+use Rattle.rt_tokens.specs.declared.token.Token.{Token}
+use Rattle.rt_grammar.specs.Run.{nothing, run}
+use Rattle.rt_grammar.specs.Whole.{query_with}
+use Rattle.rt_grammar.specs.declared.parts.Parts.{Parts}
+use Rattle.rt_grammar.specs.declared.sql_refused.SqlRefused.{SqlRefused}
+use Rattle.rt_grammar.specs.declared.sql_refused.SqlRefused.TheVariants.{Syntax, NoTable, NoColumn, WrongType, Limit}
 use Rattle.rt_sql.specs.Checks.{are_known, are_within}
 use Rattle.rt_sql.specs.Kinds.{is_typed_query}
 use Rattle.rt_sql.specs.Rules.{breach}
-use Rattle.rt_sql.specs.Run.{nothing, run}
-use Rattle.rt_sql.specs.Tokens.{tokens_of}
 use Rattle.rt_sql.specs.declared.before.Before.TheVariants.{Other}
-use Rattle.rt_sql.specs.declared.parts.Parts.{Parts}
-use Rattle.rt_sql.specs.declared.sql_refused.SqlRefused.{SqlRefused}
-use Rattle.rt_sql.specs.declared.sql_refused.SqlRefused.TheVariants.{Syntax, NoTable, NoColumn, WrongType, Limit}
-use Rattle.rt_sql.specs.declared.token.Token.{Token}
 
 -- the table, or its realtime part
 abbrev pub is_table : List ℕ → List ℕ → Bool
 is_table name table = bytes_eq name table || bytes_eq name (table ++ codes "_REALTIME")
-
-abbrev pub query_with : Parts → Query
-query_with parts = record { items = map (λ i. i.item) parts.items; filter = parts.filter; groups = map (λ g. g.column) parts.groups; order = map (λ k. k.key) parts.order; limit = parts.limit }
 
 -- the first refusal that applies to a query of the grammar
 abbrev pub checked : Schema → List ℕ → List Token → Option ℕ → Parts → Result Query SqlRefused

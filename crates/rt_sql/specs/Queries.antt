@@ -2,18 +2,19 @@
 use Rattle.std.specs.Prelude.{◌≡◌, ℕ, ◌<◌, ◌≤◌, true, false, List, length, Result, Ok, Err}
 use Rattle.rt_schema.specs.declared.schema.Schema.{Schema}
 use Rattle.rt_model.specs.declared.query.Query.{Query}
+use Rattle.rt_tokens.specs.Tokens.{tokens_of}
+use Rattle.rt_tokens.specs.declared.token.Token.{Token}
+use Rattle.rt_grammar.specs.Faults.{IsFault, NestsDeeper}
+use Rattle.rt_grammar.specs.Grammar.{IsQuery}
+use Rattle.rt_grammar.specs.Whole.{query_with}
+use Rattle.rt_grammar.specs.declared.parts.Parts.{Parts}
+use Rattle.rt_grammar.specs.declared.sql_refused.SqlRefused.{SqlRefused}
+use Rattle.rt_grammar.specs.declared.sql_refused.SqlRefused.TheVariants.{Syntax, NoTable, NoColumn, WrongType, Limit, Memory}
 use Rattle.rt_sql.specs.Breaches.{IsBreach, IsFirstBreach}
 use Rattle.rt_sql.specs.Checks.{are_known, are_within}
-use Rattle.rt_sql.specs.Faults.{IsFault, NestsDeeper}
-use Rattle.rt_sql.specs.Grammar.{IsQuery}
 use Rattle.rt_sql.specs.Kinds.{is_typed_query}
-use Rattle.rt_sql.specs.Parsing.{is_table, query_with}
-use Rattle.rt_sql.specs.Tokens.{tokens_of}
+use Rattle.rt_sql.specs.Parsing.{is_table}
 use Rattle.rt_sql.specs.declared.before.Before.TheVariants.{Other}
-use Rattle.rt_sql.specs.declared.parts.Parts.{Parts}
-use Rattle.rt_sql.specs.declared.sql_refused.SqlRefused.{SqlRefused}
-use Rattle.rt_sql.specs.declared.sql_refused.SqlRefused.TheVariants.{Syntax, NoTable, NoColumn, WrongType, Limit, Memory}
-use Rattle.rt_sql.specs.declared.token.Token.{Token}
 
 -- a query of the grammar that is one of a table
 pub record IsOfTable (schema : Schema) (table : List ℕ) (tokens : List Token) (parts : Parts) : Type 0 where

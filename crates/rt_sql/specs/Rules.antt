@@ -5,10 +5,10 @@ use Rattle.rt_model.specs.declared.query_parts.Aggregate.{Aggregate as Function}
 use Rattle.rt_model.specs.declared.query_parts.Aggregate.TheVariants.{Count, Sum, Min, Max}
 use Rattle.rt_model.specs.declared.query_parts.Item.{Item}
 use Rattle.rt_model.specs.declared.query_parts.Item.TheVariants.{Column, Aggregate}
-use Rattle.rt_sql.specs.declared.parts.ItemAt.{ItemAt}
-use Rattle.rt_sql.specs.declared.parts.GroupAt.{GroupAt}
-use Rattle.rt_sql.specs.declared.parts.KeyAt.{KeyAt}
-use Rattle.rt_sql.specs.declared.parts.Parts.{Parts}
+use Rattle.rt_grammar.specs.declared.parts.ItemAt.{ItemAt}
+use Rattle.rt_grammar.specs.declared.parts.GroupAt.{GroupAt}
+use Rattle.rt_grammar.specs.declared.parts.KeyAt.{KeyAt}
+use Rattle.rt_grammar.specs.declared.parts.Parts.{Parts}
 
 abbrev pub is_grouped : List ℕ → List GroupAt → Bool
 is_grouped name [] = false

@@ -3,11 +3,9 @@ ghost use Rattle.rt_schema.specs.Schema.{IsSchema};
 ghost use Rattle.rt_sql.specs.Checks.{before_next, is_known, are_known, is_within, are_within};
 ghost use Rattle.rt_sql.specs.declared.before.Before.TheVariants.{Other};
 
-use crate::columns::is_column;
-use crate::lexeme::{Lexeme, Word};
-use crate::literals::{rows, whole};
-use crate::token::Token;
+use rt_grammar::is_column;
 use rt_schema::Schema;
+use rt_tokens::{Lexeme, Token, Word, rows, whole};
 
 /// What stands right before a token.
 #[derive(Clone, Copy, Debug, PartialEq, Eq)]

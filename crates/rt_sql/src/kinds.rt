@@ -2,8 +2,8 @@ ghost use Rattle.std.specs.Prelude.{◌≡◌, ◌&&◌, Option};
 ghost use Rattle.rt_model.specs.Checked.{has_extremes, has_sum, kind_at};
 ghost use Rattle.rt_sql.specs.Kinds.{is_kind, is_typed_item, are_typed_items, is_typed_filter, is_typed_query};
 
-use crate::parts::{ItemAt, Parts};
 use rt_filter::{check, kind_at};
+use rt_grammar::{ItemAt, Parts};
 use rt_model::{Aggregate, ColumnAt, Item, Predicate};
 use rt_schema::{Kind, Schema};
 

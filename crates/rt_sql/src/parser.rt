@@ -1,21 +1,20 @@
 ghost use Rattle.std.specs.Prelude.{◌≡◌, IfOk};
 ghost use Rattle.rt_schema.specs.Schema.{IsSchema};
 ghost use Rattle.rt_model.specs.Checked.{IsQuery};
-ghost use Rattle.rt_sql.specs.Run.{Answers};
+ghost use Rattle.rt_tokens.specs.Tokens.{tokens_of};
+ghost use Rattle.rt_grammar.specs.Run.{Answers};
+ghost use Rattle.rt_grammar.specs.Faults.{NestsDeeper};
 ghost use Rattle.rt_sql.specs.Parsing.{is_table, query_of};
-ghost use Rattle.rt_sql.specs.Faults.{NestsDeeper};
-ghost use Rattle.rt_sql.specs.Tokens.{tokens_of};
 ghost use Rattle.rt_sql.specs.Queries.{IsTextOf, IsReadAs, IfMisspelt, IsLimited, IfLimited};
 
-use crate::SqlRefused;
 use crate::before::{are_known, are_within};
 use crate::kinds::is_typed_query;
-use crate::lexer::tokens_of;
-use crate::reader::read;
 use crate::rules::breach;
 use rt_base::limits::LONGEST_QUERY;
+use rt_grammar::{SqlRefused, read};
 use rt_model::Query;
 use rt_schema::Schema;
+use rt_tokens::tokens_of;
 use std::alloc::{AllocError, Global};
 
 /// The query that a text is, of a table with a schema: what the grammar of queries derives from the

@@ -1,7 +1,7 @@
 ghost use Rattle.std.specs.Prelude.{◌≡◌, [], IfOk};
 ghost use Rattle.rt_sql.specs.Rules.{is_grouped, is_aggregate, has_aggregate, may_stand, ungrouped, repeated, same_aggregate, same_item, is_selected, is_group, stray, first_byte, first_of, breach};
 
-use crate::parts::{GroupAt, ItemAt, KeyAt, Parts};
+use rt_grammar::{GroupAt, ItemAt, KeyAt, Parts};
 use rt_model::{Aggregate, ColumnAt, Item};
 use std::alloc::{AllocError, Global};
 use std::collections::BTreeSet;

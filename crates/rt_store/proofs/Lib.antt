@@ -1,9 +1,11 @@
 pub mod Assigned
 pub mod Beginnings
 pub mod Fresh
+pub mod GoingOn
 pub mod Keys
 pub mod Latest
 pub mod Listing
 pub mod Nodes
+pub mod Refusals
 pub mod Seeing
 pub mod Told

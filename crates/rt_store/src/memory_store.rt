@@ -98,8 +98,8 @@ impl MemoryStore {
         }
     }
 
-    /// The value of a key: its last write, unless that is a deletion.
-    fn value(&self, key: Key) -> Option<&Seen>
+    /// The value of a key: its last write, unless that is a deletion. It is no call of a store, and meets no fault.
+    pub fn value(&self, key: Key) -> Option<&Seen>
         ensures { option_copied result ≡ value_of self.now.writes key }
     {
         match self.last_write(key) {
@@ -168,8 +168,8 @@ impl MemoryStore {
         Ok(version)
     }
 
-    /// The metadata nodes of a partition that are there, by sequence.
-    fn metadata(&self, alloc: Global, partition: Partition) -> Result<Items<Listed>, AllocError>
+    /// The metadata nodes of a partition that are there, by sequence. It is no call of a store, and meets no fault.
+    pub fn metadata(&self, alloc: Global, partition: Partition) -> Result<Items<Listed>, AllocError>
         ensures { IfOk result (λ nodes. nodes ≡ metadata_of self.now.writes partition) }
     {
         let mut nodes = Items::new(alloc);

@@ -1,5 +1,6 @@
 -- What a world means: the state of everything, until memory ran out at an event.
 use Rattle.std.specs.Prelude.{Bool}
+use Rattle.rt_world.specs.Room.{spent}
 use Rattle.rt_world.specs.declared.state.State.{State}
 
 pub record Kept : Type 0 where

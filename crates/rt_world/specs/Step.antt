@@ -1,173 +1,107 @@
--- What each event makes of a world, and what comes of it.
-use Rattle.std.specs.Prelude.{◌≡◌, ◌+◌, ◌-◌, ℕ, Bool, true, false, if◌then◌else◌, ◌==◌, ◌&&◌, ◌||◌, nat_le, nat_lt, List, [], ◌∷◌, ◌++◌, length, map, take, drop, replicate, Option, Some, None, Result, Ok, Err}
-use Rattle.rt_base.specs.declared.numbers.Moment.{Moment}
-use Rattle.rt_base.specs.declared.numbers.Partition.{Partition}
-use Rattle.rt_model.specs.declared.answer.Answer.{Answer}
-use Rattle.rt_model.specs.declared.query.Query.{Query}
-use Rattle.rt_model.specs.Aggregate.{aggregate}
-use Rattle.rt_model.specs.RightAnswer.{AskedPiece, Routed, named_ranges, missing_of}
-use Rattle.rt_model.specs.declared.replica_state.ReplicaState.{ReplicaState}
-use Rattle.rt_model.specs.declared.replica_state.ReplicaState.TheVariants.{InitialConsuming, Holding}
-use Rattle.rt_model.specs.declared.setup.Setup.{Setup}
-use Rattle.rt_world.specs.declared.event.Event.{Event}
-use Rattle.rt_world.specs.declared.event.Event.TheVariants as event
-use Rattle.rt_world.specs.declared.outcome.Outcome.{Outcome}
-use Rattle.rt_world.specs.declared.outcome.Outcome.TheVariants.{Produced, Consumed, Answered}
-use Rattle.rt_world.specs.declared.refusal.Refusal.{Refusal}
-use Rattle.rt_world.specs.declared.refusal.Refusal.TheVariants.{NoSuchMessage, NoSuchNode, NodeDown, NothingToDo, Limit, Memory}
-use Rattle.rt_world.specs.declared.replica.Replica.{Replica}
-use Rattle.rt_world.specs.declared.state.State.{State}
-use Rattle.rt_world.specs.Due.{Due, due_of, pass_due}
-use Rattle.rt_schema.specs.declared.row.Row.{Row}
-use Rattle.rt_schema.specs.declared.schema.Schema.{Schema}
-use Rattle.rt_schema.specs.Row.{row_of}
-use Rattle.rt_stream.specs.Log.{messages_of, with_message}
-use Rattle.rt_world.specs.Held.{messages_between, placed_from}
+-- Each event, in one line: when it can happen, and what it comes to.
+use Rattle.std.specs.Prelude.{◌≡◌, true, false, Result, Ok, Err}
+use Rattle.rt_events.specs.declared.event.Event.{Event}
+use Rattle.rt_events.specs.declared.outcome.Outcome.{Outcome}
+use Rattle.rt_events.specs.declared.refusal.Refusal.{Refusal}
+use Rattle.rt_events.specs.declared.refusal.Refusal.TheVariants.{NoSuchMessage, NoSuchNode, NodeDown, NothingToDo, Limit, Memory}
+use Rattle.rt_world.specs.Applying.{comes, Applies}
+use Rattle.rt_world.specs.Clock.{tick_due, ticked, lead_due, Believes, fault_due, store_faulted, deep_faulted, pass_due, Passes}
+use Rattle.rt_world.specs.Jobs.{job_due, JobSteps}
 use Rattle.rt_world.specs.Kept.{Kept}
+use Rattle.rt_world.specs.Lives.{crash_server_due, ServerCrashes, crash_controller_due, ControllerCrashes, restart_server_due, ServerRestarts, restart_controller_due, ControllerRestarts}
+use Rattle.rt_world.specs.Messages.{deliver_due, Delivers, reply_due, Replies}
+use Rattle.rt_world.specs.Queries.{ask_due, asked, route_due, Routes, piece_due, Pieces, answer_due, Answers}
+use Rattle.rt_world.specs.Repairs.{repair_due, Repairs, retain_due, Retires}
+use Rattle.rt_world.specs.Replicas.{consume_due, Consumes, force_due, Forces, stop_due, Stops, build_due, Builds}
+use Rattle.rt_world.specs.Requests.{report_due, Reports, extend_due, Extends}
+use Rattle.rt_world.specs.Room.{Found, dropped}
+use Rattle.rt_world.specs.Servers.{see_due, Sees, transit_due, Moves, download_due, Loads}
+use Rattle.rt_world.specs.Shows.{show_meta_due, meta_shown, show_ideal_due, ideal_shown}
+use Rattle.rt_world.specs.Stream.{produce_due, produced}
+use Rattle.rt_world.specs.declared.state.State.{State}
+use Rattle.rt_events.specs.declared.event.Event.TheVariants as event
 
--- the first world of a setup
-abbrev pub first_replica : Moment → Replica
-first_replica started =
-    record {
-      instance = record { 0 = 0 };
-      partition = record { 0 = 0 };
-      sequence = record { 0 = 0 };
-      start = record { 0 = 0 };
-      started = started;
-      cur = record { 0 = 0 };
-      state = InitialConsuming;
-      held = [];
-    }
+-- the refusal of an event, if it is refused
+abbrev pub due_of : State → Event → Found
+due_of w (event.Produce p message) = dropped (produce_due w p message)
+due_of w (event.Tick millis) = dropped (tick_due w millis)
+due_of w (event.Lead c on) = dropped (lead_due w c)
+due_of w (event.Consume i p q max) = dropped (consume_due w i p q max)
+due_of w (event.Force i p q) = dropped (force_due w i p q)
+due_of w (event.Stop i p q) = dropped (stop_due w i p q)
+due_of w (event.Build i p q) = dropped (build_due w i p q)
+due_of w (event.Report i p q) = dropped (report_due w i p q)
+due_of w (event.Extend i p q millis) = dropped (extend_due w i p q)
+due_of w (event.Deliver m c) = dropped (deliver_due w m c)
+due_of w (event.Job c j) = dropped (job_due w c j)
+due_of w (event.Reply m) = dropped (reply_due w m)
+due_of w (event.CrashServer i) = dropped (crash_server_due w i)
+due_of w (event.CrashController c) = dropped (crash_controller_due w c)
+due_of w (event.RestartServer i) = dropped (restart_server_due w i)
+due_of w (event.RestartController c) = dropped (restart_controller_due w c)
+due_of w (event.See i) = dropped (see_due w i)
+due_of w (event.Transit i p q) = dropped (transit_due w i p q)
+due_of w (event.Download i p q) = dropped (download_due w i p q)
+due_of w (event.Repair c p) = dropped (repair_due w c p)
+due_of w (event.Retain c p) = dropped (retain_due w c p)
+due_of w (event.FaultStore kept) = dropped (fault_due w)
+due_of w (event.FaultDeep kept) = dropped (fault_due w)
+due_of w (event.Ask query) = dropped (ask_due w)
+due_of w (event.Route q p) = dropped (route_due w q p)
+due_of w (event.Piece q p s i) = dropped (piece_due w q p s i)
+due_of w (event.Answer q) = dropped (answer_due w q)
+due_of w (event.ShowMeta p q) = dropped (show_meta_due w p)
+due_of w event.ShowIdeal = dropped (show_ideal_due w)
 
-abbrev pub start : Setup → State
-start setup =
-    record {
-      setup = setup;
-      log = replicate setup.partitions [];
-      replica = first_replica setup.start;
-      moment = setup.start;
-      events = 0;
-    }
+-- an event as it happens, or is refused
+abbrev pub Steps : State → Event → State → Result Outcome Refusal → Type 0
+Steps old (event.Produce p message) new result = Applies old (produce_due old p message) (λ cost. comes (produced old p message cost)) new result
+Steps old (event.Tick millis) new result = Applies old (tick_due old millis) (λ cost. comes (ticked old millis cost)) new result
+Steps old (event.Lead c on) new result = Applies old (lead_due old c) (Believes old c on) new result
+Steps old (event.Consume i p q max) new result = Applies old (consume_due old i p q max) (Consumes old i p q max) new result
+Steps old (event.Force i p q) new result = Applies old (force_due old i p q) (Forces old i p q) new result
+Steps old (event.Stop i p q) new result = Applies old (stop_due old i p q) (Stops old i p q) new result
+Steps old (event.Build i p q) new result = Applies old (build_due old i p q) (Builds old i p q) new result
+Steps old (event.Report i p q) new result = Applies old (report_due old i p q) (Reports old i p q) new result
+Steps old (event.Extend i p q millis) new result = Applies old (extend_due old i p q) (Extends old i p q millis) new result
+Steps old (event.Deliver m c) new result = Applies old (deliver_due old m c) (Delivers old m c) new result
+Steps old (event.Job c j) new result = Applies old (job_due old c j) (JobSteps old c j) new result
+Steps old (event.Reply m) new result = Applies old (reply_due old m) (Replies old m) new result
+Steps old (event.CrashServer i) new result = Applies old (crash_server_due old i) (ServerCrashes old i) new result
+Steps old (event.CrashController c) new result = Applies old (crash_controller_due old c) (ControllerCrashes old c) new result
+Steps old (event.RestartServer i) new result = Applies old (restart_server_due old i) (ServerRestarts old i) new result
+Steps old (event.RestartController c) new result = Applies old (restart_controller_due old c) (ControllerRestarts old c) new result
+Steps old (event.See i) new result = Applies old (see_due old i) (Sees old i) new result
+Steps old (event.Transit i p q) new result = Applies old (transit_due old i p q) (Moves old i p q) new result
+Steps old (event.Download i p q) new result = Applies old (download_due old i p q) (Loads old i p q) new result
+Steps old (event.Repair c p) new result = Applies old (repair_due old c p) (Repairs old c p) new result
+Steps old (event.Retain c p) new result = Applies old (retain_due old c p) (Retires old c p) new result
+Steps old (event.FaultStore kept) new result = Applies old (fault_due old) (λ cost. comes (store_faulted old kept cost)) new result
+Steps old (event.FaultDeep kept) new result = Applies old (fault_due old) (λ cost. comes (deep_faulted old kept cost)) new result
+Steps old (event.Ask query) new result = Applies old (ask_due old) (λ cost. comes (asked old query cost)) new result
+Steps old (event.Route q p) new result = Applies old (route_due old q p) (Routes old q p) new result
+Steps old (event.Piece q p s i) new result = Applies old (piece_due old q p s i) (Pieces old q p s i) new result
+Steps old (event.Answer q) new result = Applies old (answer_due old q) (Answers old q) new result
+Steps old (event.ShowMeta p q) new result = Applies old (show_meta_due old p) (λ cost. comes (meta_shown old p q cost)) new result
+Steps old event.ShowIdeal new result = Applies old (show_ideal_due old) (λ cost. comes (ideal_shown old cost)) new result
 
--- a message comes to the end of its partition
-abbrev pub produced : State → Partition → List ℕ → State × Outcome
-produced w partition message =
-    let messages = messages_of w.log partition in (
-      record w { log = with_message w.log partition message; events = w.events + 1 },
-      Produced (record { 0 = length messages }),
-    )
+-- ---- of a world: one at which memory ran out is spent, and answers nothing else any more
 
--- a message takes the room of a row where it is decodable
-abbrev pub room_of : Option Row → ℕ
-room_of None = 0
-room_of (Some row) = 1
+abbrev pub StepsKept : Kept → Event → Kept → Result Outcome Refusal → Type 0
+StepsKept old event new (Ok outcome) =
+    (old.spent ≡ false) × (new.spent ≡ false) × Steps old.state event new.state (Ok outcome)
+StepsKept old event new (Err Memory) = new.spent ≡ true
+StepsKept old event new (Err NoSuchMessage) = (old.spent ≡ false) × (due_of old.state event ≡ Err NoSuchMessage) × (new ≡ old)
+StepsKept old event new (Err NoSuchNode) = (old.spent ≡ false) × (due_of old.state event ≡ Err NoSuchNode) × (new ≡ old)
+StepsKept old event new (Err NodeDown) = (old.spent ≡ false) × (due_of old.state event ≡ Err NodeDown) × (new ≡ old)
+StepsKept old event new (Err NothingToDo) = (old.spent ≡ false) × (due_of old.state event ≡ Err NothingToDo) × (new ≡ old)
+StepsKept old event new (Err (Limit which)) = (old.spent ≡ false) × (due_of old.state event ≡ Err (Limit which)) × (new ≡ old)
 
--- how many of these messages are taken until the room for rows is full
-abbrev pub filling : Schema → ℕ → List (List ℕ) → ℕ
-filling schema room [] = 0
-filling schema room (m ∷ ms) =
-    if room == 0 then 0 else filling schema (room - room_of (row_of schema m)) ms + 1
-
--- how many messages a batch takes: as many as were asked for and are there, up to the one that fills the row limit
-abbrev pub batch : Setup → ℕ → Replica → List (List ℕ) → ℕ
-batch setup max r messages = filling setup.schema (setup.table.rows - length r.held) (take max (drop r.cur.0 messages))
-
--- a replica that has taken so many messages
-abbrev pub advanced : Schema → ℕ → Replica → List (List ℕ) → Replica
-advanced schema count r messages =
-    record r {
-      cur = record { 0 = r.cur.0 + count };
-      held = r.held ++ placed_from schema r.cur.0 (messages_between messages r.cur.0 (r.cur.0 + count));
-    }
-
--- whether a replica past its start has consumed for as long as its table lets it
-abbrev pub is_timed_out : Setup → Moment → Replica → Bool
-is_timed_out setup now r = nat_le setup.table.millis (now.0 - r.started.0) && nat_lt r.start.0 r.cur.0
-
--- a replica holds with as many rows as the row limit, and past the time limit
-abbrev pub state_at : Setup → Moment → Replica → ReplicaState
-state_at setup now r =
-    if nat_le setup.table.rows (length r.held) || is_timed_out setup now r then Holding else InitialConsuming
-
-abbrev pub held_at : Setup → Moment → Replica → Replica
-held_at setup now r = record r { state = state_at setup now r }
-
--- a replica after a batch
-abbrev pub took : Setup → Moment → ℕ → Replica → List (List ℕ) → Replica
-took setup now max r messages = held_at setup now (advanced setup.schema (batch setup max r messages) r messages)
-
-abbrev pub consumed_by : State → Replica → State × Outcome
-consumed_by w r =
-    (record w { replica = r; events = w.events + 1 }, Consumed r.cur (length r.held) r.state)
-
-abbrev pub consumed : State → Partition → ℕ → State × Outcome
-consumed w partition max = consumed_by w (took w.setup w.moment max w.replica (messages_of w.log partition))
-
--- the one piece of the plan, which a replica serves over what it holds
-abbrev pub piece_of : Replica → AskedPiece
-piece_of r =
-    record {
-      piece = record { partition = r.partition; sequence = r.sequence; start = r.start; end = None };
-      served = Some (record { start = r.start; end = r.cur });
-    }
-
-abbrev pub routed_of : Replica → List Routed
-routed_of r = record { partition = r.partition; pieces = Some (piece_of r ∷ []) } ∷ []
-
-abbrev pub rows_held : Replica → List Row
-rows_held r = map (λ p. p.row) r.held
-
--- the answer to a query from what a replica holds
-abbrev pub answer_of : Query → Replica → Answer
-answer_of query r =
-    record {
-      ranges = named_ranges (routed_of r);
-      missing = missing_of (routed_of r);
-      rows = aggregate query (rows_held r);
-    }
-
-abbrev pub answered : State → Query → State × Outcome
-answered w query = (record w { events = w.events + 4 }, Answered (answer_of query w.replica))
-
--- a line that is no event counts as one
-abbrev pub passed : State → State
-passed w = record w { events = w.events + 1 }
-
--- the world after an event that is due, and what comes of it
-abbrev pub after : State → Event → State × Outcome
-after w (event.Produce partition message) = produced w partition message
-after w (event.Consume instance partition sequence max) = consumed w partition max
-after w (event.Query query) = answered w query
-
--- the world after an event and what came of it, or why it did not happen
-abbrev pub Given : Type 0
-Given = Result (State × Outcome) Refusal
-
-abbrev pub given_by : Due → State × Outcome → Given
-given_by (Ok u) x = Ok x
-given_by (Err refusal) x = Err refusal
-
-abbrev pub step : State → Event → Given
-step w event = given_by (due_of w event) (after w event)
-
--- a world at which memory ran out is spent, and answers nothing else any more
-abbrev pub Steps : Kept → Event → Kept → Result Outcome Refusal → Type 0
-Steps old event new (Ok outcome) =
-    (old.spent ≡ false) × (new.spent ≡ false) × (step old.state event ≡ Ok (new.state, outcome))
-Steps old event new (Err Memory) = new.spent ≡ true
-Steps old event new (Err NoSuchMessage) = (old.spent ≡ false) × (step old.state event ≡ Err NoSuchMessage) × (new ≡ old)
-Steps old event new (Err NoSuchNode) = (old.spent ≡ false) × (step old.state event ≡ Err NoSuchNode) × (new ≡ old)
-Steps old event new (Err NodeDown) = (old.spent ≡ false) × (step old.state event ≡ Err NodeDown) × (new ≡ old)
-Steps old event new (Err NothingToDo) = (old.spent ≡ false) × (step old.state event ≡ Err NothingToDo) × (new ≡ old)
-Steps old event new (Err (Limit which)) = (old.spent ≡ false) × (step old.state event ≡ Err (Limit which)) × (new ≡ old)
-
--- a line that is no event is passed over, or refused
-abbrev pub Passes : Kept → Kept → Result Unit Refusal → Type 0
-Passes old new (Ok u) =
-    (old.spent ≡ false) × (new.spent ≡ false) × (pass_due old.state ≡ Ok tt) × (new.state ≡ passed old.state)
-Passes old new (Err Memory) = (old.spent ≡ true) × (new ≡ old)
-Passes old new (Err NoSuchMessage) = (old.spent ≡ false) × (pass_due old.state ≡ Err NoSuchMessage) × (new ≡ old)
-Passes old new (Err NoSuchNode) = (old.spent ≡ false) × (pass_due old.state ≡ Err NoSuchNode) × (new ≡ old)
-Passes old new (Err NodeDown) = (old.spent ≡ false) × (pass_due old.state ≡ Err NodeDown) × (new ≡ old)
-Passes old new (Err NothingToDo) = (old.spent ≡ false) × (pass_due old.state ≡ Err NothingToDo) × (new ≡ old)
-Passes old new (Err (Limit which)) = (old.spent ≡ false) × (pass_due old.state ≡ Err (Limit which)) × (new ≡ old)
+abbrev pub PassesKept : Kept → Kept → Result (Unit {0}) Refusal → Type 0
+PassesKept old new (Ok u) = (old.spent ≡ false) × (new.spent ≡ false) × Passes old.state new.state (Ok u)
+PassesKept old new (Err Memory) = (old.spent ≡ true) × (new ≡ old)
+PassesKept old new (Err NoSuchMessage) = (old.spent ≡ false) × (dropped (pass_due old.state) ≡ Err NoSuchMessage) × (new ≡ old)
+PassesKept old new (Err NoSuchNode) = (old.spent ≡ false) × (dropped (pass_due old.state) ≡ Err NoSuchNode) × (new ≡ old)
+PassesKept old new (Err NodeDown) = (old.spent ≡ false) × (dropped (pass_due old.state) ≡ Err NodeDown) × (new ≡ old)
+PassesKept old new (Err NothingToDo) = (old.spent ≡ false) × (dropped (pass_due old.state) ≡ Err NothingToDo) × (new ≡ old)
+PassesKept old new (Err (Limit which)) = (old.spent ≡ false) × (dropped (pass_due old.state) ≡ Err (Limit which)) × (new ≡ old)

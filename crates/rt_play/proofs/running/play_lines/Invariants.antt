@@ -1,16 +1,18 @@
-use Rattle.std.proofs.Common.{◌≡◌, ℕ, ◌+◌, ◌^◌, ◌<◌, false, List, length}
+use Rattle.std.proofs.Common.{◌≡◌, ℕ, ◌+◌, ◌^◌, ◌<◌, ◌++◌, false, List, length}
 use Rattle.std.specs.List.{concat}
+use Rattle.rt_lines.specs.Header.{NumberedLine}
 use Rattle.rt_play.specs.Plays.{Puts}
-use Rattle.rt_play.specs.Report.{report_from}
-use Rattle.rt_play.proofs.Tellings.{told_all}
+use Rattle.rt_play.specs.Report.{RunAll}
 use Rattle.rt_play.proofs.running.play_lines.Given as goal
 
 abbrev pub invariant-loop-number : goal.invariant-loop-number
 invariant-loop-number g l = record {
   unspent : l.world.spent ≡ false;
   written : List (List ℕ);
+  done : List NumberedLine;
   puts : Puts (g.K.Sink.meaning l.initial.sink) (g.K.Sink.meaning l.sink) (concat written);
-  same : report_from l.initial.lines.lines l.initial.world.state ≡ told_all written (report_from l.lines.lines l.world.state);
+  whole : l.initial.lines.lines ≡ done ++ l.lines.lines;
+  run : RunAll done l.initial.world.state l.world.state written;
   count : l.count ≡ length written;
   few : l.count + length l.lines.lines < 2 ^ 64;
 }

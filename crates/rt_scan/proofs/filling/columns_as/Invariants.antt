@@ -1,5 +1,5 @@
 use Rattle.std.proofs.Common.{◌≡◌, map, take}
-use Rattle.rt_scan.specs.FileColumn.{file_values}
+use Rattle.rt_seek.specs.FileColumn.{file_values}
 use Rattle.rt_scan.specs.Filled.{values_as}
 use Rattle.rt_scan.proofs.filling.columns_as.Given as goal
 

@@ -8,9 +8,9 @@ use Rattle.rt_model.specs.Aggregate.{taken}
 use Rattle.rt_agg.specs.Grouped.{Holds}
 use Rattle.rt_agg.proofs.Fitting.{rows_fit}
 use Rattle.rt_segment.specs.Column.{SealedColumn}
-use Rattle.rt_scan.specs.FileColumn.{file_values}
+use Rattle.rt_seek.specs.FileColumn.{file_values}
+use Rattle.rt_seek.specs.Table.{row_at, rows_by}
 use Rattle.rt_scan.specs.Filled.{values_as}
-use Rattle.rt_scan.specs.Table.{row_at, rows_by}
 use Rattle.rt_scan.proofs.FilledRows.{full_columns_as, row_of_schema_as}
 use Rattle.rt_scan.proofs.SealedRows.{same_row, same_rows, unmapped}
 use Rattle.rt_scan.proofs.filling.scan_as.Goals as goal

@@ -1,9 +1,9 @@
 use Rattle.std.proofs.Common.{◌∙◌, ap, sym, subst, Some}
 use Rattle.std.proofs.lemmas.Result.{on_ok_weaker}
 use Rattle.rt_model.specs.Aggregate.{key_of}
+use Rattle.rt_seek.specs.Table.{row_at}
 use Rattle.rt_scan.specs.GroupIds.{IsAbsent}
 use Rattle.rt_scan.specs.Grouping.{key_by}
-use Rattle.rt_scan.specs.Table.{row_at}
 use Rattle.rt_scan.proofs.Leading.{leads_more}
 use Rattle.rt_scan.proofs.grouping.add_row.Goals as goal
 

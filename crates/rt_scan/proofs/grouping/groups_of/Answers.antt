@@ -5,8 +5,8 @@ use Rattle.rt_model.specs.Aggregate.{key_of}
 use Rattle.rt_model.specs.declared.query_parts.ColumnAt.{ColumnAt}
 use Rattle.rt_model.specs.Match.{passes}
 use Rattle.rt_agg.specs.Grouped.{Holds}
+use Rattle.rt_seek.specs.Table.{row_at, rows_by}
 use Rattle.rt_scan.specs.Grouping.{Leads}
-use Rattle.rt_scan.specs.Table.{row_at, rows_by}
 use Rattle.rt_scan.proofs.Filters.{length_rows}
 use Rattle.rt_scan.proofs.Walked.{next_taken, next_within, all_taken, few_taken}
 use Rattle.rt_scan.proofs.grouping.groups_of.Goals as goal

@@ -1,8 +1,8 @@
 use Rattle.std.proofs.Common.{◌≤◌, ◌-◌, filter, take, length}
 use Rattle.rt_model.specs.Match.{passes}
 use Rattle.rt_agg.specs.Grouped.{Holds}
+use Rattle.rt_seek.specs.Table.{rows_by}
 use Rattle.rt_scan.specs.Grouping.{Leads}
-use Rattle.rt_scan.specs.Table.{rows_by}
 use Rattle.rt_scan.proofs.grouping.groups_of.Given as goal
 
 abbrev pub decreases-loop-row : goal.decreases-loop-row

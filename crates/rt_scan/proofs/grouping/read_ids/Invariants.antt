@@ -1,7 +1,7 @@
 use Rattle.std.proofs.Common.{◌≡◌, take, length}
 use Rattle.rt_model.specs.Aggregate.{key_of}
+use Rattle.rt_seek.specs.Table.{row_at}
 use Rattle.rt_scan.specs.Grouping.{key_by}
-use Rattle.rt_scan.specs.Table.{row_at}
 use Rattle.rt_scan.proofs.grouping.read_ids.Given as goal
 
 abbrev pub invariant-loop-column : goal.invariant-loop-column

@@ -1,6 +1,6 @@
 use Rattle.std.proofs.Common.{◌≡◌, take}
 use Rattle.rt_model.specs.Aggregate.{key_of}
-use Rattle.rt_scan.specs.Table.{row_at}
+use Rattle.rt_seek.specs.Table.{row_at}
 use Rattle.rt_scan.proofs.grouping.read_key.Given as goal
 
 abbrev pub invariant-loop-column : goal.invariant-loop-column

@@ -3,8 +3,8 @@ use Rattle.std.proofs.lemmas.List.{length-replicate, length-map}
 use Rattle.rt_model.specs.Condition.{tree_of}
 use Rattle.rt_model.specs.Match.{matches}
 use Rattle.rt_model.specs.Tree.{trees, And, Or, Not}
-use Rattle.rt_scan.specs.Table.{rows_by}
-use Rattle.rt_scan.proofs.Sets.{length_both, length_either}
+use Rattle.rt_seek.specs.Table.{rows_by}
+use Rattle.rt_seek.proofs.Sets.{length_both, length_either}
 use Rattle.rt_scan.proofs.Filters.{all_start, all_step, all_end, any_start, any_step, any_end, not_end, length_rows}
 use Rattle.rt_scan.proofs.matching.+rows_that_match.Goals as goal
 

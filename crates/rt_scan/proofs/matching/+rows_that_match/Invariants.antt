@@ -2,7 +2,7 @@ use Rattle.std.proofs.Common.{◌≡◌, map, drop, length}
 use Rattle.rt_postings.specs.DocSet.{both, either}
 use Rattle.rt_model.specs.Match.{matches_all, matches_any}
 use Rattle.rt_model.specs.Tree.{trees}
-use Rattle.rt_scan.specs.Table.{rows_by}
+use Rattle.rt_seek.specs.Table.{rows_by}
 use Rattle.rt_scan.proofs.matching.+rows_that_match.Given as goal
 
 abbrev pub decreases-rows_that_match : goal.decreases-rows_that_match

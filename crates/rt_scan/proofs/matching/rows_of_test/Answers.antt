@@ -1,9 +1,9 @@
 use Rattle.std.proofs.Common.{◌≡◌, length, sym, subst, replicate, false, map, refl, ◌∙◌}
 use Rattle.std.proofs.lemmas.Option.{slice_get_read, slice_get_past}
 use Rattle.rt_model.specs.Match.{meets, value_at}
-use Rattle.rt_scan.specs.ColumnTest.{passes_test}
-use Rattle.rt_scan.specs.Table.{rows_by}
-use Rattle.rt_scan.proofs.Sets.{ok_then}
+use Rattle.rt_seek.specs.ColumnTest.{passes_test}
+use Rattle.rt_seek.specs.Table.{rows_by}
+use Rattle.rt_seek.proofs.Sets.{ok_then}
 use Rattle.rt_scan.proofs.Filters.{test_rows, no_rows}
 use Rattle.rt_scan.proofs.matching.rows_of_test.Goals as goal
 

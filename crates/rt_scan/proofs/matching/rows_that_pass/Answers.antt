@@ -1,7 +1,7 @@
 use Rattle.std.proofs.Common.{◌≡◌, ◌∙◌, ap, sym, true, replicate, map, refl}
 use Rattle.rt_model.specs.Match.{passes}
-use Rattle.rt_scan.specs.Table.{rows_by}
-use Rattle.rt_scan.proofs.Sets.{ok_then, map_constant}
+use Rattle.rt_seek.specs.Table.{rows_by}
+use Rattle.rt_seek.proofs.Sets.{ok_then, map_constant}
 use Rattle.rt_scan.proofs.Filters.{length_rows}
 use Rattle.rt_scan.proofs.matching.rows_that_pass.Goals as goal
 

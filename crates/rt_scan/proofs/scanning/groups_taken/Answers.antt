@@ -4,7 +4,7 @@ use Rattle.std.proofs.lemmas.List.{length-map}
 use Rattle.rt_model.specs.Aggregate.{taken}
 use Rattle.rt_model.specs.Match.{passes}
 use Rattle.rt_agg.specs.Grouped.{Holds}
-use Rattle.rt_scan.specs.Table.{rows_by}
+use Rattle.rt_seek.specs.Table.{rows_by}
 use Rattle.rt_scan.proofs.Filters.{length_rows}
 use Rattle.rt_scan.proofs.scanning.groups_taken.Goals as goal
 use Rattle.rt_scan.proofs.scanning.groups_taken.Goals.{In_ok-set}

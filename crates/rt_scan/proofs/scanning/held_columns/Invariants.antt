@@ -1,6 +1,6 @@
 use Rattle.std.proofs.Common.{◌≡◌, map, take}
 use Rattle.rt_segment.specs.Column.{values_of}
-use Rattle.rt_scan.specs.FileColumn.{file_values}
+use Rattle.rt_seek.specs.FileColumn.{file_values}
 use Rattle.rt_scan.proofs.scanning.held_columns.Given as goal
 
 abbrev pub invariant-loop-column : goal.invariant-loop-column

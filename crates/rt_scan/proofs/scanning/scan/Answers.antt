@@ -8,8 +8,8 @@ use Rattle.rt_model.specs.Aggregate.{taken}
 use Rattle.rt_segment.specs.Column.{values_of}
 use Rattle.rt_agg.specs.Grouped.{Holds}
 use Rattle.rt_agg.proofs.Fitting.{rows_fit}
-use Rattle.rt_scan.specs.FileColumn.{file_values}
-use Rattle.rt_scan.specs.Table.{row_at, rows_by}
+use Rattle.rt_seek.specs.FileColumn.{file_values}
+use Rattle.rt_seek.specs.Table.{row_at, rows_by}
 use Rattle.rt_scan.proofs.SealedRows.{same_row, same_rows, unmapped, row_of_schema, full_columns}
 use Rattle.rt_scan.proofs.Skipped.{none_taken}
 use Rattle.rt_scan.proofs.scanning.scan.Goals as goal

@@ -8,8 +8,8 @@ use Rattle.rt_model.specs.Aggregate.{taken}
 use Rattle.rt_mutable.specs.Consuming.{Placed, is_before}
 use Rattle.rt_agg.specs.Grouped.{Holds}
 use Rattle.rt_agg.proofs.Fitting.{rows_fit}
+use Rattle.rt_seek.specs.Table.{row_at}
 use Rattle.rt_scan.specs.Scanned.{first_at, consuming_values}
-use Rattle.rt_scan.specs.Table.{row_at}
 use Rattle.rt_scan.proofs.ConsumingRows.{first_rows_are, first_full, first_kinds}
 use Rattle.rt_scan.proofs.SealedRows.{unmapped}
 use Rattle.rt_scan.proofs.scanning.scan_below.Goals as goal

@@ -1,11 +1,10 @@
-use Rattle.std.proofs.Common.{sym}
-use Rattle.rt_world.proofs.Keeps.{kept_after}
+use Rattle.std.proofs.Common.{subst, sym}
+use Rattle.rt_world.proofs.SafeSteps.{steps_keep}
+use Rattle.rt_events.specs.Fits.{Fits}
+use Rattle.rt_world.specs.Kept.{Kept}
 use Rattle.rt_world.proofs.world.World.apply.Goals as goal
 
--- the world after an event that was due is safe
-pub invariant_of-self : goal.invariant_of-self
-invariant_of-self c = λ fresh.
-    kept_after c.self.inside.state c.happen.new.self c.args.event.now c.in-Ok.outcome
-    (c.self.invariant fresh)
-    (sym (c.in_default.ensures {u = tt}))
-    (c.in-Ok.ensures {u = tt})
+pub invariant_of-self-else-ran_out : goal.invariant_of-self-else-ran_out
+invariant_of-self-else-ran_out c = λ unspent.
+    let fits = subst (λ (k : Kept). Fits k.state.setup.schema c.args.event.now) (sym c.self.view_is) c.requires.fits in
+    steps_keep c.self.inside.state c.args.event.now c.apply-came.new.self c.apply-came.result (c.ran_out.ensures.no c.if-ran_out.false) fits (c.self.invariant unspent) c.apply-came.ensures

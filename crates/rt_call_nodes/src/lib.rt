@@ -1,0 +1,22 @@
+//! The calls of the nodes' parts: what a repair and a retirement decide, a broker's plan, rebalance plans, upsert tables
+//! and their settings, and a replica.
+#![tactic(auto)]
+
+mod listed_words;
+mod plans;
+mod rebalances;
+mod repairs;
+mod replica_calls;
+mod replicas;
+mod reply_words;
+mod row_words;
+mod upsert_configs;
+mod upsert_table;
+mod upserts;
+
+pub use plans::plan;
+pub use rebalances::rebalance;
+pub use repairs::{decide, retire};
+pub use replicas::consumer;
+pub use upsert_configs::upsert_config;
+pub use upserts::upsert;

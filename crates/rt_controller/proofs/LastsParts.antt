@@ -1,0 +1,73 @@
+-- What lasts of a controller beside what its machines and jobs have read.
+use Rattle.std.proofs.Common.{◌≡◌, List, [], refl, arith}
+use Rattle.std.specs.Prelude.{All}
+use Rattle.std.proofs.lemmas.List.Elements.{All-nil, All-weaker}
+use Rattle.rt_lists.specs.Members.{IsFront}
+use Rattle.rt_model.specs.declared.node.Seen.{Seen}
+use Rattle.rt_model.specs.declared.setup.Setup.{Setup}
+use Rattle.rt_store.specs.Contents.{starting_of}
+use Rattle.rt_past.specs.Past.{Past}
+use Rattle.rt_controller.specs.declared.job.Job.{Job}
+use Rattle.rt_controller.specs.Assignment.{assigned_by}
+use Rattle.rt_controller.specs.Controller.{Controlling, Handling}
+use Rattle.rt_controller.specs.IsController.{IsController}
+use Rattle.rt_controller.specs.Lasting.{AreTries, WasSent, IsBacked, IsMachineOver, IsJobOver, IsControllerOver, HaveOneMachine, ArePaired, AreNumbered}
+use Rattle.rt_controller.specs.Laws.{IsTrying}
+use Rattle.rt_controller.specs.Right.{IsHandled}
+use Rattle.rt_controller.proofs.LastsMachines.{MachineLasts, lasts_of}
+
+-- ---- what lasts beside what was read
+
+pub record JobLasts (setup : Setup) (past : Past) (j : Job) : Type 0 where
+  pub asked : WasSent past j.asked
+  pub backed : IsBacked setup past j.asked j.stage
+  pub trying : IsTrying j.stage
+
+pub record Lasts (setup : Setup) (past : Past) (c : Controlling) : Type 0 where
+  pub assigned : c.assigned ≡ assigned_by setup
+  pub machines : All (MachineLasts setup past) c.machines
+  pub jobs : All (JobLasts setup past) c.jobs
+  pub one : HaveOneMachine c.machines
+  pub paired : ArePaired c.machines c.jobs
+  pub numbered : AreNumbered c.jobs c.started
+
+job_lasts_of : (setup : Setup) (past : Past) (j : Job) → IsJobOver setup past j → JobLasts setup past j
+job_lasts_of setup past j k = record { asked = k.asked; backed = k.backed; trying = k.trying }
+
+pub parts_of : (setup : Setup) (past : Past) (c : Controlling) → IsControllerOver setup past c → Lasts setup past c
+parts_of setup past c k =
+    record {
+      assigned = k.assigned;
+      machines = All-weaker (IsMachineOver setup past) (MachineLasts setup past) (lasts_of setup past) c.machines k.machines;
+      jobs = All-weaker (IsJobOver setup past) (JobLasts setup past) (job_lasts_of setup past) c.jobs k.jobs;
+      one = k.one;
+      paired = k.paired;
+      numbered = k.numbered;
+    }
+
+pub whole_of : (setup : Setup) (past : Past) (c : Controlling) → IsController (starting_of setup) past.history c → Lasts setup past c
+    → IsControllerOver setup past c
+whole_of setup past c i k =
+    record {
+      assigned = k.assigned;
+      machines = λ n d lt.
+          let m = k.machines n d lt in
+          record { machine = i.machines n d lt; entered = m.entered; offsets = m.offsets; replicas = m.replicas };
+      jobs = λ n d lt.
+          let j = k.jobs n d lt in
+          record { job = i.jobs n d lt; asked = j.asked; backed = j.backed; trying = j.trying };
+      one = k.one;
+      paired = k.paired;
+      numbered = k.numbered;
+    }
+
+-- the controller after a request, which stays itself, and its answer
+pub record Answers (setup : Setup) (past : Past) (c : Controlling) (x : Handling) : Type 0 where
+  pub lasts : Lasts setup past x.controller
+  pub right : IsHandled past x.handled
+  pub id : x.controller.id ≡ c.id
+  pub jobs : IsFront c.jobs x.controller.jobs
+
+pub no_tries : (h : List Seen) → AreTries h []
+no_tries h =
+    record { tries = []; found = refl; each = All-nil _; ordered = λ i j d lt within. absurd (omega (arith, within)) }

@@ -1,0 +1,168 @@
+-- A wanted file is loaded.
+use Rattle.std.proofs.Common.{◌≡◌, ℕ, ◌&&◌, Bool, true, false, cond, List, Option, Some, None, is_some, Result, Ok, Err, IfSome, refl, sym, ap, subst}
+use Rattle.rt_base.specs.declared.header.Header.{Header}
+use Rattle.rt_base.specs.declared.numbers.Partition.{Partition}
+use Rattle.rt_base.specs.declared.numbers.Sequence.{Sequence}
+use Rattle.rt_schema.specs.declared.schema.Schema.{Schema}
+use Rattle.rt_segment.specs.declared.segment_refused.SegmentRefused.{SegmentRefused}
+use Rattle.rt_segment.specs.declared.segment_refused.SegmentRefused.TheVariants as segment
+use Rattle.rt_segment.specs.Cursor.{Answers}
+use Rattle.rt_segment.specs.Reading.{read_file}
+use Rattle.rt_segment.specs.Segment.{SealedSegment, are_columns}
+use Rattle.rt_segment.specs.Spelling.{header_of}
+use Rattle.rt_model.specs.declared.commit.Commit.{Commit}
+use Rattle.rt_model.specs.declared.seg_meta.SeenMeta.{SeenMeta}
+use Rattle.rt_model.specs.declared.status.Status.{Status}
+use Rattle.rt_model.specs.declared.status.Status.TheVariants.{Done}
+use Rattle.rt_deep.specs.declared.refused.DeepRefused.{DeepRefused}
+use Rattle.rt_deep.specs.declared.refused.DeepRefused.TheVariants as deep
+use Rattle.rt_deep.specs.Meaning.{Meaning}
+use Rattle.rt_entry.specs.declared.entry.CommittedSegment.{CommittedSegment}
+use Rattle.rt_entry.specs.declared.refused.ServerRefused.{ServerRefused}
+use Rattle.rt_entry.specs.declared.refused.ServerRefused.TheVariants.{NotDue, StoreFault, BadFile, Memory}
+use Rattle.rt_entry.specs.Download.{LoadsFile, LoadsOf, checked, got, header_by, is_right, loaded_by, same_header}
+use Rattle.rt_entry.specs.Loading.{IsGot, Loads, LoadsBy, LoadsDone, decoded_as}
+use Rattle.rt_entry.specs.Entry.{commit_in, wanted_by}
+
+got_same : (x : Result SealedSegment ServerRefused) → IsGot x x
+got_same (Ok file) = refl
+got_same (Err NotDue) = refl
+got_same (Err StoreFault) = refl
+got_same (Err (BadFile wanted found)) = refl
+got_same (Err Memory) = tt
+
+-- what was decoded is what the bytes are, unless memory ran out
+pub decoded_is : (schema : Schema) (wanted : Header) (decoded read : Result SealedSegment SegmentRefused) → Answers (λ s. s) decoded read
+    → IsGot (checked schema wanted read) (decoded_as schema wanted decoded)
+decoded_is schema wanted (Ok file) read e = subst (λ r. IsGot (checked schema wanted r) (checked schema wanted (Ok file))) (sym e) (got_same (checked schema wanted (Ok file)))
+decoded_is schema wanted (Err segment.Truncated) read e = ap (checked schema wanted) e
+decoded_is schema wanted (Err segment.Magic) read e = ap (checked schema wanted) e
+decoded_is schema wanted (Err (segment.NotCanonical byte)) read e = ap (checked schema wanted) e
+decoded_is schema wanted (Err segment.Digest) read e = ap (checked schema wanted) e
+decoded_is schema wanted (Err segment.Limit) read e = ap (checked schema wanted) e
+decoded_is schema wanted (Err segment.Memory) read e = tt
+
+abbrev the_loaded : SealedSegment → Result SealedSegment ServerRefused
+the_loaded file = Ok file
+
+-- ---- a committed segment
+
+wanted_open : (o : Option SealedSegment) (status : Status) → is_some o ≡ false → wanted_by o status ≡ commit_in status
+wanted_open None status e = refl
+wanted_open (Some file) status e = absurd (cc)
+
+wanted_held : (o : Option SealedSegment) (status : Status) → is_some o ≡ true → wanted_by o status ≡ None
+wanted_held None status e = absurd (cc)
+wanted_held (Some file) status e = refl
+
+pub load_none : (m : Meaning) (schema : Schema) (p : Partition) (q : Sequence) (done : SeenMeta) → commit_in done.meta.status ≡ None
+    → LoadsDone m m schema p q done (Err NotDue)
+load_none m schema p q done e = subst (λ o. LoadsBy o m m schema p q done (Err NotDue)) (sym e) (refl, refl)
+
+pub load_some : (before after : Meaning) (schema : Schema) (p : Partition) (q : Sequence) (done : SeenMeta) (commit : Commit) (result : Result SealedSegment ServerRefused)
+    → done.meta.status ≡ Done commit → Loads before after commit.path schema (header_by p q done commit) result
+    → LoadsDone before after schema p q done result
+load_some before after schema p q done commit result is h = subst (λ o. LoadsBy o before after schema p q done result) (sym (ap commit_in is)) h
+
+abbrev refuse : (X : Type 0) → ServerRefused → Result X ServerRefused
+refuse X e = Err e
+
+not_loaded : (file : SealedSegment) → the_loaded file ≡ refuse SealedSegment NotDue → ⊥
+not_loaded file e = cc
+
+loads_ok_by : (before after : Meaning) (schema : Schema) (p : Partition) (q : Sequence) (old : CommittedSegment) (file : SealedSegment) (o : Option Commit)
+    → LoadsBy o before after schema p q old.done (Ok file) → LoadsOf o before after schema p q old (record old { file = Some file }) (Ok file.rows)
+loads_ok_by before after schema p q old file None h = absurd (not_loaded file h.1)
+loads_ok_by before after schema p q old file (Some commit) h = (h.0, h.1, ap (loaded_by old) h.2)
+
+pub loads_ok : (before after : Meaning) (schema : Schema) (p : Partition) (q : Sequence) (old : CommittedSegment) (file : SealedSegment)
+    → is_some old.file ≡ false → LoadsDone before after schema p q old.done (Ok file)
+    → LoadsFile before after schema p q old (record old { file = Some file }) (Ok file.rows)
+loads_ok before after schema p q old file none h =
+    subst (λ o. LoadsOf o before after schema p q old (record old { file = Some file }) (Ok file.rows))
+    (sym (wanted_open old.file old.done.meta.status none))
+    (loads_ok_by before after schema p q old file (commit_in old.done.meta.status) h)
+
+same_refusal : (e x : ServerRefused) → refuse SealedSegment e ≡ refuse SealedSegment x → refuse ℕ e ≡ refuse ℕ x
+same_refusal e x h = cc
+
+loads_err_by : (before after : Meaning) (schema : Schema) (p : Partition) (q : Sequence) (old : CommittedSegment) (e : ServerRefused) (o : Option Commit)
+    → LoadsBy o before after schema p q old.done (Err e) → LoadsOf o before after schema p q old old (Err e)
+loads_err_by before after schema p q old e None h = (h.0, same_refusal e NotDue h.1, refl)
+loads_err_by before after schema p q old NotDue (Some commit) h = (h.0, h.1, (ap (loaded_by old) h.2, refl))
+loads_err_by before after schema p q old StoreFault (Some commit) h = (h.0, h.1, (ap (loaded_by old) h.2, refl))
+loads_err_by before after schema p q old (BadFile wanted found) (Some commit) h = (h.0, h.1, (ap (loaded_by old) h.2, refl))
+loads_err_by before after schema p q old Memory (Some commit) h = (h.0, h.1, refl)
+
+pub loads_err : (before after : Meaning) (schema : Schema) (p : Partition) (q : Sequence) (old : CommittedSegment) (e : ServerRefused)
+    → is_some old.file ≡ false → LoadsDone before after schema p q old.done (Err e)
+    → LoadsFile before after schema p q old old (Err e)
+loads_err before after schema p q old e none h =
+    subst (λ o. LoadsOf o before after schema p q old old (Err e))
+    (sym (wanted_open old.file old.done.meta.status none))
+    (loads_err_by before after schema p q old e (commit_in old.done.meta.status) h)
+
+pub not_due_held : (m : Meaning) (schema : Schema) (p : Partition) (q : Sequence) (old : CommittedSegment) → is_some old.file ≡ true
+    → LoadsFile m m schema p q old old (Err NotDue)
+not_due_held m schema p q old e =
+    subst (λ o. LoadsOf o m m schema p q old old (Err NotDue)) (sym (wanted_held old.file old.done.meta.status e)) (refl, refl, refl)
+
+-- ---- what is loaded has the schema's columns
+
+abbrev the_file : SealedSegment → Result SealedSegment ServerRefused
+the_file file = Ok file
+
+both_true : (a b : Bool) → (a && b) ≡ true → b ≡ true
+both_true true b h = h
+both_true false b h = absurd (cc)
+
+checked_if : (schema : Schema) (wanted : Header) (f file : SealedSegment) (b : Bool) → is_right schema wanted f ≡ b
+    → cond b (the_file f) (Err (BadFile wanted (Some (header_of f)))) ≡ the_file file → are_columns file.columns schema.columns ≡ true
+checked_if schema wanted f file true right e =
+    subst (λ (x : SealedSegment). are_columns x.columns schema.columns ≡ true) (unwrapped f file e)
+    (both_true (same_header (header_of f) wanted) (are_columns f.columns schema.columns) right)
+  where
+    unwrapped : (a b : SealedSegment) → the_file a ≡ the_file b → a ≡ b
+    unwrapped a b e = cc
+checked_if schema wanted f file false right e = absurd (cc)
+
+checked_fits : (schema : Schema) (wanted : Header) (read : Result SealedSegment SegmentRefused) (file : SealedSegment)
+    → checked schema wanted read ≡ the_file file → are_columns file.columns schema.columns ≡ true
+checked_fits schema wanted (Ok f) file e = checked_if schema wanted f file (is_right schema wanted f) refl e
+checked_fits schema wanted (Err x) file e = absurd (cc)
+
+got_fits : (schema : Schema) (wanted : Header) (answer : Result (List ℕ) DeepRefused) (file : SealedSegment)
+    → got schema wanted answer ≡ the_file file → are_columns file.columns schema.columns ≡ true
+got_fits schema wanted (Ok bytes) file e = checked_fits schema wanted (read_file bytes) file e
+got_fits schema wanted (Err deep.Absent) file e = absurd (cc)
+got_fits schema wanted (Err (deep.OtherBytes kept offered)) file e = absurd (cc)
+got_fits schema wanted (Err deep.Failed) file e = absurd (cc)
+got_fits schema wanted (Err deep.Memory) file e = absurd (cc)
+
+abbrev FitsSchema : Schema → CommittedSegment → Type 0
+FitsSchema schema c = IfSome c.file (λ file. are_columns file.columns schema.columns ≡ true)
+
+abbrev came : ℕ → CommittedSegment → Result (ℕ × CommittedSegment) ServerRefused
+came rows next = Ok (rows, next)
+
+abbrev next_of : CommittedSegment → Result (ℕ × CommittedSegment) ServerRefused → CommittedSegment
+next_of other (Ok x) = x.1
+next_of other (Err e) = other
+
+unwrapped : (n m : ℕ) (a b : CommittedSegment) → came n a ≡ came m b → a ≡ b
+unwrapped n m a b e = ap (next_of a) e
+
+loaded_ok : (schema : Schema) (old new : CommittedSegment) (rows : ℕ) (g : Result SealedSegment ServerRefused)
+    → ((file : SealedSegment) → g ≡ the_file file → are_columns file.columns schema.columns ≡ true) → loaded_by old g ≡ came rows new → FitsSchema schema new
+loaded_ok schema old new rows (Ok file) fits e = subst (FitsSchema schema) (unwrapped file.rows rows (record old { file = Some file }) new e) (fits file refl)
+loaded_ok schema old new rows (Err x) fits e = absurd (cc)
+
+pub loads_fit : (before after : Meaning) (schema : Schema) (p : Partition) (q : Sequence) (old new : CommittedSegment) (result : Result ℕ ServerRefused) (o : Option Commit)
+    → LoadsOf o before after schema p q old new result → FitsSchema schema old → FitsSchema schema new
+loads_fit before after schema p q old new result None h fits = subst (FitsSchema schema) (sym h.2) fits
+loads_fit before after schema p q old new (Ok rows) (Some commit) h fits =
+    loaded_ok schema old new rows (got schema (header_by p q old.done commit) h.0) (got_fits schema (header_by p q old.done commit) h.0) h.2
+loads_fit before after schema p q old new (Err NotDue) (Some commit) h fits = subst (FitsSchema schema) (sym h.2.1) fits
+loads_fit before after schema p q old new (Err StoreFault) (Some commit) h fits = subst (FitsSchema schema) (sym h.2.1) fits
+loads_fit before after schema p q old new (Err (BadFile wanted found)) (Some commit) h fits = subst (FitsSchema schema) (sym h.2.1) fits
+loads_fit before after schema p q old new (Err Memory) (Some commit) h fits = subst (FitsSchema schema) (sym h.2) fits

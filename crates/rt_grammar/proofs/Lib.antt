@@ -1,0 +1,8 @@
+pub mod Places
+pub mod Nots
+pub mod Completing
+pub mod Sound
+pub mod Forward
+pub mod Deeper
+pub mod Viable
+pub mod Deepest

@@ -1,0 +1,9 @@
+pub mod Columns
+pub mod Testing
+pub mod Nested
+pub mod Steps
+pub mod Run
+pub mod Grammar
+pub mod Whole
+pub mod Faults
+pub mod Laws

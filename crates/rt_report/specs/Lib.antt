@@ -1,0 +1,10 @@
+pub mod BrokerTexts
+pub mod Heads
+pub mod MacroTexts
+pub mod MessageTexts
+pub mod NodeTexts
+pub mod Outcome
+pub mod ReplicaTexts
+pub mod States
+pub mod Subject
+pub mod Words

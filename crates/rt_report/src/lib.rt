@@ -1,0 +1,22 @@
+//! The texts of a report, a line for each event or macro that happened.
+//!
+//! A line begins with a word, and then says what the event is about and what came of it. The files are those of
+//! the table of lines in `docs/rules/scripts.md`.
+#![tactic(auto)]
+
+mod broker_texts;
+mod heads;
+mod job_texts;
+mod macro_texts;
+mod message_texts;
+mod node_texts;
+mod outcome_line;
+mod repair_texts;
+mod replica_texts;
+mod shown_texts;
+mod subject;
+mod words;
+
+pub use broker_texts::{write_answer, write_noquery};
+pub use macro_texts::{write_end, write_exchanged, write_filled, write_settled};
+pub use outcome_line::write_outcome;

@@ -1,0 +1,3 @@
+pub mod Fitting
+pub mod LinesFit
+pub mod Queries

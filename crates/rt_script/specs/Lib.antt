@@ -1,0 +1,9 @@
+pub mod BrokerLines
+pub mod Command
+pub mod Line
+pub mod MacroLines
+pub mod MessageLines
+pub mod NodeLines
+pub mod OutsideLines
+pub mod ReplicaLines
+pub mod Words

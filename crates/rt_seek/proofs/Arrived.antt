@@ -1,0 +1,78 @@
+-- The values of a consuming column by their ids.
+use Rattle.std.proofs.Common.{◌≡◌, ℕ, ◌<◌, ◌≤◌, Bool, false, min, List, length, map, take, get_or, slice_get, Some, ap, sym, subst, ◌∙◌, arith, All}
+use Rattle.std.proofs.Math.ListN.{get_or-map}
+use Rattle.std.proofs.lemmas.List.{length-map, length-take, get_or_default, get_or-take, get_or_past, take-map, take_min, same_lists}
+use Rattle.std.proofs.lemmas.List.Elements.{All-take}
+use Rattle.std.proofs.lemmas.Option.{slice_get-get_or, get_or_from_slice_get}
+use Rattle.rt_schema.specs.declared.value.Value.{Value}
+use Rattle.rt_schema.specs.declared.value.Value.TheVariants as value
+use Rattle.rt_mutable.specs.Arrivals.{arrivals_of, ids_of}
+use Rattle.rt_mutable.specs.Column.{same_value}
+use Rattle.rt_mutable.proofs.Arriving.{value_of_row, id_of_row_within, length_ids, length_arrivals}
+use Rattle.rt_mutable.proofs.Same.{same_laws, same_exact}
+use Rattle.rt_agg.specs.Reading.{scalar_of}
+use Rattle.rt_seek.specs.RowSets.{truth_at}
+use Rattle.rt_seek.specs.Table.{item_at}
+use Rattle.rt_seek.proofs.Held.{by_truths}
+
+module _ (vs : List Value) where
+  pub count_ids : length (ids_of same_value vs) ≡ length vs
+  count_ids = length_ids same_laws same_exact vs
+
+  pub id_known : (row : ℕ) → row < length vs → get_or (ids_of same_value vs) row 0 < length (arrivals_of same_value vs)
+  id_known row h = id_of_row_within same_laws same_exact vs row h
+
+  pub all_known : All (λ id. id < length (arrivals_of same_value vs)) (ids_of same_value vs)
+  all_known k d h =
+      subst (λ (id : ℕ). id < length (arrivals_of same_value vs)) (get_or_default (ids_of same_value vs) k 0 d h) (id_known k (omega (arith, h, count_ids)))
+
+  -- the value of a row's id is the row's
+  pub value_led : (row : ℕ) → row < length vs → item_at (arrivals_of same_value vs) (get_or (ids_of same_value vs) row 0) ≡ item_at vs row
+  value_led row h = get_or_from_slice_get (arrivals_of same_value vs) (get_or (ids_of same_value vs) row 0) (item_at vs row) (value.Bool false)
+      (value_of_row same_laws same_exact vs row h ∙ slice_get-get_or vs row (value.Bool false) h)
+
+  pub values_led : map (λ id. item_at (arrivals_of same_value vs) id) (ids_of same_value vs) ≡ vs
+  values_led =
+      let f = λ (id : ℕ). item_at (arrivals_of same_value vs) id in
+      let ids = ids_of same_value vs in
+      same_lists (map f ids) vs (length-map ids f ∙ count_ids) (λ k d h.
+      let inside : k < length ids = omega (arith, h, length-map ids f) in
+      get_or_default (map f ids) k d (f 0) h ∙ get_or-map f ids k 0 ∙ value_led k (omega (arith, inside, count_ids))
+      ∙ get_or_default vs k (value.Bool false) d (omega (arith, inside, count_ids)))
+
+  -- the first rows whose ids pass are those whose values pass
+  pub first_pass : (t : Value → Bool) (truths : List Bool) (rows : ℕ) → truths ≡ map t (arrivals_of same_value vs) →
+      map (truth_at truths) (take (min (length (ids_of same_value vs)) rows) (ids_of same_value vs)) ≡ map t (take rows vs)
+  first_pass t truths rows e =
+      let ids = ids_of same_value vs in
+      let least : min (length ids) rows ≡ min rows (length ids) = omega arith in
+      ap (λ n. map (truth_at truths) (take n ids)) least
+      ∙ ap (map (truth_at truths)) (take_min rows ids)
+      ∙ sym (take-map (truth_at truths) rows ids)
+      ∙ ap (take rows) (by_truths t (arrivals_of same_value vs) ids truths e all_known ∙ ap (map t) values_led)
+      ∙ take-map t rows vs
+
+  pub some_known : (n : ℕ) → All (λ id. id < length (arrivals_of same_value vs)) (take n (ids_of same_value vs))
+  some_known n = All-take (λ id. id < length (arrivals_of same_value vs)) n (ids_of same_value vs) all_known
+
+  module _ (rows row : ℕ) where
+    pub first_within : row < length (take rows vs) → (row < rows) × (row < length vs)
+    first_within h = (omega (arith, h, length-take rows vs), omega (arith, h, length-take rows vs))
+
+    pub first_item : row < rows → item_at (take rows vs) row ≡ item_at vs row
+    first_item h = get_or-take rows vs row (value.Bool false) h
+
+    pub first_led : row < rows → row < length vs → item_at (arrivals_of same_value vs) (get_or (ids_of same_value vs) row 0) ≡ item_at (take rows vs) row
+    first_led less inside = value_led row inside ∙ sym (first_item less)
+
+    pub first_none : rows ≤ row → item_at (take rows vs) row ≡ value.Bool false
+    first_none past = get_or_past (take rows vs) row (value.Bool false) (omega (arith, past, length-take rows vs))
+
+    pub first_past : length vs ≤ row → item_at (take rows vs) row ≡ value.Bool false
+    first_past past = get_or_past (take rows vs) row (value.Bool false) (omega (arith, past, length-take rows vs))
+
+pub led_scalar : (vs : List Value) (id : ℕ) (v : Value) → slice_get (arrivals_of same_value vs) id ≡ Some v → scalar_of v ≡ scalar_of (item_at (arrivals_of same_value vs) id)
+led_scalar vs id v at = ap scalar_of (sym (get_or_from_slice_get (arrivals_of same_value vs) id v (value.Bool false) at))
+
+pub few_arrivals : (vs : List Value) → length (arrivals_of same_value vs) ≤ length vs
+few_arrivals vs = length_arrivals same_laws same_exact vs

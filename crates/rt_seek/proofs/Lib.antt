@@ -1,0 +1,7 @@
+pub mod Sets
+pub mod Keys
+pub mod Rows
+pub mod Posted
+pub mod Held
+pub mod Arrived
+pub mod Sought

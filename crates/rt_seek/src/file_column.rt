@@ -1,0 +1,183 @@
+ghost use Rattle.std.specs.Prelude.{◌≡◌, ◌<◌, true, length, map, replicate, IfOk};
+ghost use Rattle.rt_agg.specs.declared.scalar.Scalar.TheVariants.{Time};
+ghost use Rattle.rt_agg.specs.Reading.{scalar_of};
+ghost use Rattle.rt_segment.specs.Column.{count_in, values_in, values_of};
+ghost use Rattle.rt_seek.specs.ColumnTest.{passes_test};
+ghost use Rattle.rt_seek.specs.FileColumn.{file_values, file_value_of};
+ghost use Rattle.rt_seek.specs.Table.{item_at};
+ghost use Rattle.rt_seek.specs.RowSets.{noted_id, truth_at};
+
+use crate::column_test::ColumnTest;
+use crate::row_sets::{add_rows, all_rows, rows_with};
+use crate::scan_column::ScanColumn;
+use crate::truths::truths_of;
+use rt_agg::Scalar;
+use rt_lists::Copied;
+use rt_postings::DocSet;
+use rt_schema::Value;
+use rt_segment::{Dictionary, SegmentColumn};
+use std::alloc::{AllocError, Global};
+
+/// A column of the rows of a file.
+#[derive(Drop)]
+pub enum FileColumn<'a> {
+    Held(&'a SegmentColumn),
+    /// The file lacks the column: each of so many rows has this value.
+    Missing { value: Value, rows: u32 },
+}
+
+impl<'a> ScanColumn for FileColumn<'a> {
+    ghost values = { file_values };
+
+    ghost value_of = { file_value_of };
+
+    fn rows_that_pass(&self, alloc: Global, test: &ColumnTest<'_>) -> Result<DocSet, AllocError> {
+        match self {
+            FileColumn::Held(column) => held_rows(alloc, column, test),
+            FileColumn::Missing { value, rows } => missing_rows(alloc, value, *rows, test),
+        }
+    }
+
+    fn id(&self, row: u32) -> u32 {
+        match self {
+            FileColumn::Held(column) => column.ids()[row as usize],
+            FileColumn::Missing { .. } => 0,
+        }
+    }
+
+    fn value(&self, alloc: Global, row: u32) -> Result<Value, AllocError> {
+        match self {
+            FileColumn::Held(column) => held_value(alloc, column, row),
+            FileColumn::Missing { value, .. } => value.copied(alloc),
+        }
+    }
+
+    fn scalar(&self, row: u32) -> Option<Scalar> {
+        match self {
+            FileColumn::Held(column) => held_scalar(column, row),
+            FileColumn::Missing { value, rows } => missing_scalar(value, *rows, row),
+        }
+    }
+}
+
+fn missing_rows(
+    alloc: Global,
+    value: &Value,
+    rows: u32,
+    test: &ColumnTest<'_>,
+) -> Result<DocSet, AllocError>
+    ensures { IfOk result (λ set. set ≡ map (passes_test test.now) (replicate rows value.now)) }
+{
+    if test.passes(value) {
+        all_rows(alloc, rows)
+    } else {
+        DocSet::empty(alloc, rows)
+    }
+}
+
+fn missing_scalar(value: &Value, rows: u32, row: u32) -> Option<Scalar>
+    ensures { result ≡ scalar_of (item_at (replicate rows value.now) row) }
+{
+    if row < rows { Scalar::of(value) } else { None }
+}
+
+fn held_value(alloc: Global, column: &SegmentColumn, row: u32) -> Result<Value, AllocError>
+    requires { row < length (values_of column.now) }
+    ensures { IfOk result (λ value. value ≡ item_at (values_of column.now) row) }
+{
+    column.dictionary().value(alloc, column.ids()[row as usize])
+}
+
+fn held_scalar(column: &SegmentColumn, row: u32) -> Option<Scalar>
+    ensures { result ≡ scalar_of (item_at (values_of column.now) row) }
+{
+    let ids = column.ids();
+    if (row as usize) < ids.len() {
+        scalar_with(column.dictionary(), ids[row as usize])
+    } else {
+        None
+    }
+}
+
+fn scalar_with(dictionary: &Dictionary, id: u32) -> Option<Scalar>
+    requires { id < count_in dictionary.now }
+    ensures { result ≡ scalar_of (item_at (values_in dictionary.now) id) }
+{
+    match dictionary {
+        Dictionary::Int(dict) => Some(Scalar::Int(*dict.value(id))),
+        Dictionary::Long(dict) => Some(Scalar::Long(*dict.value(id))),
+        Dictionary::Text(_) => None,
+        Dictionary::Bool(_) => None,
+        Dictionary::Time(dict) => Some(time_scalar(dict.value(id))),
+    }
+}
+
+fn time_scalar(millis: &i64) -> Scalar
+    ensures { result ≡ Time millis.now }
+{
+    Scalar::Time(*millis)
+}
+
+// Which rows of a column pass a test.
+fn held_rows(
+    alloc: Global,
+    column: &SegmentColumn,
+    test: &ColumnTest<'_>,
+) -> Result<DocSet, AllocError>
+    ensures { IfOk result (λ set. set ≡ map (passes_test test.now) (values_of column.now)) }
+{
+    let ids = column.ids();
+    let truths = truths_in(alloc, column.dictionary(), test)?;
+    if column.is_indexed() {
+        rows_by_postings(alloc, column, &truths)
+    } else {
+        rows_with(alloc, &truths, ids)
+    }
+}
+
+// Which values of a dictionary pass a test.
+fn truths_in(
+    alloc: Global,
+    dictionary: &Dictionary,
+    test: &ColumnTest<'_>,
+) -> Result<Vec<bool>, AllocError>
+    ensures { IfOk result (λ truths. truths.items ≡ map (passes_test test.now) (values_in dictionary.now)) }
+{
+    match dictionary {
+        Dictionary::Int(dict) => truths_of(alloc, dict, test),
+        Dictionary::Long(dict) => truths_of(alloc, dict, test),
+        Dictionary::Text(dict) => truths_of(alloc, dict, test),
+        Dictionary::Bool(dict) => truths_of(alloc, dict, test),
+        Dictionary::Time(dict) => truths_of(alloc, dict, test),
+    }
+}
+
+// The rows of the ids that pass, by the rows of each id.
+fn rows_by_postings(
+    alloc: Global,
+    column: &SegmentColumn,
+    truths: &[bool],
+) -> Result<DocSet, AllocError>
+    requires indexed { column.now.indexed ≡ true }
+    requires truths { length truths.now ≡ count_in column.now.dictionary }
+    ensures { IfOk result (λ set. set ≡ map (truth_at truths.now) column.now.ids) }
+{
+    let mut set = DocSet::empty(alloc, column.ids().len() as u32)?;
+    for (id, passes) in truths.iter().enumerate() {
+        note_id(column, id as u32, *passes, &mut set);
+    }
+    Ok(set)
+}
+
+// Adds the rows of an id, where it passes.
+fn note_id(column: &SegmentColumn, id: u32, passes: bool, set: &mut DocSet)
+    requires indexed { column.now.indexed ≡ true }
+    requires known { id < count_in column.now.dictionary }
+    ensures { set.new ≡ noted_id column.now.ids id set.old passes }
+{
+    if passes {
+        if let Some(rows) = column.docs(id) {
+            add_rows(set, rows);
+        }
+    }
+}

@@ -1,0 +1,21 @@
+//! Columns of rows that are scanned: which rows of one have a value that passes a test.
+//!
+//! A test is evaluated once for each distinct value of the column, and the ids that pass give the set of rows.
+#![tactic(auto)]
+
+mod column_test;
+mod comparable;
+mod consuming_column;
+mod file_column;
+mod key_test;
+mod row_sets;
+mod scan_column;
+mod seeking;
+mod truths;
+
+pub use column_test::ColumnTest;
+pub use comparable::Comparable;
+pub use consuming_column::ConsumingColumn;
+pub use file_column::FileColumn;
+pub use row_sets::all_rows;
+pub use scan_column::ScanColumn;

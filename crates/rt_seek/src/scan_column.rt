@@ -1,0 +1,38 @@
+ghost use Rattle.std.specs.Prelude.{◌≡◌, ℕ, ◌<◌, List, length, map, slice_index_or, IfOk};
+ghost use Rattle.rt_schema.specs.declared.value.Value.{Value as AnyValue};
+ghost use Rattle.rt_agg.specs.Reading.{scalar_of};
+ghost use Rattle.rt_seek.specs.ColumnTest.{passes_test};
+ghost use Rattle.rt_seek.specs.Table.{item_at};
+
+use crate::column_test::ColumnTest;
+use rt_agg::Scalar;
+use rt_postings::DocSet;
+use rt_schema::Value;
+use std::alloc::{AllocError, Global};
+
+/// A column of rows that are scanned.
+pub trait ScanColumn {
+    /// The value of each row.
+    ghost values: { Self → List AnyValue };
+
+    /// The value that an id stands for.
+    ghost value_of: { Self → ℕ → AnyValue };
+
+    /// Which rows have values that pass a test. Fails only where memory is refused.
+    fn rows_that_pass(&self, alloc: Global, test: &ColumnTest<'_>) -> Result<DocSet, AllocError>
+        ensures { IfOk result (λ set. set ≡ map (passes_test test.now) (values self.now)) };
+
+    /// The id of a row's value.
+    fn id(&self, row: u32) -> u32
+        requires { row < length (values self.now) }
+        ensures { value_of self.now result ≡ item_at (values self.now) row };
+
+    /// A copy of a row's value. Fails only where memory is refused.
+    fn value(&self, alloc: Global, row: u32) -> Result<Value, AllocError>
+        requires { row < length (values self.now) }
+        ensures { IfOk result (λ value. value ≡ item_at (values self.now) row) };
+
+    /// A row's value, where it is a whole number; none past the last row.
+    fn scalar(&self, row: u32) -> Option<Scalar>
+        ensures { result ≡ scalar_of (item_at (values self.now) row) };
+}

@@ -1,0 +1,141 @@
+-- What a target and the metadata of a segment tell, over a right past.
+use Rattle.std.proofs.Common.{◌≡◌, ◌==◌, ◌<◌, ◌⊎◌, inl, inr, Bool, true, false, cond, List, [], ◌∷◌, Option, Some, None, refl, sym, ap, subst, ◌∙◌, arith}
+use Rattle.std.specs.BTreeMap.{insert_entry}
+use Rattle.std.proofs.lemmas.Bool.{eqb-true}
+use Rattle.rt_base.specs.declared.numbers.Instance.{Instance}
+use Rattle.rt_base.specs.declared.numbers.Offset.{Offset}
+use Rattle.rt_base.specs.declared.numbers.Partition.{Partition}
+use Rattle.rt_base.specs.declared.numbers.Sequence.{Sequence}
+use Rattle.rt_lists.specs.Members.{Has}
+use Rattle.rt_model.specs.declared.commit.Commit.{Commit}
+use Rattle.rt_model.specs.declared.ideal_state.IdealEntry.{IdealEntry}
+use Rattle.rt_model.specs.declared.ideal_state.Mode.{Mode}
+use Rattle.rt_model.specs.declared.node.Key.{Key}
+use Rattle.rt_model.specs.declared.node.Node.{Node}
+use Rattle.rt_model.specs.declared.node.Node.TheVariants as node
+use Rattle.rt_model.specs.declared.node.Seen.{Seen}
+use Rattle.rt_model.specs.declared.seg_meta.SeenMeta.{SeenMeta}
+use Rattle.rt_model.specs.declared.setup.Setup.{Setup}
+use Rattle.rt_model.specs.declared.status.Status.{Status}
+use Rattle.rt_model.specs.declared.status.Status.TheVariants.{InProgress, Done, Abandoned}
+use Rattle.rt_model.specs.Entries.{IsIdealWrite, entries_by}
+use Rattle.rt_model.specs.Metadata.{IsDoneStatus}
+use Rattle.rt_model.proofs.Entries.{names_entry}
+use Rattle.rt_model.proofs.Histories.{same_instance}
+use Rattle.rt_past.specs.Past.{Past}
+use Rattle.rt_past.specs.Files.{IsStored}
+use Rattle.rt_past.specs.IsPast.{IsPast}
+use Rattle.rt_past.specs.Segments.{HadEntry, IsAssignedTo, IsBegun, WasDone}
+use Rattle.rt_past.specs.Writes.{AreRightEntries, IsRightNode, IsRightStatus}
+use Rattle.rt_replica.specs.Consumer.{end_in, end_of}
+use Rattle.rt_replica.proofs.Answered.{one_start}
+use Rattle.rt_server.specs.Calls.{targets_of}
+use Rattle.rt_server.specs.Lasting.{AreTargets, IsServerOver}
+use Rattle.rt_server.specs.Table.{Segment, ServerState, segment_cmp, target_of}
+use Rattle.rt_server.proofs.LastingPuts.{segment}
+use Rattle.rt_server.proofs.LastingTables.{Has-insert_entry, at, lookup-Has, segment_exact}
+
+-- ---- a target
+
+-- a target comes of an entry of the instance
+abbrev Comes : Instance → List IdealEntry → Segment × Mode → Type 0
+Comes i es x = (e : IdealEntry) × Has es e × (e.instance ≡ i) × (segment e.partition e.sequence ≡ x.0)
+
+later : (i : Instance) (d : IdealEntry) (es : List IdealEntry) (x : Segment × Mode) → Comes i es x → Comes i (d ∷ es) x
+later i d es x (e, has, mine, same) = (e, inr has, mine, same)
+
+target_comes : (i : Instance) (es : List IdealEntry) (x : Segment × Mode) → Has (targets_of i es) x → Comes i es x
+target_comes i [] x has = absurd has
+target_comes i (e ∷ es) x has = by (e.instance.0 == i.0) refl has (λ h. target_comes i es x h)
+  where
+    one : (e.instance.0 == i.0) ≡ true → Has (targets_of i es) x ⊎ (at (segment e.partition e.sequence) e.mode ≡ x) → (Has (targets_of i es) x → Comes i es x) → Comes i (e ∷ es) x
+    one mine (inl h) further = later i e es x (further h)
+    one mine (inr same) further = (e, inl refl, same_instance e.instance i (eqb-true e.instance.0 i.0 mine), ap (λ (y : Segment × Mode). y.0) same)
+
+    by : (b : Bool) → (e.instance.0 == i.0) ≡ b
+        → Has (cond b (insert_entry segment_cmp (targets_of i es) (e.partition, e.sequence) e.mode) (targets_of i es)) x
+        → (Has (targets_of i es) x → Comes i es x) → Comes i (e ∷ es) x
+    by true mine h further = one mine (Has-insert_entry segment_cmp segment_exact (targets_of i es) (segment e.partition e.sequence) e.mode x h) further
+    by false other h further = later i e es x (further h)
+
+right_entries : (setup : Setup) (past : Past) (k : Key) (n : Node) → IsRightNode setup past k n → AreRightEntries setup (entries_by n)
+right_entries setup past k (node.Ideal i) r = r
+right_entries setup past k (node.Meta m) r = λ e has. absurd has
+right_entries setup past k node.Boot r = λ e has. absurd has
+right_entries setup past k node.Gone r = λ e has. absurd has
+
+-- a segment of a partition that an instance is assigned to, which has or had an entry
+pub record IsPlace (setup : Setup) (past : Past) (i : Instance) (s : Segment) : Type 0 where
+  pub partition : s.0.0 < setup.partitions
+  pub assigned : IsAssignedTo setup s.0 i
+  pub entered : HadEntry past.history s.0 s.1
+
+place_by : (setup : Setup) (past : Past) (i : Instance) (w : Seen) (x : Segment × Mode) → IsPast setup past → IsIdealWrite past.history w → Comes i (entries_by w.node) x
+    → IsPlace setup past i x.0
+place_by setup past i w x right is (e, has, mine, same) =
+    let entry = right_entries setup past w.key w.node (right.writes w is.has) e has in
+    subst (IsPlace setup past i) same
+    (record {
+      partition = entry.0;
+      assigned = subst (IsAssignedTo setup e.partition) mine entry.1;
+      entered = (w, is, names_entry (entries_by w.node) e.partition e.sequence (e, has, refl, refl));
+    })
+
+abbrev a_mode : Mode → Option Mode
+a_mode m = Some m
+
+no_mode : (m : Mode) → None ≡ a_mode m → ⊥
+no_mode m e = cc
+
+place_of : (setup : Setup) (past : Past) (i : Instance) (targets : List (Segment × Mode)) (x : Segment × Mode) → IsPast setup past → AreTargets past.history i targets
+    → Has targets x → IsPlace setup past i x.0
+place_of setup past i targets x right (inl none) has = absurd (subst (λ (ts : List (Segment × Mode)). Has ts x) none has)
+place_of setup past i targets x right (inr (w, is, e)) has =
+    place_by setup past i w x right is (target_comes i (entries_by w.node) x (subst (λ (ts : List (Segment × Mode)). Has ts x) e has))
+
+-- a server's targets are segments that it is assigned to
+pub target_place : (setup : Setup) (past : Past) (s : ServerState) (p : Partition) (q : Sequence) (mode : Mode) → IsPast setup past → IsServerOver setup past s
+    → target_of s.table p q ≡ Some mode → IsPlace setup past s.numbers.instance (segment p q)
+target_place setup past s p q mode right k found =
+    place_of setup past s.numbers.instance s.table.targets (at (segment p q) mode) right k.targets
+    (lookup-Has segment_cmp segment_exact s.table.targets (segment p q) mode found)
+
+-- ---- metadata that tells of a commit
+
+-- the commit that metadata tells of, and the file that stands for it
+pub record IsCommit (setup : Setup) (past : Past) (p : Partition) (q : Sequence) (done : SeenMeta) : Type 0 where
+  pub commit : Commit
+  pub status : done.meta.status ≡ Done commit
+  pub entered : HadEntry past.history p q
+  pub stored : IsStored setup past p q done.meta.start commit
+
+commit_by : (setup : Setup) (past : Past) (p : Partition) (q : Sequence) (done : SeenMeta) (status : Status) → done.meta.status ≡ status → IsDoneStatus status
+    → IsRightStatus setup past p q done.meta status → IsCommit setup past p q done
+commit_by setup past p q done InProgress e is right = absurd is
+commit_by setup past p q done (Done commit) e is right = record { commit = commit; status = e; entered = right.0; stored = right.1 }
+commit_by setup past p q done Abandoned e is right = absurd is
+
+-- a commit that was written has its file
+pub done_stored : (setup : Setup) (past : Past) (p : Partition) (q : Sequence) (done : SeenMeta) → IsPast setup past → WasDone past.history p q done → IsCommit setup past p q done
+done_stored setup past p q done right was = commit_by setup past p q done done.meta.status refl was.1 (right.writes _ was.0)
+
+abbrev some_end : Offset → Option Offset
+some_end x = Some x
+
+the_end : (a b : Offset) → some_end a ≡ some_end b → a ≡ b
+the_end a b e = cc
+
+-- its segment was begun where it starts, and it ends past that, within the log
+pub commit_past : (setup : Setup) (past : Past) (p : Partition) (q : Sequence) (done : SeenMeta) (start end : Offset) → IsPast setup past → p.0 < setup.partitions
+    → WasDone past.history p q done → IsBegun past.history p q start → end_of done ≡ Some end → (done.meta.start ≡ start) × (start.0 < end.0)
+commit_past setup past p q done start end right within was begun e =
+    let c = done_stored setup past p q done right was in
+    let same : done.meta.start ≡ start = one_start setup past p q done.meta.start start right within c.stored.right.begun begun in
+    let last : c.commit.end ≡ end = the_end c.commit.end end (sym (ap end_in c.status) ∙ e) in
+    (same, omega (arith, c.stored.right.file.within.0, ap (λ (x : Offset). x.0) same, ap (λ (x : Offset). x.0) last))
+
+-- what tells of an end tells of a commit
+pub ended_done : (status : Status) (end : Offset) → end_in status ≡ Some end → IsDoneStatus status
+ended_done InProgress end e = absurd (cc)
+ended_done (Done commit) end e = tt
+ended_done Abandoned end e = absurd (cc)

@@ -1,0 +1,14 @@
+pub mod Table
+pub mod Transition
+pub mod Calls
+pub mod Due
+pub mod Download
+pub mod Serving
+pub mod Past
+pub mod Scans
+pub mod Logs
+pub mod Named
+pub mod Kept
+pub mod Fresh
+pub mod Lasting
+pub mod LastingRows

@@ -1,0 +1,37 @@
+-- What a server's caller has seen of the store's history.
+use Rattle.std.specs.Prelude.{◌≡◌, ◌<◌, Option, Some, None}
+use Rattle.rt_base.specs.declared.numbers.Offset.{Offset}
+use Rattle.rt_base.specs.declared.numbers.Partition.{Partition}
+use Rattle.rt_base.specs.declared.numbers.Sequence.{Sequence}
+use Rattle.rt_model.specs.declared.node.Node.{Node}
+use Rattle.rt_model.specs.declared.seg_meta.SeenMeta.{SeenMeta}
+use Rattle.rt_model.specs.Chain.{start_by}
+use Rattle.rt_model.specs.Lawful.{IsLawfulHistory}
+use Rattle.rt_model.specs.Metadata.{HasNode, IsOpen}
+use Rattle.rt_store.specs.Contents.{starting_of}
+use Rattle.rt_store.specs.Meaning.{Meaning}
+use Rattle.rt_replica.specs.declared.consumer.Consumer.{Consumer}
+use Rattle.rt_replica.specs.Consumer.{end_of}
+use Rattle.rt_server.specs.Table.{Segments, ServerState, replica_of}
+
+-- the store's history begins with the cluster's starting contents, and is lawful
+abbrev pub HasHistory : ServerState → Meaning → Type 0
+HasHistory s m = IsLawfulHistory (starting_of s.setup) m.seen
+
+-- a node in progress from this offset
+abbrev pub OpensAt : Offset → Node → Type 0
+OpensAt start n = IsOpen n × (start_by n ≡ start.0)
+
+-- the segment's replica, where there is one, starts where its node was created
+abbrev pub StartsWithItsNode : ServerState → Meaning → Partition → Sequence → Type 0
+StartsWithItsNode s m p q =
+    (r : Consumer) → replica_of s.table p q ≡ Some r → (p.0 < s.setup.partitions) × HasNode m.seen p q.0 (OpensAt r.start)
+
+-- a committed segment ends past the start of the replica
+abbrev pub MayLearnOf : Segments → Partition → Sequence → SeenMeta → Type 0
+MayLearnOf t p q seen =
+    (r : Consumer) (end : Offset) → replica_of t p q ≡ Some r → end_of seen ≡ Some end → r.start.0 < end.0
+
+abbrev pub MayLearn : Segments → Partition → Sequence → Option SeenMeta → Type 0
+MayLearn t p q None = Unit {0}
+MayLearn t p q (Some seen) = MayLearnOf t p q seen

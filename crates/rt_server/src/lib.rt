@@ -1,0 +1,31 @@
+//! One server: what it has of each segment, a replica or the committed file, and what it has seen of the ideal state.
+//! It moves each segment to what the ideal state asks, by the segment's metadata, loads the files that it wants, and
+//! serves the pieces of a query's plan.
+#![tactic(auto)]
+
+mod copied;
+mod downloads;
+mod lasting;
+mod lasting_told;
+mod laws;
+mod lists;
+mod replicas;
+mod server;
+mod serving;
+mod table;
+mod transitions;
+
+pub use lasting::{
+    a_restart_is_lawful, a_server_asks_what_is_right, a_wanted_file_stands,
+    each_call_of_a_replica_keeps_what_lasts, each_call_of_a_server_keeps_what_lasts,
+    what_a_server_has_is_right, what_lasts_meets_the_calls, what_lasts_of_a_server_stays_true,
+};
+pub use lasting_told::{
+    a_server_sends_what_is_right, a_server_steps_right, a_servers_replicas_step_right,
+};
+pub use laws::{
+    a_refused_call_changes_nothing, a_store_fault_raises_the_count,
+    calls_over_told_stores_are_exact,
+};
+pub use rt_entry::{ServeRefused, ServedRows, ServerRefused};
+pub use server::Server;

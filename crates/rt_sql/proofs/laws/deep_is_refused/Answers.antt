@@ -1,6 +1,0 @@
-use Rattle.rt_sql.proofs.Viable.{refused_deep}
-use Rattle.rt_sql.proofs.Deepest.{deep_nests}
-use Rattle.rt_sql.proofs.laws.deep_is_refused.Goals as goal
-
-pub returns : goal.returns
-returns c s size ts = (λ nests. refused_deep s size ts nests, λ e. deep_nests s size ts e)

@@ -1,5 +1,0 @@
-use Rattle.rt_sql.proofs.Viable.{first_fault}
-use Rattle.rt_sql.proofs.laws.faults_are_first.Goals as goal
-
-pub returns : goal.returns
-returns c s size byte ts e = first_fault s size byte ts e

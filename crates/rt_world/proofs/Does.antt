@@ -1,0 +1,110 @@
+-- A server's own step, with a call of a store or without one, keeps a world safe.
+use Rattle.std.proofs.Common.{◌≡◌, ℕ, ◌+◌, ◌≤◌, Ok, Option, Some, None, refl, sym, ap, subst, arith, slice_get, length}
+use Rattle.std.specs.Prelude.{slice_set}
+use Rattle.rt_base.specs.declared.numbers.Instance.{Instance}
+use Rattle.rt_deep.specs.Meaning.{Told as ToldDeep}
+use Rattle.rt_events.specs.declared.outcome.Outcome.{Outcome}
+use Rattle.rt_past.specs.Past.{Past, with_history}
+use Rattle.rt_store.specs.Meaning.{Told}
+use Rattle.rt_world.specs.Applying.{Next}
+use Rattle.rt_world.specs.IsSafe.{IsServerAt, HasDrawn, IsSafeOver, past_of}
+use Rattle.rt_world.specs.IsSafeWorld.{IsFewOver, IsSafeWorld}
+use Rattle.rt_world.specs.Nodes.{ServerStep, ServerDoesAt, ServerDoes, ServerCallsAt, ServerCalls, ServerGetsAt, ServerGets}
+use Rattle.rt_world.specs.Room.{no_cost, priced, spent, counted}
+use Rattle.rt_world.specs.declared.cost.Cost.{Cost}
+use Rattle.rt_world.specs.declared.server_node.ServerNode.{ServerNode}
+use Rattle.rt_world.specs.declared.state.State.{State}
+use Rattle.rt_world.proofs.Few.{GrowsFew, few_after, none_started}
+use Rattle.rt_world.proofs.KeepsClock.{free_keeps}
+use Rattle.rt_world.proofs.Possible.{HasRoom, priced_room}
+use Rattle.rt_world.proofs.Sets.{drawn_same, safe_grows, server_set}
+use Rattle.rt_world.proofs.Stores.{WritesOn}
+
+-- a server that is right over a past, and has drawn the numbers of its requests there
+pub record IsServerOf (w : State) (a : Past) (i : ℕ) (n : ServerNode) : Type 0 where
+  pub at : IsServerAt w.setup a i n
+  pub drawn : HasDrawn a i n
+
+pub server_of : (w : State) (i : ℕ) (n : ServerNode) → IsSafeWorld w → slice_get w.servers i ≡ Some n → IsServerOf w (past_of w) i n
+server_of w i n s e = record { at = s.safe.servers i n e; drawn = s.safe.drawn i n e }
+
+-- ---- alone
+
+pub server_does_keeps : (w : State) (i : Instance) (does : ServerStep) (cost : Cost) (x : Next) → IsSafeWorld w → priced w no_cost ≡ Ok cost
+    → ((old new : ServerNode) (o : Outcome) → slice_get w.servers i.0 ≡ Some old → IsServerOf w (past_of w) i.0 old → does old new o → IsServerOf w (past_of w) i.0 new)
+    → ServerDoes w i does cost x → IsSafeWorld x.0
+server_does_keeps w i does cost x s possible keeps h = by_node (slice_get w.servers i.0) refl h
+  where
+    by_node : (n : Option ServerNode) → slice_get w.servers i.0 ≡ n → ServerDoesAt n w i does cost x → IsSafeWorld x.0
+    by_node None e h = absurd h
+    by_node (Some old) e (new, step, is) =
+        let k = keeps old new x.1 e (server_of w i.0 old s e) step in
+        subst IsSafeWorld (sym is)
+        (record {
+          safe = server_set w.setup (past_of w) w.servers w.controllers w.queries i.0 new s.safe k.at k.drawn;
+          few = free_keeps w cost s possible;
+        })
+
+-- ---- with a call of the store
+
+-- what such a step leaves
+pub record ServerWrites (w : State) (i : ℕ) (new : ServerNode) (store : Told) : Type 0 where
+  pub past : WritesOn w.setup (past_of w) store.writes
+  pub server : IsServerOf w (with_history (past_of w) store.writes) i new
+
+pub server_calls_keeps : (w : State) (i : Instance) (does : Told → Told → ServerStep) (cost : Cost) (x : Next) → IsSafeWorld w → priced w no_cost ≡ Ok cost
+    → ((old new : ServerNode) (store : Told) (o : Outcome) → slice_get w.servers i.0 ≡ Some old → IsServerOf w (past_of w) i.0 old → does w.store store old new o
+    → ServerWrites w i.0 new store)
+    → ServerCalls w i does cost x → IsSafeWorld x.0
+server_calls_keeps w i does cost x s possible keeps h = by_node (slice_get w.servers i.0) refl h
+  where
+    by_node : (n : Option ServerNode) → slice_get w.servers i.0 ≡ n → ServerCallsAt n w i does cost x → IsSafeWorld x.0
+    by_node None e h = absurd h
+    by_node (Some old) e (new, store, step, is) =
+        let a = past_of w in
+        let k = keeps old new store x.1 e (server_of w i.0 old s e) step in
+        let b = with_history a store.writes in
+        let room = priced_room w no_cost cost possible in
+        let grown = safe_grows w.setup a b w.servers w.controllers w.queries s.safe k.past.grows k.past.right (drawn_same a b w.servers refl s.safe.drawn) in
+        subst IsSafeWorld (sym is)
+        (record {
+          safe = server_set w.setup b w.servers w.controllers w.queries i.0 new grown k.server.at k.server.drawn;
+          few =
+              few_after w (counted (record w { servers = slice_set w.servers i.0 new; store = store }) cost) cost (subst (HasRoom w) room.0 room.1)
+              (record {
+                setup = refl;
+                events = refl;
+                written = k.past.few;
+                sent = omega arith;
+                appended = omega arith;
+                asked = omega arith;
+                started = none_started w s.few;
+                unanswered = omega (arith, s.few.unanswered, ap (λ (c : Cost). c.queries) room.0);
+                few_unanswered = omega arith;
+                uploads = refl;
+                stored = omega arith;
+                moment = omega arith;
+              })
+              s.few;
+        })
+
+-- ---- with a look at a file
+
+pub server_gets_keeps : (w : State) (i : Instance) (does : ToldDeep → ToldDeep → ServerStep) (cost : Cost) (x : Next) → IsSafeWorld w → priced w no_cost ≡ Ok cost
+    → ((old new : ServerNode) (deep : ToldDeep) (o : Outcome) → slice_get w.servers i.0 ≡ Some old → IsServerOf w (past_of w) i.0 old → does w.deep deep old new o
+    → (deep.files ≡ w.deep.files) × IsServerOf w (past_of w) i.0 new)
+    → ServerGets w i does cost x → IsSafeWorld x.0
+server_gets_keeps w i does cost x s possible keeps h = by_node (slice_get w.servers i.0) refl h
+  where
+    by_node : (n : Option ServerNode) → slice_get w.servers i.0 ≡ n → ServerGetsAt n w i does cost x → IsSafeWorld x.0
+    by_node None e h = absurd h
+    by_node (Some old) e (new, deep, step, is) =
+        let a = past_of w in
+        let k = keeps old new deep x.1 e (server_of w i.0 old s e) step in
+        let same : record a { files = deep.files } ≡ a = ap (λ files. record a { files = files }) k.0 in
+        let safe = server_set w.setup a w.servers w.controllers w.queries i.0 new s.safe k.1.at k.1.drawn in
+        subst IsSafeWorld (sym is)
+        (record {
+          safe = subst (λ b. IsSafeOver w.setup b (slice_set w.servers i.0 new) w.controllers w.queries) (sym same) safe;
+          few = subst (λ b. IsFewOver w.setup b w.controllers w.queries (spent w.counts cost) w.moment) (sym same) (free_keeps w cost s possible);
+        })

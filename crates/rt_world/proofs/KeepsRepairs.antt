@@ -1,0 +1,306 @@
+-- A step of a repair, and one of a retirement, keeps a world safe.
+use Rattle.std.proofs.Common.{◌≡◌, ℕ, ◌+◌, ◌<◌, ◌≤◌, Bool, true, false, cond, List, Result, Ok, Option, Some, None, refl, sym, ◌∙◌, ap, subst, slice_get, length, nat_lt, arith, ◌&&◌}
+use Rattle.std.specs.Prelude.{slice_set, IfSome, is_some}
+use Rattle.std.proofs.lemmas.Bool.{ltb-true, and_parts, true≢false}
+use Rattle.std.proofs.lemmas.List.{length-set}
+use Rattle.rt_base.specs.declared.numbers.ControllerId.{ControllerId}
+use Rattle.rt_base.specs.declared.numbers.Moment.{Moment}
+use Rattle.rt_base.specs.declared.numbers.Partition.{Partition}
+use Rattle.rt_events.specs.declared.refusal.Refusal.TheVariants.{NoSuchNode, NodeDown, NothingToDo}
+use Rattle.rt_model.specs.declared.decision.Decision.{Decision}
+use Rattle.rt_model.specs.declared.decision.Decision.TheVariants as decision
+use Rattle.rt_model.specs.declared.node.Seen.{Seen}
+use Rattle.rt_model.specs.declared.setup.Setup.{Setup}
+use Rattle.rt_model.specs.Lawful.{Write}
+use Rattle.rt_past.specs.IsPast.{IsPast}
+use Rattle.rt_past.specs.Past.{Past, Grows, with_history}
+use Rattle.rt_repair.specs.declared.read_node.ReadNode.{ReadNode}
+use Rattle.rt_repair.specs.declared.repair.RepairStage.{RepairStage}
+use Rattle.rt_repair.specs.declared.repair.RepairStage.TheVariants as repair
+use Rattle.rt_repair.specs.declared.repair_step.RepairStep.{RepairStep}
+use Rattle.rt_repair.specs.declared.retirement.RetireStage.{RetireStage}
+use Rattle.rt_repair.specs.declared.retirement.RetireStage.TheVariants as retirement
+use Rattle.rt_repair.specs.declared.retiring.RetireStep.{RetireStep}
+use Rattle.rt_repair.specs.declared.retiring.Retiring.{Retiring}
+use Rattle.rt_repair.specs.declared.retiring.Retiring.TheVariants as decided
+use Rattle.rt_repair.specs.Lasting.{IsRepairOver, IsRetireOver, GrowsRight}
+use Rattle.rt_repair.specs.RepairSteps as of_repair
+use Rattle.rt_repair.specs.RetireSteps as of_retire
+use Rattle.rt_repair.specs.Repairing.{Repairing, is_ended, IsUnended as IsUnendedRepair, decision_at, create_write, ideal_write, abandon_write, set_entries}
+use Rattle.rt_repair.specs.Retirement.{Retirement, is_ended as retire_is_ended, IsUnended as IsUnendedRetirement, retiring_at, remove_write, delete_write, set_entries as retire_sets}
+use Rattle.rt_repair.specs.Told.{repair_set, repair_done, repair_at, repair_stepped, retire_deleted, retire_done, retire_at, retire_stepped}
+use Rattle.rt_repair.proofs.Growing.{repair_lasts, retire_lasts, repair_begins_over, retire_begins_over}
+use Rattle.rt_repair.proofs.RightRepair.{repair_past, repair_kept}
+use Rattle.rt_repair.proofs.RightRetire.{retire_past, retire_kept}
+use Rattle.rt_repair.proofs.Telling.{told_repair, told_retire}
+use Rattle.rt_store.specs.Answers.{after_call}
+use Rattle.rt_store.specs.Calls.{told_on}
+use Rattle.rt_store.specs.Meaning.{Told}
+use Rattle.rt_store.specs.declared.refused.StoreRefused.{StoreRefused}
+use Rattle.rt_store.proofs.Told.{leaves_on, read_same}
+use Rattle.rt_world.specs.Applying.{Next}
+use Rattle.rt_world.specs.Finding.{has_controller, has_partition, is_controller_up}
+use Rattle.rt_world.specs.IsSafe.{IsUpkeepAt, IsControllerAt, IsSafeOver, IsSafe, past_of}
+use Rattle.rt_world.specs.IsSafeWorld.{IsFew, IsSafeWorld}
+use Rattle.rt_world.specs.Repairs.{upkeep_in, upkeep_at, believes_at, find_upkeep, after_upkeep, repair_by, repair_in, repair_due, begun, going_on, UpkeepRepairs, RepairsAt, Repairs, retain_by, retirement_in, retain_due, retiring, retiring_on, UpkeepRetires, RetiresAt, Retires}
+use Rattle.rt_world.specs.Room.{only_if, set_cost, no_cost, priced}
+use Rattle.rt_world.specs.declared.controller_node.ControllerNode.{ControllerNode}
+use Rattle.rt_world.specs.declared.cost.Cost.{Cost}
+use Rattle.rt_world.specs.declared.state.State.{State}
+use Rattle.rt_world.specs.declared.upkeep.Upkeep.{Upkeep}
+use Rattle.rt_world.proofs.Few.{GrowsFew, few_after, one_started}
+use Rattle.rt_world.proofs.KeepsJobs.{set_counted}
+use Rattle.rt_world.proofs.Places.{at_set}
+use Rattle.rt_world.proofs.Possible.{came, only_passed, then_passed, HasRoom, priced_room}
+use Rattle.rt_world.proofs.Sets.{drawn_same, safe_grows, controller_set}
+use Rattle.rt_world.proofs.Stores.{one_more}
+use Rattle.rt_world.proofs.Topics.{if_some, controller_at_grows}
+
+-- ---- a step writes once at most
+
+read_few : (t : Told) → length (told_on t (λ base. base)).writes ≤ length t.writes + 1
+read_few t = omega (arith, ap (λ (h : List Seen). length h) (read_same t))
+
+called_few : (t : Told) (call : Write) → length (told_on t (after_call call)).writes ≤ length t.writes + 1
+called_few t call = one_more call t.writes (told_on t (after_call call)).writes (leaves_on t call)
+
+set_few : (t : Told) (r : Repairing) (tell : Result ℕ StoreRefused → Option RepairStep) (call : Option Write)
+    → length (repair_set t r tell call).told.writes ≤ length t.writes + 1
+set_few t r tell None = omega arith
+set_few t r tell (Some call) = called_few t call
+
+done_few : (t : Told) (r : Repairing) (now : Moment) (last : Option ReadNode) (follows : Bool) (ideal : Seen) (d : Decision)
+    → length (repair_done t r now last follows ideal d).told.writes ≤ length t.writes + 1
+done_few t r now last follows ideal decision.Nothing = omega arith
+done_few t r now last follows ideal (decision.Create s start) = called_few t (create_write r now s start last)
+done_few t r now last follows ideal (decision.AddToIdeal s) = set_few t r of_repair.ideal_set (ideal_write r s follows ideal)
+done_few t r now last follows ideal (decision.Abandon s) = set_few t r (of_repair.abandoned s) (abandon_write now last)
+
+repair_few : (t : Told) (r : Repairing) (now : Moment) (stage : RepairStage) → length (repair_at t r now stage).told.writes ≤ length t.writes + 1
+repair_few t r now repair.Listing = read_few t
+repair_few t r now (repair.Reading last follows) = read_few t
+repair_few t r now (repair.Writing last follows ideal) = done_few t r now last follows ideal (decision_at r now last ideal)
+repair_few t r now repair.Ended = omega arith
+
+deleted_few : (t : Told) (r : Retirement) (tell : Result (Unit {0}) StoreRefused → Option RetireStep) (call : Option Write)
+    → length (retire_deleted t r tell call).told.writes ≤ length t.writes + 1
+deleted_few t r tell None = omega arith
+deleted_few t r tell (Some call) = called_few t call
+
+retired_few : (t : Told) (r : Retirement) (lowest : Option ReadNode) (ideal : Seen) (d : Retiring)
+    → length (retire_done t r lowest ideal d).told.writes ≤ length t.writes + 1
+retired_few t r lowest ideal decided.Nothing = omega arith
+retired_few t r lowest ideal (decided.Remove s) = called_few t (remove_write r s ideal)
+retired_few t r lowest ideal (decided.Delete s) = deleted_few t r (of_retire.deleted s) (delete_write lowest)
+
+retire_few : (t : Told) (r : Retirement) (now : Moment) (stage : RetireStage) → length (retire_at t r now stage).told.writes ≤ length t.writes + 1
+retire_few t r now retirement.Listing = read_few t
+retire_few t r now (retirement.Reading lowest) = read_few t
+retire_few t r now (retirement.Writing lowest ideal) = retired_few t r lowest ideal (retiring_at r now lowest ideal)
+retire_few t r now retirement.Ended = omega arith
+
+-- ---- what is under way is put back
+
+-- what a step leaves: all that there is has grown to a right past, by one write at most, and what is under way is right there
+pub record UpkeepWrites (w : State) (new : Upkeep) (store : Told) : Type 0 where
+  pub grows : Grows (past_of w) (with_history (past_of w) store.writes)
+  pub right : IsPast w.setup (with_history (past_of w) store.writes)
+  pub few : length store.writes ≤ length w.store.writes + 1
+  pub upkeep : IsUpkeepAt w.setup (with_history (past_of w) store.writes) 0 new
+
+upkeep_put : (w : State) (c : ControllerId) (p : Partition) (n : ControllerNode) (new : Upkeep) (store : Told) (sets : Option ℕ) (cost : Cost) → IsSafeWorld w
+    → slice_get w.controllers c.0 ≡ Some n → priced w (set_cost sets) ≡ Ok cost → UpkeepWrites w new store → IsSafeWorld (after_upkeep w c p n new store cost)
+upkeep_put w c p n new store sets cost s there possible k =
+    let a = past_of w in
+    let b = with_history a store.writes in
+    let room = priced_room w (set_cost sets) cost possible in
+    let on = controller_at_grows w.setup a b k.grows c.0 n (s.safe.controllers c.0 n there) in
+    let f = s.few in
+    let set = set_counted w.counts cost (length w.store.writes) (length store.writes) in
+    record {
+      safe =
+          controller_set w.setup b w.servers w.controllers w.queries c.0 (record n { upkeep = slice_set n.upkeep p.0 new })
+          (safe_grows w.setup a b w.servers w.controllers w.queries s.safe k.grows k.right (drawn_same a b w.servers refl s.safe.drawn))
+          (record {
+            over = on.over;
+            placed = on.placed;
+            partitions = length-set n.upkeep p.0 new ∙ on.partitions;
+            upkeep = at_set (IsUpkeepAt w.setup b) n.upkeep p.0 new k.upkeep on.upkeep;
+          });
+      few =
+          few_after w (after_upkeep w c p n new store cost) cost (subst (HasRoom w) room.0 room.1)
+          (record {
+            setup = refl;
+            events = omega (arith, set.events);
+            written = k.few;
+            sent = omega arith;
+            appended = omega arith;
+            asked = omega arith;
+            started = one_started w c.0 (record n { upkeep = slice_set n.upkeep p.0 new }) f (omega (arith, f.started c.0 n there));
+            unanswered = omega (arith, set.unanswered, f.unanswered, ap (λ (x : Cost). x.queries) room.0);
+            few_unanswered = omega (arith, set.unanswered);
+            uploads = omega (arith, set.uploads);
+            stored = set.stored;
+            moment = omega arith;
+          })
+          f;
+    }
+
+-- the partition is one of the setup
+pub found_within : (w : State) (c : ControllerId) (p : Partition) → find_upkeep w c p ≡ came tt → p.0 < w.setup.partitions
+found_within w c p e =
+    let both = only_passed (has_controller w c && has_partition w p) NoSuchNode _ tt e in
+    ltb-true p.0 w.setup.partitions (and_parts (has_controller w c) (has_partition w p) both.0).1
+
+-- what is under way for the partition
+pub upkeep_there : (w : State) (c : ControllerId) (p : Partition) (n : ControllerNode) (old : Upkeep) → IsSafe w → slice_get w.controllers c.0 ≡ Some n
+    → upkeep_at w c p ≡ Some old → IsUpkeepAt w.setup (past_of w) p.0 old
+upkeep_there w c p n old s there e = (s.controllers c.0 n there).upkeep p.0 old (ap (λ o. upkeep_in o p) (sym there) ∙ e)
+
+-- ---- a repair
+
+begun_over : (setup : Setup) (past : Past) (p : Partition) (o : Option Repairing) → p.0 < setup.partitions → IfSome o (IsRepairOver setup past)
+    → IsRepairOver setup past (begun setup p o)
+begun_over setup past p None within k = repair_begins_over setup past p within
+begun_over setup past p (Some r) within k = k
+
+going_over : (setup : Setup) (past : Past) (r : Repairing) → IsRepairOver setup past r → IfSome (going_on r) (IsRepairOver setup past)
+going_over setup past r k = by_test (is_ended r.stage)
+  where
+    by_test : (b : Bool) → IfSome (cond b None (Some r)) (IsRepairOver setup past)
+    by_test true = tt
+    by_test false = k
+
+unended : (stage : RepairStage) → is_ended stage ≡ false → IsUnendedRepair stage
+unended repair.Listing e = tt
+unended (repair.Reading last follows) e = tt
+unended (repair.Writing last follows ideal) e = tt
+unended repair.Ended e = absurd (true≢false e)
+
+going_unended : (r : Repairing) → IfSome (going_on r) (λ x. IsUnendedRepair x.stage)
+going_unended r = by_test (is_ended r.stage) refl
+  where
+    by_test : (b : Bool) → is_ended r.stage ≡ b → IfSome (cond b None (Some r)) (λ x. IsUnendedRepair x.stage)
+    by_test true e = tt
+    by_test false e = unended r.stage e
+
+repair_room : (w : State) (c : ControllerId) (o : Option Repairing) (cost : Cost) → repair_by w c o ≡ Ok cost → (sets : Option ℕ) × (priced w (set_cost sets) ≡ Ok cost)
+repair_room w c None cost e = (None, (only_passed (believes_at w c) NothingToDo (priced w no_cost) cost e).1)
+repair_room w c (Some r) cost e = (set_entries r w.moment, e)
+
+pub repair_writes : (w : State) (p : Partition) (old new : Upkeep) (store : Told) (did : RepairStep) → IsSafe w → p.0 < w.setup.partitions
+    → IsUpkeepAt w.setup (past_of w) p.0 old → UpkeepRepairs w.setup p w.moment w.store store old new did → UpkeepWrites w new store
+repair_writes w p old new store did s within k (after, steps, is) =
+    let a = past_of w in
+    let r = begun w.setup p old.repair in
+    let over = begun_over w.setup a p old.repair within k.repair in
+    let x : of_repair.Stepped = record { repair = after; step = did } in
+    let left = told_repair w.store store r w.moment x steps in
+    let grown = repair_past w.setup a w.store r w.moment s.setup s.past over in
+    let kept = repair_kept w.setup a w.store r w.moment x s.setup s.past over left.1 in
+    let G : Told → Type 0 = λ u. GrowsRight w.setup a (with_history a u.writes) in
+    let K : Told → Type 0 = λ u. IsRepairOver w.setup (with_history a u.writes) after in
+    let F : Told → Type 0 = λ u. length u.writes ≤ length w.store.writes + 1 in
+    let grows = subst G (sym left.0) grown in
+    record {
+      grows = grows.grows;
+      right = grows.right;
+      few = subst F (sym left.0) (repair_few w.store r w.moment r.stage);
+      upkeep =
+          subst (IsUpkeepAt w.setup (with_history a store.writes) 0) (sym is)
+          (record {
+            repair = going_over w.setup (with_history a store.writes) after (subst K (sym left.0) kept);
+            repair_goes = going_unended after;
+            retirement =
+                if_some (IsRetireOver w.setup a) (IsRetireOver w.setup (with_history a store.writes))
+                (λ t. retire_lasts w.setup a (with_history a store.writes) t grows.grows) old.retirement k.retirement;
+            retirement_goes = k.retirement_goes;
+          });
+    }
+
+pub repair_keeps : (w : State) (c : ControllerId) (p : Partition) (cost : Cost) (x : Next) → IsSafeWorld w → repair_due w c p ≡ Ok cost → Repairs w c p cost x → IsSafeWorld x.0
+repair_keeps w c p cost x s possible h = by_found (slice_get w.controllers c.0) refl (upkeep_at w c p) refl h
+  where
+    by_found : (o : Option ControllerNode) → slice_get w.controllers c.0 ≡ o → (u : Option Upkeep) → upkeep_at w c p ≡ u → RepairsAt o u w c p cost x → IsSafeWorld x.0
+    by_found None there u at h = absurd h
+    by_found (Some n) there None at h = absurd h
+    by_found (Some n) there (Some old) at (new, store, did, steps, is) =
+        let due = then_passed (find_upkeep w c p) (repair_by w c (repair_in (upkeep_at w c p))) cost possible in
+        let room = repair_room w c (repair_in (upkeep_at w c p)) cost due.1 in
+        subst (λ (y : Next). IsSafeWorld y.0) (sym is)
+        (upkeep_put w c p n new store room.0 cost s there room.1
+        (repair_writes w p old new store did s.safe (found_within w c p due.0) (upkeep_there w c p n old s.safe there at) steps))
+
+-- ---- a retirement
+
+retiring_over : (setup : Setup) (past : Past) (p : Partition) (o : Option Retirement) → p.0 < setup.partitions → IfSome o (IsRetireOver setup past)
+    → IsRetireOver setup past (retiring setup p o)
+retiring_over setup past p None within k = retire_begins_over setup past p _ within
+retiring_over setup past p (Some r) within k = k
+
+retiring_on_over : (setup : Setup) (past : Past) (r : Retirement) → IsRetireOver setup past r → IfSome (retiring_on r) (IsRetireOver setup past)
+retiring_on_over setup past r k = by_test (retire_is_ended r.stage)
+  where
+    by_test : (b : Bool) → IfSome (cond b None (Some r)) (IsRetireOver setup past)
+    by_test true = tt
+    by_test false = k
+
+unended_retirement : (stage : RetireStage) → retire_is_ended stage ≡ false → IsUnendedRetirement stage
+unended_retirement retirement.Listing e = tt
+unended_retirement (retirement.Reading lowest) e = tt
+unended_retirement (retirement.Writing lowest ideal) e = tt
+unended_retirement retirement.Ended e = absurd (true≢false e)
+
+retiring_unended : (r : Retirement) → IfSome (retiring_on r) (λ x. IsUnendedRetirement x.stage)
+retiring_unended r = by_test (retire_is_ended r.stage) refl
+  where
+    by_test : (b : Bool) → retire_is_ended r.stage ≡ b → IfSome (cond b None (Some r)) (λ x. IsUnendedRetirement x.stage)
+    by_test true e = tt
+    by_test false e = unended_retirement r.stage e
+
+retain_room : (w : State) (c : ControllerId) (o : Option Retirement) (cost : Cost) → retain_by w c o ≡ Ok cost → (sets : Option ℕ) × (priced w (set_cost sets) ≡ Ok cost)
+retain_room w c None cost e = (None, (only_passed (is_some w.setup.retention && believes_at w c) NothingToDo (priced w no_cost) cost e).1)
+retain_room w c (Some r) cost e = (retire_sets r w.moment, e)
+
+pub retire_writes : (w : State) (p : Partition) (old new : Upkeep) (store : Told) (did : RetireStep) → IsSafe w → p.0 < w.setup.partitions
+    → IsUpkeepAt w.setup (past_of w) p.0 old → UpkeepRetires w.setup p w.store store w.moment old new did → UpkeepWrites w new store
+retire_writes w p old new store did s within k (after, steps, is) =
+    let a = past_of w in
+    let r = retiring w.setup p old.retirement in
+    let over = retiring_over w.setup a p old.retirement within k.retirement in
+    let x : of_retire.Stepped = record { retire = after; step = did } in
+    let left = told_retire w.store store r w.moment x steps in
+    let grown = retire_past w.setup a w.store r w.moment s.setup s.past over in
+    let kept = retire_kept w.setup a w.store r w.moment x s.setup s.past over left.1 in
+    let G : Told → Type 0 = λ u. GrowsRight w.setup a (with_history a u.writes) in
+    let K : Told → Type 0 = λ u. IsRetireOver w.setup (with_history a u.writes) after in
+    let F : Told → Type 0 = λ u. length u.writes ≤ length w.store.writes + 1 in
+    let grows = subst G (sym left.0) grown in
+    record {
+      grows = grows.grows;
+      right = grows.right;
+      few = subst F (sym left.0) (retire_few w.store r w.moment r.stage);
+      upkeep =
+          subst (IsUpkeepAt w.setup (with_history a store.writes) 0) (sym is)
+          (record {
+            repair =
+                if_some (IsRepairOver w.setup a) (IsRepairOver w.setup (with_history a store.writes))
+                (λ t. repair_lasts w.setup a (with_history a store.writes) t grows.grows) old.repair k.repair;
+            repair_goes = k.repair_goes;
+            retirement = retiring_on_over w.setup (with_history a store.writes) after (subst K (sym left.0) kept);
+            retirement_goes = retiring_unended after;
+          });
+    }
+
+pub retain_keeps : (w : State) (c : ControllerId) (p : Partition) (cost : Cost) (x : Next) → IsSafeWorld w → retain_due w c p ≡ Ok cost → Retires w c p cost x → IsSafeWorld x.0
+retain_keeps w c p cost x s possible h = by_found (slice_get w.controllers c.0) refl (upkeep_at w c p) refl h
+  where
+    by_found : (o : Option ControllerNode) → slice_get w.controllers c.0 ≡ o → (u : Option Upkeep) → upkeep_at w c p ≡ u → RetiresAt o u w c p cost x → IsSafeWorld x.0
+    by_found None there u at h = absurd h
+    by_found (Some n) there None at h = absurd h
+    by_found (Some n) there (Some old) at (new, store, did, steps, is) =
+        let due = then_passed (find_upkeep w c p) (retain_by w c (retirement_in (upkeep_at w c p))) cost possible in
+        let room = retain_room w c (retirement_in (upkeep_at w c p)) cost due.1 in
+        subst (λ (y : Next). IsSafeWorld y.0) (sym is)
+        (upkeep_put w c p n new store room.0 cost s there room.1
+        (retire_writes w p old new store did s.safe (found_within w c p due.0) (upkeep_there w c p n old s.safe there at) steps))

@@ -1,0 +1,181 @@
+-- A server that looks at the stream, at a store or at a file, and a replica's own step, keep a world safe.
+use Rattle.std.proofs.Common.{◌≡◌, ℕ, Bool, true, false, slice_get, Option, Some, None, Ok, refl, sym, ap, subst, ◌∙◌}
+use Rattle.std.specs.Prelude.{slice_set}
+use Rattle.rt_base.specs.declared.numbers.Instance.{Instance}
+use Rattle.rt_base.specs.declared.numbers.Partition.{Partition}
+use Rattle.rt_base.specs.declared.numbers.Sequence.{Sequence}
+use Rattle.rt_deep.specs.Memory.{means as deep_means}
+use Rattle.rt_events.specs.declared.outcome.Outcome.{Outcome}
+use Rattle.rt_events.specs.declared.refusal.Refusal.TheVariants.{NoSuchNode, NodeDown, NothingToDo}
+use Rattle.rt_msgs.specs.Numbered.{Numbered}
+use Rattle.rt_past.specs.IsPast.{IsPast}
+use Rattle.rt_past.specs.Past.{Past, with_history}
+use Rattle.rt_past.specs.Requests.{AreDrawn}
+use Rattle.rt_server.specs.Lasting.{IsServerOver}
+use Rattle.rt_server.proofs.LastingCalls.{forces_over, seals_over, sees_keep, stops_over, takes_over}
+use Rattle.rt_server.proofs.LastingDownloads.{downloads_over}
+use Rattle.rt_server.proofs.LastingPuts.{Keeps}
+use Rattle.rt_server.proofs.LastingTransits.{transits_keep}
+use Rattle.rt_store.specs.Meaning.{Told}
+use Rattle.rt_store.specs.Memory.{means}
+use Rattle.rt_stream.specs.Feed.{log_meaning}
+use Rattle.rt_stream.specs.Log.{Log}
+use Rattle.rt_world.specs.Applying.{Next}
+use Rattle.rt_world.specs.Finding.{find_server, has_server, is_server_up, is_up}
+use Rattle.rt_world.specs.IsSafe.{IsSafeOver, past_of}
+use Rattle.rt_world.specs.IsSafeWorld.{IsFewOver, IsSafeWorld}
+use Rattle.rt_world.specs.Nodes.{ServerFetches, ServerFetchesAt, ServerStep}
+use Rattle.rt_world.specs.Replicas.{Builds, Consumes, Forces, NodeBuilds, NodeConsumes, NodeForces, NodeStops, Stops, build_due, builds_now, consume_due, force_due, forces_now, stop_due, stops_now, takes_now}
+use Rattle.rt_world.specs.Room.{no_cost, only_if, priced, spent}
+use Rattle.rt_world.specs.Servers.{Loads, Moves, NodeLoads, NodeMoves, NodeSees, Sees, download_due, moves_at, see_due, transit_due, wants_at}
+use Rattle.rt_world.specs.declared.cost.Cost.{Cost}
+use Rattle.rt_world.specs.declared.server_node.ServerNode.{ServerNode}
+use Rattle.rt_world.specs.declared.state.State.{State}
+use Rattle.rt_world.proofs.Does.{IsServerOf, ServerWrites, server_calls_keeps, server_does_keeps, server_gets_keeps, server_of}
+use Rattle.rt_world.proofs.Dues.{replica_due_is, server_there}
+use Rattle.rt_world.proofs.KeepsClock.{free_keeps}
+use Rattle.rt_world.proofs.Quiet.{downloads_quiet, sees_quiet, takes_quiet, transits_quiet}
+use Rattle.rt_world.proofs.Possible.{only_passed, then_passed}
+use Rattle.rt_world.proofs.Sets.{server_set}
+use Rattle.rt_world.proofs.Stores.{writes_same}
+use Rattle.rt_world.proofs.Topics.{server_at_grows}
+
+-- ---- the server that took the step
+
+pub not_down : (b c : Bool) → c ≡ b → b ≡ true → c ≡ false → ⊥
+not_down b c same up down = cc
+
+-- it stands at its place as before, with its own numbers
+pub stays_at : (w : State) (a : Past) (i : ℕ) (old new : ServerNode) → IsServerOf w a i old → old.up ≡ true → new.up ≡ old.up
+    → new.server.numbers ≡ old.server.numbers → IsServerOver w.setup a new.server → IsServerOf w a i new
+stays_at w a i old new k up stays numbers over =
+    record {
+      at =
+          record {
+            over = over;
+            placed = ap (λ (n : Numbered). n.instance.0) numbers ∙ k.at.placed;
+            down = λ e. absurd (not_down old.up new.up stays up e);
+          };
+      drawn = subst (λ (n : Numbered). AreDrawn a.sent n) (sym numbers) k.drawn;
+    }
+
+pub up_there : (w : State) (i : Instance) (n : ServerNode) → is_server_up w i ≡ true → slice_get w.servers i.0 ≡ Some n → n.up ≡ true
+up_there w i n up found = subst (λ o. is_up o ≡ true) found up
+
+-- ---- with a look at the stream
+
+server_fetches_keeps : (w : State) (i : Instance) (does : Log → Log → ServerStep) (cost : Cost) (x : Next) → IsSafeWorld w → priced w no_cost ≡ Ok cost
+    → ((old new : ServerNode) (log : Log) (o : Outcome) → slice_get w.servers i.0 ≡ Some old → IsServerOf w (past_of w) i.0 old → does w.log log old new o
+    → (log ≡ w.log) × IsServerOf w (past_of w) i.0 new)
+    → ServerFetches w i does cost x → IsSafeWorld x.0
+server_fetches_keeps w i does cost x s possible keeps h = by_node (slice_get w.servers i.0) refl h
+  where
+    by_node : (n : Option ServerNode) → slice_get w.servers i.0 ≡ n → ServerFetchesAt n w i does cost x → IsSafeWorld x.0
+    by_node None e h = absurd h
+    by_node (Some old) e (new, log, step, is) =
+        let a = past_of w in
+        let k = keeps old new log x.1 e (server_of w i.0 old s e) step in
+        let same : record a { log = log } ≡ a = ap (λ log. record a { log = log }) k.0 in
+        let safe = server_set w.setup a w.servers w.controllers w.queries i.0 new s.safe k.1.at k.1.drawn in
+        subst IsSafeWorld (sym is)
+        (record {
+          safe = subst (λ b. IsSafeOver w.setup b (slice_set w.servers i.0 new) w.controllers w.queries) (sym same) safe;
+          few = subst (λ b. IsFewOver w.setup b w.controllers w.queries (spent w.counts cost) w.moment) (sym same) (free_keeps w cost s possible);
+        })
+
+-- ---- replicas
+
+module _ (w : State) (i : Instance) (p : Partition) (q : Sequence) (cost : Cost) (x : Next) (s : IsSafeWorld w) where
+  pub consume_keeps : (max : ℕ) → consume_due w i p q max ≡ Ok cost → Consumes w i p q max cost x → IsSafeWorld x.0
+  consume_keeps max due h =
+      let d = replica_due_is w i p q (takes_now max) cost due in
+      server_fetches_keeps w i (NodeConsumes p q max w.moment) cost x s d.priced
+      (λ old new log o e k step.
+      let same = takes_quiet w.log log old.server.table new.server.table p q max w.moment (Ok tt) step.0 in (
+        same,
+        stays_at w (past_of w) i.0 old new k (up_there w i old d.there.up e) step.2 step.1.1
+            (takes_over w.setup (past_of w) old.server new.server p q step.1 k.at.over (log_meaning w.log) (log_meaning log) max w.moment (Ok tt) (sym same) step.0),
+      ))
+      h
+
+  pub force_keeps : force_due w i p q ≡ Ok cost → Forces w i p q cost x → IsSafeWorld x.0
+  force_keeps due h =
+      let d = replica_due_is w i p q forces_now cost due in
+      server_does_keeps w i (NodeForces p q) cost x s d.priced
+      (λ old new o e k step.
+      stays_at w (past_of w) i.0 old new k (up_there w i old d.there.up e) step.2 step.1.1
+      (forces_over w.setup (past_of w) old.server new.server p q step.1 k.at.over (Ok tt) step.0))
+      h
+
+  pub stop_keeps : stop_due w i p q ≡ Ok cost → Stops w i p q cost x → IsSafeWorld x.0
+  stop_keeps due h =
+      let d = replica_due_is w i p q stops_now cost due in
+      server_does_keeps w i (NodeStops p q) cost x s d.priced
+      (λ old new o e k step.
+      stays_at w (past_of w) i.0 old new k (up_there w i old d.there.up e) step.2 step.1.1
+      (stops_over w.setup (past_of w) old.server new.server p q step.1 k.at.over (Ok tt) step.0))
+      h
+
+  pub build_keeps : build_due w i p q ≡ Ok cost → Builds w i p q cost x → IsSafeWorld x.0
+  build_keeps due h =
+      let d = replica_due_is w i p q builds_now cost due in
+      server_does_keeps w i (NodeBuilds p q) cost x s d.priced
+      (λ old new o e k step.
+      stays_at w (past_of w) i.0 old new k (up_there w i old d.there.up e) step.2 step.1.1
+      (seals_over w.setup (past_of w) old.server new.server p q step.1 k.at.over (Ok tt) step.0))
+      h
+
+-- ---- servers
+
+-- what a look at the store leaves
+looks_on : (w : State) (i : ℕ) (old new : ServerNode) (store : Told) → IsSafeWorld w → store.writes ≡ w.store.writes → IsServerOf w (past_of w) i old
+    → old.up ≡ true → new.up ≡ old.up
+    → (IsServerOver w.setup (with_history (past_of w) store.writes) old.server → IsPast w.setup (with_history (past_of w) store.writes)
+    → Keeps w.setup (with_history (past_of w) store.writes) old.server new.server)
+    → ServerWrites w i new store
+looks_on w i old new store s same k up stays keeps =
+    let a = past_of w in
+    let b = with_history a store.writes in
+    let past = writes_same w.setup a store.writes s.safe.past same in
+    let at = server_at_grows w.setup a b past.grows i old k.at in
+    let kept = keeps at.over past.right in
+    record {
+      past = past;
+      server = stays_at w b i old new (record { at = at; drawn = k.drawn }) up stays kept.1 kept.0;
+    }
+
+module _ (w : State) (i : Instance) (cost : Cost) (x : Next) (s : IsSafeWorld w) where
+  pub see_keeps : see_due w i ≡ Ok cost → Sees w i cost x → IsSafeWorld x.0
+  see_keeps due h =
+      let there = only_passed (has_server w i) NoSuchNode (only_if (is_server_up w i) NodeDown (priced w no_cost)) cost due in
+      let up = only_passed (is_server_up w i) NodeDown (priced w no_cost) cost there.1 in
+      server_calls_keeps w i NodeSees cost x s up.1
+      (λ old new store o e k step.
+      looks_on w i.0 old new store s (sees_quiet w.store store old.server new.server step.0 step.1) k (up_there w i old up.0 e) step.3
+      (λ over right. sees_keep w.setup (with_history (past_of w) store.writes) (means w.store) (means store) old.server new.server step.0 refl over step.1))
+      h
+
+  pub transit_keeps : (p : Partition) (q : Sequence) → transit_due w i p q ≡ Ok cost → Moves w i p q cost x → IsSafeWorld x.0
+  transit_keeps p q due h =
+      let there = then_passed (find_server w i p) (only_if (moves_at w i p q) NothingToDo (priced w no_cost)) cost due in
+      let moves = only_passed (moves_at w i p q) NothingToDo (priced w no_cost) cost there.1 in
+      server_calls_keeps w i (NodeMoves p q w.moment) cost x s moves.1
+      (λ old new store o e k step.
+      looks_on w i.0 old new store s (transits_quiet old.server new.server p q w.moment step.0 w.store store step.1) k
+      (up_there w i old (server_there w i p there.0).up e) step.3
+      (λ over right.
+      transits_keep w.setup (with_history (past_of w) store.writes) (means w.store) (means store) old.server new.server p q w.moment step.0 refl right over step.1))
+      h
+
+  pub download_keeps : (p : Partition) (q : Sequence) → download_due w i p q ≡ Ok cost → Loads w i p q cost x → IsSafeWorld x.0
+  download_keeps p q due h =
+      let there = then_passed (find_server w i p) (only_if (wants_at w i p q) NothingToDo (priced w no_cost)) cost due in
+      let wants = only_passed (wants_at w i p q) NothingToDo (priced w no_cost) cost there.1 in
+      server_gets_keeps w i (NodeLoads p q) cost x s wants.1
+      (λ old new deep o e k step.
+      let same = downloads_quiet w.deep deep old.server.setup.schema p q step.0 old.server.table new.server.table step.1 in (
+        same,
+        stays_at w (past_of w) i.0 old new k (up_there w i old (server_there w i p there.0).up e) step.4 step.2.1
+            (downloads_over w.setup (past_of w) (deep_means w.deep) (deep_means deep) old.server new.server p q (sym same) s.safe.past k.at.over step.0 step.1 step.2),
+      ))
+      h
