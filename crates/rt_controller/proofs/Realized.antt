@@ -22,62 +22,12 @@ use Rattle.rt_store.specs.Answers.{reading, answer_of, after_call}
 use Rattle.rt_store.specs.Calls.{Calls, GoesBy, answer_on, told_on}
 use Rattle.rt_store.specs.Meaning.{Told}
 use Rattle.rt_store.specs.Memory.{means}
+use Rattle.rt_store.proofs.Realized.{calls_told, counted}
 use Rattle.rt_controller.specs.Calls as calls
 use Rattle.rt_controller.specs.Calls.{Call, calls_nothing, puts, gets, reads, sets, creates, Answer, put, got, read, created, Makes}
 use Rattle.rt_controller.specs.Controller.{Controlling, Handling, Working, handle_call, handle, turn_of, work_call, work, job_place}
 use Rattle.rt_controller.specs.Told.{ToldDeep, store_after, deep_after, answer_to, handled_on, worked_on}
 use Rattle.rt_controller.proofs.Telling.{RunsOut, out_turn, out_place}
-
-counted : (p : Planned) (f : Fault) → Counts p.met (met_by f p).met f
-counted p fault.Nothing = omega arith
-counted p fault.Lost = omega arith
-counted p fault.Kept = omega arith
-
--- ---- the store
-
--- the answer wasn't want of memory
-abbrev IsNamed : {X : Type 0} → Result X StoreRefused → Type 0
-IsNamed (Ok x) = Unit {0}
-IsNamed (Err NoNode) = Unit {0}
-IsNamed (Err (Exists found)) = Unit {0}
-IsNamed (Err (VersionChanged expected found)) = Unit {0}
-IsNamed (Err Failed) = Unit {0}
-IsNamed (Err Memory) = ⊥
-
-named : {X Y : Type 0} (tell : Result X StoreRefused → Option Y) (answer : Result X StoreRefused) (y : Y) → tell (Err Memory) ≡ None
-    → tell answer ≡ Some y → IsNamed answer
-named tell (Ok x) y none e = tt
-named tell (Err NoNode) y none e = tt
-named tell (Err (Exists found)) y none e = tt
-named tell (Err (VersionChanged expected found)) y none e = tt
-named tell (Err Failed) y none e = tt
-named tell (Err Memory) y none e = absurd (none-some y (sym none ∙ e))
-
-goes_told : {X : Type 0} (t : Told) (answer : List Seen → Result X StoreRefused) (after : List Seen → List Seen) (result : Result X StoreRefused)
-    → result ≡ answer_on t answer → IsNamed result
-    → GoesBy (means t) (means (told_on t after)) (fault_of t.faults.plan) t.writes (after t.writes) (answer t.writes) result
-goes_told t answer after (Ok x) e n =
-    record { meets = (refl, refl); counts = counted t.faults (fault_of t.faults.plan); answered = e; seen = refl }
-goes_told t answer after (Err NoNode) e n =
-    record { meets = (refl, refl); counts = counted t.faults (fault_of t.faults.plan); answered = e; seen = refl }
-goes_told t answer after (Err (Exists found)) e n =
-    record { meets = (refl, refl); counts = counted t.faults (fault_of t.faults.plan); answered = e; seen = refl }
-goes_told t answer after (Err (VersionChanged expected found)) e n =
-    record { meets = (refl, refl); counts = counted t.faults (fault_of t.faults.plan); answered = e; seen = refl }
-goes_told t answer after (Err Failed) e n =
-    record { meets = (refl, refl); counts = counted t.faults (fault_of t.faults.plan); answered = e; seen = refl }
-goes_told t answer after (Err Memory) e n = absurd n
-
-calls_told : {X Y : Type 0} (t : Told) (answer : List Seen → Result X StoreRefused) (after : List Seen → List Seen)
-    (tell : Result X StoreRefused → Option Y) (y : Y) → tell (Err Memory) ≡ None → tell (answer_on t answer) ≡ Some y
-    → Calls (means t) (means (told_on t after)) answer after (answer_on t answer)
-calls_told t answer after tell y none e =
-    record {
-      fault = fault_of t.faults.plan;
-      base = t.writes;
-      sees = record { grows = front_same t.writes; all = refl; lawful = λ s l. l };
-      goes = goes_told t answer after (answer_on t answer) refl (named tell (answer_on t answer) y none e);
-    }
 
 -- ---- the deep store
 

@@ -6,7 +6,6 @@ pub mod Condition
 pub mod Entries
 pub mod Falls
 pub mod Finished
-pub mod FirstCluster
 pub mod History
 pub mod Ideal
 pub mod Lawful

@@ -1,6 +1,6 @@
 use crate::{
     Commit, IdealEntry, IdealState, Listed, Node, Reply, ReplyStatus, Request, RequestKind, Seen,
-    SeenMeta, SegMeta, Sent, Status,
+    SeenMeta, SegMeta, Sent, Setup, Status,
 };
 use rt_lists::Copied;
 use std::alloc::{AllocError, Global};
@@ -155,5 +155,21 @@ impl Copied for Sent {
             Sent::Request(request) => Ok(Sent::Request(request.copied(alloc)?)),
             Sent::Reply(reply) => Ok(Sent::Reply(reply.copied(alloc)?)),
         }
+    }
+}
+
+impl Copied for Setup {
+    fn copied(&self, alloc: Global) -> Result<Self, AllocError> {
+        Ok(Setup {
+            schema: self.schema.copied(alloc)?,
+            table: self.table.copied(alloc)?,
+            servers: self.servers,
+            controllers: self.controllers,
+            partitions: self.partitions,
+            start: self.start,
+            grace: self.grace,
+            retention: self.retention,
+            format: self.format,
+        })
     }
 }

@@ -14,7 +14,7 @@ use Rattle.rt_model.specs.Starting.{starting_contents}
 use Rattle.rt_deep.specs.declared.deep_put.DeepPut.{DeepPut}
 use Rattle.rt_deep.specs.Files.{AreOnce}
 use Rattle.rt_store.specs.Contents.{starting_of}
-use Rattle.rt_past.specs.Past.{Past}
+use Rattle.rt_past.specs.Past.{Past, Grows}
 use Rattle.rt_past.specs.Files.{IsRightFile}
 use Rattle.rt_past.specs.Replies.{IsReply}
 use Rattle.rt_past.specs.Requests.{AreUnique, IsRequest}
@@ -41,6 +41,11 @@ pub record IsPast (setup : Setup) (past : Past) : Type 0 where
   pub requests : (q : Request) → Has past.sent (sent.Request q) → IsRequest setup past q
   pub replies : (r : Reply) → Has past.sent (sent.Reply r) → IsReply past r
   pub unique : AreUnique past.sent
+
+-- a past has grown to a right one
+pub record GrowsRight (setup : Setup) (old new : Past) : Type 0 where
+  pub grows : Grows old new
+  pub right : IsPast setup new
 
 -- a fresh cluster's: the starting contents of the store, and nothing else
 abbrev pub fresh_past : Setup → Past

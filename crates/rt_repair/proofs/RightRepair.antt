@@ -32,7 +32,7 @@ use Rattle.rt_store.specs.Contents.{starting_of}
 use Rattle.rt_store.specs.Meaning.{Told, Meaning}
 use Rattle.rt_store.specs.Memory.{means}
 use Rattle.rt_store.proofs.Told.{leaves_on, read_same}
-use Rattle.rt_past.specs.IsPast.{IsPast}
+use Rattle.rt_past.specs.IsPast.{IsPast, GrowsRight}
 use Rattle.rt_past.specs.Past.{Past, with_history}
 use Rattle.rt_past.specs.Writes.{AreRightEntries, IsRightNode, IsRightWrite}
 use Rattle.rt_past.proofs.Entries.{commit_right, add_right}
@@ -43,7 +43,7 @@ use Rattle.rt_repair.specs.declared.repair.RepairStage.{RepairStage}
 use Rattle.rt_repair.specs.declared.repair.RepairStage.TheVariants.{Listing, Reading, Writing, Ended}
 use Rattle.rt_repair.specs.declared.repair_step.RepairStep.{RepairStep}
 use Rattle.rt_repair.specs.IsRepair.{HasListed, HasIdeal, Remembers, IsRepair}
-use Rattle.rt_repair.specs.Lasting.{IsRepairOver, GrowsRight, told_past}
+use Rattle.rt_repair.specs.Lasting.{IsRepairOver, told_past}
 use Rattle.rt_repair.specs.ReadNode.{read_node, read_by, last_node, last_follows}
 use Rattle.rt_repair.specs.Repairing.{Repairing, goes, decision_at, create_write, abandon_write, ideal_write, added_entries}
 use Rattle.rt_repair.specs.RepairSteps.{Stepped, after_list, after_read, with_ideal, abandoned, ideal_set, StepsAt, MaySet, MayDo, MayWriteAt}

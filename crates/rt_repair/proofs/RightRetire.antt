@@ -14,7 +14,7 @@ use Rattle.rt_store.specs.declared.refused.StoreRefused.TheVariants as refused
 use Rattle.rt_store.specs.Contents.{starting_of}
 use Rattle.rt_store.specs.Meaning.{Told, Meaning}
 use Rattle.rt_store.specs.Memory.{means}
-use Rattle.rt_past.specs.IsPast.{IsPast}
+use Rattle.rt_past.specs.IsPast.{IsPast, GrowsRight}
 use Rattle.rt_past.specs.Past.{Past}
 use Rattle.rt_past.proofs.Entries.{remove_right}
 use Rattle.rt_repair.specs.declared.read_node.ReadNode.{ReadNode}
@@ -25,7 +25,7 @@ use Rattle.rt_repair.specs.declared.retiring.Retiring.{Retiring}
 use Rattle.rt_repair.specs.declared.retiring.Retiring.TheVariants as retiring
 use Rattle.rt_repair.specs.IsRepair.{HasIdeal}
 use Rattle.rt_repair.specs.IsRetire.{Remembers, IsRetire}
-use Rattle.rt_repair.specs.Lasting.{IsRetireOver, GrowsRight, told_past}
+use Rattle.rt_repair.specs.Lasting.{IsRetireOver, told_past}
 use Rattle.rt_repair.specs.ReadNode.{lowest_node}
 use Rattle.rt_repair.specs.RepairSteps.{MaySet}
 use Rattle.rt_repair.specs.Retirement.{Retirement, goes, retiring_at, remove_write, delete_write}

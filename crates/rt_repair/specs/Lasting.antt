@@ -4,8 +4,7 @@ use Rattle.rt_model.specs.declared.setup.Setup.{Setup}
 use Rattle.rt_assign.specs.Placement.{replicas_of}
 use Rattle.rt_store.specs.Contents.{starting_of}
 use Rattle.rt_store.specs.Meaning.{Told}
-use Rattle.rt_past.specs.IsPast.{IsPast}
-use Rattle.rt_past.specs.Past.{Past, Grows, with_history}
+use Rattle.rt_past.specs.Past.{Past, with_history}
 use Rattle.rt_repair.specs.IsRepair as repairs
 use Rattle.rt_repair.specs.IsRetire as retires
 use Rattle.rt_repair.specs.Repairing.{Repairing}
@@ -27,8 +26,3 @@ pub record IsRetireOver (setup : Setup) (past : Past) (r : Retirement) : Type 0 
 -- what was written is now all that a store tells
 abbrev pub told_past : Past → Told → Past
 told_past past t = with_history past t.writes
-
--- a past has grown to a right one
-pub record GrowsRight (setup : Setup) (old new : Past) : Type 0 where
-  pub grows : Grows old new
-  pub right : IsPast setup new

@@ -3,7 +3,7 @@ ghost use Rattle.rt_replica.specs.Consumer.{settings_of};
 
 use rt_lists::{Copied, Items, Text};
 use rt_model::Setup;
-use rt_schema::{Column, Schema};
+use rt_schema::Schema;
 use std::alloc::{AllocError, Global};
 
 /// What a replica needs of its cluster's setup.
@@ -26,40 +26,11 @@ impl Settings {
         ensures { IfOk result (λ settings. settings ≡ settings_of setup.now) }
     {
         Ok(Settings {
-            schema: copy_schema(alloc, &setup.schema)?,
+            schema: setup.schema.copied(alloc)?,
             indexed: setup.table.indexed.copied(alloc)?,
             rows: setup.table.rows,
             millis: setup.table.millis,
             format: setup.format,
         })
     }
-}
-
-fn copy_schema(alloc: Global, schema: &Schema) -> Result<Schema, AllocError>
-    ensures { IfOk result (λ copy. copy ≡ schema.now) }
-{
-    Ok(Schema {
-        name: schema.name.copy(alloc)?,
-        columns: copy_columns(alloc, schema.columns.as_slice())?,
-    })
-}
-
-fn copy_columns(alloc: Global, columns: &[Column]) -> Result<Items<Column>, AllocError>
-    ensures { IfOk result (λ copies. copies ≡ columns.now) }
-{
-    let mut copies = Items::new(alloc);
-    for column in columns {
-        copies.push(copy_column(alloc, column)?)?;
-    }
-    Ok(copies)
-}
-
-fn copy_column(alloc: Global, column: &Column) -> Result<Column, AllocError>
-    ensures { IfOk result (λ copy. copy ≡ column.now) }
-{
-    Ok(Column {
-        name: column.name.copy(alloc)?,
-        kind: column.kind,
-        role: column.role,
-    })
 }

@@ -2,6 +2,7 @@
 #![tactic(auto)]
 
 mod column;
+mod copied;
 mod field;
 mod field_reader;
 mod index_config;

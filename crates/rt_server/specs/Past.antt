@@ -3,11 +3,10 @@ use Rattle.std.specs.Prelude.{◌≡◌, ◌<◌, Option, Some, None}
 use Rattle.rt_base.specs.declared.numbers.Offset.{Offset}
 use Rattle.rt_base.specs.declared.numbers.Partition.{Partition}
 use Rattle.rt_base.specs.declared.numbers.Sequence.{Sequence}
-use Rattle.rt_model.specs.declared.node.Node.{Node}
 use Rattle.rt_model.specs.declared.seg_meta.SeenMeta.{SeenMeta}
-use Rattle.rt_model.specs.Chain.{start_by}
 use Rattle.rt_model.specs.Lawful.{IsLawfulHistory}
-use Rattle.rt_model.specs.Metadata.{HasNode, IsOpen}
+use Rattle.rt_model.specs.Metadata.{HasNode}
+use Rattle.rt_past.specs.Segments.{OpensAt}
 use Rattle.rt_store.specs.Contents.{starting_of}
 use Rattle.rt_store.specs.Meaning.{Meaning}
 use Rattle.rt_replica.specs.declared.consumer.Consumer.{Consumer}
@@ -17,10 +16,6 @@ use Rattle.rt_server.specs.Table.{Segments, ServerState, replica_of}
 -- the store's history begins with the cluster's starting contents, and is lawful
 abbrev pub HasHistory : ServerState → Meaning → Type 0
 HasHistory s m = IsLawfulHistory (starting_of s.setup) m.seen
-
--- a node in progress from this offset
-abbrev pub OpensAt : Offset → Node → Type 0
-OpensAt start n = IsOpen n × (start_by n ≡ start.0)
 
 -- the segment's replica, where there is one, starts where its node was created
 abbrev pub StartsWithItsNode : ServerState → Meaning → Partition → Sequence → Type 0

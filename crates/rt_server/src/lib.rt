@@ -3,7 +3,6 @@
 //! serves the pieces of a query's plan.
 #![tactic(auto)]
 
-mod copied;
 mod downloads;
 mod lasting;
 mod lasting_told;

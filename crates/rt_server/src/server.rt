@@ -8,7 +8,6 @@ ghost use Rattle.rt_server.specs.Past.{HasHistory, StartsWithItsNode};
 ghost use Rattle.rt_server.specs.Table.{entry_of, file_at, replica_of, wants_at};
 ghost use Rattle.rt_server.specs.Transition.{transit_due};
 
-use crate::copied::copy_setup;
 use crate::table::Table;
 use rt_base::{Instance, Moment, Partition, Sequence};
 use rt_deep::DeepStore;
@@ -52,7 +51,7 @@ impl Server {
         ensures { IfOk result (λ server. server ≡ fresh setup.now instance) }
     {
         let table = Table::first(alloc, setup, instance)?;
-        let setup = copy_setup(alloc, setup)?;
+        let setup = setup.copied(alloc)?;
         Ok(Server {
             setup,
             numbers: Numbers::make(instance, 0),

@@ -12,7 +12,7 @@ use Rattle.rt_model.specs.declared.decision.Decision.TheVariants as decision
 use Rattle.rt_model.specs.declared.node.Seen.{Seen}
 use Rattle.rt_model.specs.declared.setup.Setup.{Setup}
 use Rattle.rt_model.specs.Lawful.{Write}
-use Rattle.rt_past.specs.IsPast.{IsPast}
+use Rattle.rt_past.specs.IsPast.{IsPast, GrowsRight}
 use Rattle.rt_past.specs.Past.{Past, Grows, with_history}
 use Rattle.rt_repair.specs.declared.read_node.ReadNode.{ReadNode}
 use Rattle.rt_repair.specs.declared.repair.RepairStage.{RepairStage}
@@ -23,7 +23,7 @@ use Rattle.rt_repair.specs.declared.retirement.RetireStage.TheVariants as retire
 use Rattle.rt_repair.specs.declared.retiring.RetireStep.{RetireStep}
 use Rattle.rt_repair.specs.declared.retiring.Retiring.{Retiring}
 use Rattle.rt_repair.specs.declared.retiring.Retiring.TheVariants as decided
-use Rattle.rt_repair.specs.Lasting.{IsRepairOver, IsRetireOver, GrowsRight}
+use Rattle.rt_repair.specs.Lasting.{IsRepairOver, IsRetireOver}
 use Rattle.rt_repair.specs.RepairSteps as of_repair
 use Rattle.rt_repair.specs.RetireSteps as of_retire
 use Rattle.rt_repair.specs.Repairing.{Repairing, is_ended, IsUnended as IsUnendedRepair, decision_at, create_write, ideal_write, abandon_write, set_entries}
