@@ -12,6 +12,7 @@ use crate::table::Table;
 use rt_base::{Instance, Moment, Partition, Sequence};
 use rt_deep::DeepStore;
 use rt_entry::{ServerRefused, metadata_in};
+use rt_lists::Copied;
 use rt_model::{IdealEntry, Key, Node, ReplicaState, Seen, Setup};
 use rt_msgs::Numbers;
 use rt_replica::Replica;
