@@ -1,6 +1,6 @@
 //! Words of answers to a replica.
 ghost use Rattle.std.specs.Prelude.{◌≡◌, Some};
-ghost use Rattle.rt_replica.specs.Consumer.{end_of};
+ghost use Rattle.rt_consumer.specs.Consumer.{end_of};
 
 use rt_base::{Moment, Offset};
 use rt_call_words::{Stop, Words};

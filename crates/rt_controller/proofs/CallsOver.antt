@@ -1,39 +1,34 @@
 -- The calls of a controller, as their clauses say them over told stores, over a past.
-use Rattle.std.proofs.Common.{◌≡◌, inl, inr, ℕ, ◌+◌, ◌<◌, ◌≤◌, ◌^◌, List, [], ◌∷◌, length, Option, Some, None, Ok, refl, sym, ◌∙◌, ap, subst, arith}
+use Rattle.std.proofs.Common.{◌≡◌, ℕ, ◌<◌, ◌^◌, List, length, Option, Some, None, Ok, refl, sym, ◌∙◌, ap, subst, arith}
 use Rattle.std.specs.Prelude.{slice_get}
-use Rattle.std.proofs.lemmas.List.{length-append}
 use Rattle.rt_base.specs.declared.numbers.Moment.{Moment}
 use Rattle.rt_lists.specs.Members.{Has}
-use Rattle.rt_model.specs.declared.asked.Asked.{Asked}
 use Rattle.rt_model.specs.declared.job_step.JobStep.{JobStep}
 use Rattle.rt_model.specs.declared.node.Seen.{Seen}
 use Rattle.rt_model.specs.declared.request.Request.{Request}
 use Rattle.rt_model.specs.declared.sent.Sent.TheVariants as sent
 use Rattle.rt_model.specs.declared.setup.Setup.{Setup}
-use Rattle.rt_model.specs.Lawful.{Write, set, create_after, written_by}
 use Rattle.rt_model.specs.Setup.{IsSetup}
 use Rattle.rt_deep.specs.declared.deep_put.DeepPut.{DeepPut}
 use Rattle.rt_deep.specs.Memory as deep
-use Rattle.rt_deep.proofs.Told as deep_told
-use Rattle.rt_store.specs.Answers.{Leaves, after_call}
-use Rattle.rt_store.specs.Calls.{told_on}
 use Rattle.rt_store.specs.Meaning.{Told}
 use Rattle.rt_store.specs.Memory.{means}
-use Rattle.rt_store.proofs.Told.{leaves_on, read_same}
 use Rattle.rt_past.specs.IsPast.{IsPast}
 use Rattle.rt_past.specs.Past.{Past, Grows, with_files, with_history}
+use Rattle.rt_commit.specs.declared.job.Job.{Job}
+use Rattle.rt_commit.specs.declared.job.JobStage.TheVariants as stage
+use Rattle.rt_commit.specs.Job.{commits}
+use Rattle.rt_commit.specs.Right.{EndsSo, MetFault, past_after, told_past}
+use Rattle.rt_commit.specs.Told.{ToldDeep, deep_after, store_after}
+use Rattle.rt_commit.proofs.Leaving.{IsRead, read_writes, IsKept, kept_files, stage_keeps, few_writes}
 use Rattle.rt_controller.specs.declared.handled.Handled.{Handled}
-use Rattle.rt_controller.specs.declared.job.Job.{Job}
-use Rattle.rt_controller.specs.declared.job.JobStage.{JobStage}
-use Rattle.rt_controller.specs.declared.job.JobStage.TheVariants as stage
-use Rattle.rt_controller.specs.Assignment.{Assigned}
-use Rattle.rt_controller.specs.Calls.{Call, calls_nothing, puts, gets, reads, sets, creates}
-use Rattle.rt_controller.specs.Controller.{Controlling, Handling, Turn, not_leading, uploads, not_assigned, past_last, has_machine, has_none, Working, call_of, handle_call, job_place, turn_of, work_call, work_call_at, work_call_on}
-use Rattle.rt_controller.specs.Job.{call_at, commits}
+use Rattle.rt_controller.specs.Answers.{Handling}
+use Rattle.rt_controller.specs.Controller.{Controlling}
 use Rattle.rt_controller.specs.Lasting.{IsControllerOver}
-use Rattle.rt_controller.specs.Right.{EndsSo, HandlesOver, IsHandled, IsReplied, MetFault, WorksOver, job_at, past_after, told_past}
+use Rattle.rt_controller.specs.Requests.{Turn, not_leading, uploads, not_assigned, past_last, has_machine, has_none, call_of, handle_call, turn_of}
+use Rattle.rt_controller.specs.Right.{HandlesOver, IsHandled, IsReplied, WorksOver, job_at}
 use Rattle.rt_controller.specs.Steps.{Handles, Works}
-use Rattle.rt_controller.specs.Told.{ToldDeep, deep_after, store_after}
+use Rattle.rt_controller.specs.Working.{Working, job_place, work_call, work_call_at, work_call_on}
 use Rattle.rt_controller.proofs.OverRequests.{request_answered, request_id, request_kept, request_past, request_stays}
 use Rattle.rt_controller.proofs.OverSteps.{work_found, work_kept, work_past, work_replied, work_stays}
 use Rattle.rt_controller.proofs.Possible.{request_possible}
@@ -50,22 +45,6 @@ same_past past h files e f =
 
 -- ---- what a call leaves
 
-abbrev IsRead : Call → Type 0
-IsRead calls_nothing = Unit {0}
-IsRead (puts path bytes) = Unit {0}
-IsRead (gets path) = Unit {0}
-IsRead (reads k) = Unit {0}
-IsRead (sets from n) = ⊥
-IsRead (creates k n prior) = ⊥
-
-read_writes : (t : Told) (call : Call) → IsRead call → (store_after t call).writes ≡ t.writes
-read_writes t calls_nothing r = refl
-read_writes t (puts path bytes) r = refl
-read_writes t (gets path) r = refl
-read_writes t (reads k) r = read_same t
-read_writes t (sets from n) r = absurd r
-read_writes t (creates k n prior) r = absurd r
-
 request_reads : (r : Request) (turn : Turn) → IsRead (call_of r turn)
 request_reads r not_leading = tt
 request_reads r (uploads path bytes) = tt
@@ -74,30 +53,6 @@ request_reads r past_last = tt
 request_reads r (has_machine place what) = tt
 request_reads r (has_none what) = tt
 
-abbrev IsKept : Call → Type 0
-IsKept calls_nothing = Unit {0}
-IsKept (puts path bytes) = ⊥
-IsKept (gets path) = Unit {0}
-IsKept (reads k) = Unit {0}
-IsKept (sets from n) = Unit {0}
-IsKept (creates k n prior) = Unit {0}
-
-kept_files : (d : ToldDeep) (call : Call) → IsKept call → (deep_after d call).files ≡ d.files
-kept_files d calls_nothing k = refl
-kept_files d (puts path bytes) k = absurd k
-kept_files d (gets path) k = deep_told.get_same d
-kept_files d (reads j) k = refl
-kept_files d (sets from n) k = refl
-kept_files d (creates j n prior) k = refl
-
-stage_keeps : (a : Assigned) (q : Asked) (now : Moment) (s : JobStage) → IsKept (call_at a q now s)
-stage_keeps a q now (stage.Check from end path) = tt
-stage_keeps a q now (stage.Done from commit) = tt
-stage_keeps a q now (stage.Next done) = tt
-stage_keeps a q now (stage.IdealRead w found) = tt
-stage_keeps a q now (stage.IdealSet w found ideal) = tt
-stage_keeps a q now stage.Ended = tt
-
 slot_keeps : (c : Controlling) (now : Moment) (o : Option Job) → IsKept (work_call_at c now o)
 slot_keeps c now None = tt
 slot_keeps c now (Some j) = stage_keeps c.assigned j.asked now j.stage
@@ -105,23 +60,6 @@ slot_keeps c now (Some j) = stage_keeps c.assigned j.asked now j.stage
 place_keeps : (c : Controlling) (now : Moment) (o : Option ℕ) → IsKept (work_call_on c now o)
 place_keeps c now None = tt
 place_keeps c now (Some place) = slot_keeps c now (slice_get c.jobs place)
-
--- a call writes one node at most
-few_left : (call : Write) (base now : List Seen) → Leaves call base now → length now ≤ length base + 1
-few_left call base now (inl e) = let same = ap (λ (h : List Seen). length h) e in omega (arith, same)
-few_left call base now (inr w) =
-    let same = ap (λ (h : List Seen). length h) w.1 in
-    omega (arith, same, length-append base (written_by base call ∷ []))
-
-few_writes : (t : Told) (call : Call) → length (store_after t call).writes ≤ length t.writes + 1
-few_writes t calls_nothing = omega arith
-few_writes t (puts path bytes) = omega arith
-few_writes t (gets path) = omega arith
-few_writes t (reads k) = let same = ap (λ (h : List Seen). length h) (read_same t) in omega (arith, same)
-few_writes t (sets from n) = few_left (set from n) t.writes (told_on t (after_call (set from n))).writes (leaves_on t (set from n))
-few_writes t (creates k n prior) =
-    let call = create_after k n prior in
-    few_left call t.writes (told_on t (after_call call)).writes (leaves_on t call)
 
 -- ---- a request
 

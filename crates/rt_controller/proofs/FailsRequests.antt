@@ -37,17 +37,20 @@ use Rattle.rt_store.specs.declared.refused.StoreRefused.TheVariants.{NoNode, Exi
 use Rattle.rt_store.specs.Calls.{Reads}
 use Rattle.rt_store.specs.Meaning.{Meaning}
 use Rattle.rt_store.proofs.Told.{read_rose}
+use Rattle.rt_store.proofs.Refusals.{read_exists, read_changed}
+use Rattle.rt_commit.specs.declared.job.JobStage.{JobStage}
+use Rattle.rt_commit.specs.Assignment.{replicas_in}
+use Rattle.rt_commit.specs.Calls.{Makes, DeepMeaning}
+use Rattle.rt_commit.specs.Causes.{Rose}
 use Rattle.rt_controller.specs.declared.handled.Handled.{Handled}
-use Rattle.rt_controller.specs.declared.job.JobStage.{JobStage}
 use Rattle.rt_controller.specs.declared.segment_machine.SegmentMachine.{SegmentMachine}
 use Rattle.rt_controller.specs.declared.starting.NamedFile.{NamedFile}
-use Rattle.rt_controller.specs.Assignment.{replicas_in}
-use Rattle.rt_controller.specs.Calls.{Makes, DeepMeaning}
-use Rattle.rt_controller.specs.Causes.{Rose, IsFault}
-use Rattle.rt_controller.specs.Controller.{Controlling, Handling, Turn, not_leading, uploads, not_assigned, past_last, has_machine, has_none, turn_of, call_of, handled_at, after_put, at_machine, after_read, by_node, by_status, opens, first_state, follows_by, leads_to, commit_stage, named_file, status_of}
+use Rattle.rt_controller.specs.Answers.{Handling, after_put, follows_by, leads_to, commit_stage, named_file, status_of}
+use Rattle.rt_controller.specs.Causes.{IsFault}
+use Rattle.rt_controller.specs.Controller.{Controlling}
+use Rattle.rt_controller.specs.Requests.{Turn, not_leading, uploads, not_assigned, past_last, has_machine, has_none, turn_of, call_of, handled_at, at_machine, after_read, by_node, by_status, opens, first_state}
 use Rattle.rt_controller.specs.Steps.{Handles}
 use Rattle.rt_controller.proofs.Reacting.{IsOwnCause, IsOwnSaid, IsOwn, owned}
-use Rattle.rt_store.proofs.Refusals.{read_exists, read_changed}
 
 abbrev fault : ReplyStatus
 fault = status.Failed cause.StoreFault

@@ -9,14 +9,15 @@ use Rattle.std.proofs.lemmas.List.Quantifiers.{position-Some}
 use Rattle.std.proofs.lemmas.List.Sums.{position_or_len_is}
 use Rattle.std.proofs.lemmas.Option.{get_or_from_slice_get, slice_get-get_or, slice_get_within}
 use Rattle.rt_model.specs.declared.reply.ReplyStatus.{ReplyStatus}
-use Rattle.rt_controller.specs.declared.job.Job.{Job}
-use Rattle.rt_controller.specs.declared.job.JobStage.{JobStage}
-use Rattle.rt_controller.specs.Controller.{Controlling, at_stage, has_number, job_place, settled, with_stage}
-use Rattle.rt_controller.specs.Job.{Stepping, commits}
+use Rattle.rt_commit.specs.declared.job.Job.{Job}
+use Rattle.rt_commit.specs.declared.job.JobStage.{JobStage}
+use Rattle.rt_commit.specs.Job.{at_stage, Stepping, commits}
+use Rattle.rt_commit.specs.Laws.{IsTrying}
+use Rattle.rt_commit.proofs.Ending.{Falls, some_left}
+use Rattle.rt_controller.specs.Controller.{Controlling}
 use Rattle.rt_controller.specs.Lasting.{AreNumbered}
-use Rattle.rt_controller.specs.Laws.{IsTrying}
 use Rattle.rt_controller.specs.Right.{job_at, left_in, left_of}
-use Rattle.rt_controller.proofs.Ending.{Falls, some_left}
+use Rattle.rt_controller.specs.Working.{has_number, job_place, settled, with_stage}
 use Rattle.rt_controller.proofs.Paired.{remove_set}
 
 -- ---- places

@@ -11,11 +11,12 @@ use Rattle.std.proofs.lemmas.Option.{get_or_from_slice_get, none-some, same_Some
 use Rattle.rt_lists.specs.Members.{Has}
 use Rattle.rt_lists.proofs.Members.{Has-place, Has-same, place-Has}
 use Rattle.rt_model.specs.declared.reply.ReplyStatus.{ReplyStatus}
-use Rattle.rt_controller.specs.declared.job.Job.{Job}
-use Rattle.rt_controller.specs.Controller.{Controlling, at_stage, has_number, job_place, settled, with_stage}
-use Rattle.rt_controller.specs.Job.{Stepping, commits}
+use Rattle.rt_commit.specs.declared.job.Job.{Job}
+use Rattle.rt_commit.specs.Job.{at_stage, Stepping, commits}
+use Rattle.rt_controller.specs.Controller.{Controlling}
 use Rattle.rt_controller.specs.Lasting.{AreNumbered}
 use Rattle.rt_controller.specs.Right.{job_at}
+use Rattle.rt_controller.specs.Working.{has_number, job_place, settled, with_stage}
 use Rattle.rt_controller.proofs.JobOf.{position_at}
 use Rattle.rt_controller.proofs.Paired.{remove_set}
 

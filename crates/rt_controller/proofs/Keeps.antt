@@ -13,19 +13,21 @@ use Rattle.rt_model.specs.declared.node.Seen.{Seen}
 use Rattle.rt_model.specs.declared.reply.ReplyStatus.{ReplyStatus}
 use Rattle.rt_model.specs.Starting.{Starting}
 use Rattle.rt_store.specs.Meaning.{Meaning}
-use Rattle.rt_controller.specs.declared.handled.JobRefused.{JobRefused}
-use Rattle.rt_controller.specs.declared.handled.JobRefused.TheVariants.{NoJob, Memory}
-use Rattle.rt_controller.specs.declared.job.Job.{Job}
-use Rattle.rt_controller.specs.declared.segment_machine.SegmentMachine.{SegmentMachine}
-use Rattle.rt_controller.specs.Calls.{Makes, DeepMeaning}
-use Rattle.rt_controller.specs.Controller.{Controlling, Working, machine_place, without_at, without_machine, at_stage, with_stage, settled, worked, work_at, work_on, work_call_at, work_call_on, job_place}
-use Rattle.rt_controller.specs.IsController.{IsAt, IsJob, IsMachine, IsController}
-use Rattle.rt_controller.specs.Job.{Stepping, job_call, job_step, commits}
-use Rattle.rt_controller.specs.Steps.{Works}
 use Rattle.rt_store.proofs.GoingOn.{GoesOn, goes_same}
-use Rattle.rt_controller.proofs.Going.{goes_idle, goes_made}
-use Rattle.rt_controller.proofs.KeepsJobs.{read_on, at_on, keeps_stage}
-use Rattle.rt_controller.proofs.Making.{makes_some}
+use Rattle.rt_commit.specs.declared.job.Job.{Job}
+use Rattle.rt_commit.specs.Calls.{Makes, DeepMeaning}
+use Rattle.rt_commit.specs.IsJob.{IsAt, IsJob}
+use Rattle.rt_commit.specs.Job.{at_stage, Stepping, job_call, job_step, commits}
+use Rattle.rt_commit.proofs.Going.{goes_idle, goes_made}
+use Rattle.rt_commit.proofs.KeepsJobs.{read_on, keeps_stage, job_on}
+use Rattle.rt_commit.proofs.Making.{makes_some}
+use Rattle.rt_controller.specs.declared.handled.JobRefused.TheVariants.{NoJob, Memory}
+use Rattle.rt_controller.specs.declared.handled.JobRefused.{JobRefused}
+use Rattle.rt_controller.specs.declared.segment_machine.SegmentMachine.{SegmentMachine}
+use Rattle.rt_controller.specs.Controller.{Controlling, machine_place, without_at, without_machine}
+use Rattle.rt_controller.specs.IsController.{IsMachine, IsController}
+use Rattle.rt_controller.specs.Steps.{Works}
+use Rattle.rt_controller.specs.Working.{Working, with_stage, settled, worked, work_at, work_on, work_call_at, work_call_on, job_place}
 use Rattle.rt_controller.proofs.MayStep.{may_step}
 
 -- ---- lists without an item
@@ -42,9 +44,6 @@ All-remove_set {X = X} P xs i x a =
     (subst Q (sym (drop-set-lt (suc i) xs i x (omega arith))) (All-drop P (suc i) xs a))
 
 -- ---- as more is seen
-
-pub job_on : (st : Starting) (a b : List Seen) (j : Job) → IsFront a b → IsJob st a j → IsJob st b j
-job_on st a b j f k = record { within = k.within; small = k.small; at = at_on a b j.asked j.stage f k.at }
 
 pub machine_on : (st : Starting) (a b : List Seen) (m : SegmentMachine) → IsFront a b → IsMachine st a m → IsMachine st b m
 machine_on st a b m f k =

@@ -1,12 +1,8 @@
 -- What lasts of a controller stays true as the past grows, and through what needs no store.
-use Rattle.std.proofs.Common.{ℕ, ◌≤◌, Bool, true, false, List, length, Option, Some, None, refl, sym, subst, arith}
+use Rattle.std.proofs.Common.{ℕ, ◌≤◌, Bool, true, false, length, Option, Some, None, refl, sym, subst, arith}
 use Rattle.std.proofs.lemmas.List.Elements.{All-nil, All-weaker, All-filter}
 use Rattle.rt_base.specs.declared.numbers.ControllerId.{ControllerId}
 use Rattle.rt_base.specs.declared.numbers.Offset.{Offset}
-use Rattle.rt_lists.specs.Members.{IsFront}
-use Rattle.rt_lists.proofs.Members.{Has-front}
-use Rattle.rt_model.specs.declared.asked.Asked.{Asked}
-use Rattle.rt_model.specs.declared.node.Seen.{Seen}
 use Rattle.rt_model.specs.declared.reporter.Reporter.{Reporter}
 use Rattle.rt_model.specs.declared.setup.Setup.{Setup}
 use Rattle.rt_model.specs.Completion.{Completion}
@@ -16,17 +12,16 @@ use Rattle.rt_store.specs.Contents.{starting_of}
 use Rattle.rt_fsm.specs.Laws.{IsNoteWithin, HasOffsetsWithin}
 use Rattle.rt_past.specs.IsPast.{IsPast}
 use Rattle.rt_past.specs.Past.{Past, Grows}
-use Rattle.rt_past.proofs.Growth.{length_grows, entry_grows, stored_grows}
-use Rattle.rt_controller.specs.declared.job.Job.{Job}
-use Rattle.rt_controller.specs.declared.job.JobStage.{JobStage}
-use Rattle.rt_controller.specs.declared.job.JobStage.TheVariants as stage
+use Rattle.rt_past.proofs.Growth.{length_grows, entry_grows}
+use Rattle.rt_commit.specs.Assignment.{Assigned, IsAssigned}
+use Rattle.rt_commit.specs.IsJob.{IsJob}
+use Rattle.rt_commit.specs.Lasting.{IsJobOver}
+use Rattle.rt_commit.proofs.Lasts.{job_lasts}
 use Rattle.rt_controller.specs.declared.segment_machine.SegmentMachine.{SegmentMachine}
-use Rattle.rt_controller.specs.Assignment.{Assigned, IsAssigned}
 use Rattle.rt_controller.specs.Controller.{Controlling, beginning, believing, crashed}
-use Rattle.rt_controller.specs.IsController.{IsMachine, IsJob, IsController}
-use Rattle.rt_controller.specs.Job.{meta_in}
-use Rattle.rt_controller.specs.Lasting.{WasIdeal, Try, IsTry, AreTries, WasSent, IsBacked, IsMachineOver, IsJobOver, IsControllerOver}
-use Rattle.rt_controller.proofs.Keeps.{job_on, machine_on}
+use Rattle.rt_controller.specs.IsController.{IsMachine, IsController}
+use Rattle.rt_controller.specs.Lasting.{IsMachineOver, IsControllerOver}
+use Rattle.rt_controller.proofs.Keeps.{machine_on}
 use Rattle.rt_controller.proofs.Numbered.{none_numbered}
 use Rattle.rt_controller.proofs.PairedJobs.{commits_now, spared_paired, spared_one}
 
@@ -54,54 +49,6 @@ machine_lasts setup a b m g k =
           offsets_grow (length (messages_of a.log m.partition)) (length (messages_of b.log m.partition)) m.machine
           (length_grows a.log b.log m.partition g.log) k.offsets;
       replicas = k.replicas;
-    }
-
-ideal_lasts : (a b : List Seen) (version : ℕ) → IsFront a b → WasIdeal a version → WasIdeal b version
-ideal_lasts a b version g (w, is, e) = (w, record { has = Has-front a b w g is.has; is_ideal = is.is_ideal }, e)
-
-try_lasts : (a b : List Seen) (t : Try) → IsFront a b → IsTry a t → IsTry b t
-try_lasts a b t g k =
-    record {
-      expected = ideal_lasts a b t.expected g k.expected;
-      found = ideal_lasts a b t.found g k.found;
-      later = k.later;
-    }
-
-tries_last : (a b : List Seen) (versions : List ℕ) → IsFront a b → AreTries a versions → AreTries b versions
-tries_last a b versions g k =
-    record {
-      tries = k.tries;
-      found = k.found;
-      each = All-weaker (IsTry a) (IsTry b) (λ t. try_lasts a b t g) k.tries k.each;
-      ordered = k.ordered;
-    }
-
-sent_lasts : (a b : Past) (q : Asked) → Grows a b → WasSent a q → WasSent b q
-sent_lasts a b q g k = record { request = k.request; was_sent = Has-front a.sent b.sent _ g.sent k.was_sent; answers = k.answers }
-
-backed_lasts : (setup : Setup) (a b : Past) (q : Asked) (s : JobStage) → Grows a b → IsBacked setup a q s → IsBacked setup b q s
-backed_lasts setup a b q (stage.Check from end path) g k =
-    record {
-      request = k.request;
-      was_sent = Has-front a.sent b.sent _ g.sent k.was_sent;
-      answers = k.answers;
-      offset = k.offset;
-      names = k.names;
-    }
-backed_lasts setup a b q (stage.Done from commit) g k =
-    stored_grows setup a b q.partition q.sequence (meta_in from.node).start commit g k
-backed_lasts setup a b q (stage.Next done) g k = tt
-backed_lasts setup a b q (stage.IdealRead w found) g k = tries_last a.history b.history found g.history k
-backed_lasts setup a b q (stage.IdealSet w found ideal) g k = (tries_last a.history b.history found g.history k.0, k.1)
-backed_lasts setup a b q stage.Ended g k = tt
-
-job_lasts : (setup : Setup) (a b : Past) (j : Job) → Grows a b → IsJobOver setup a j → IsJobOver setup b j
-job_lasts setup a b j g k =
-    record {
-      job = job_on (starting_of setup) a.history b.history j g.history k.job;
-      asked = sent_lasts a b j.asked g k.asked;
-      backed = backed_lasts setup a b j.asked j.stage g k.backed;
-      trying = k.trying;
     }
 
 pub controller_lasts : (setup : Setup) (a b : Past) (c : Controlling) → Grows a b → IsControllerOver setup a c → IsControllerOver setup b c

@@ -24,10 +24,12 @@ use Rattle.rt_fsm.proofs.Pick.{fresh_instances}
 use Rattle.rt_past.specs.Past.{Past}
 use Rattle.rt_past.specs.Requests.{IsRequest}
 use Rattle.rt_past.specs.Segments.{HadEntry}
+use Rattle.rt_commit.specs.Assignment.{Assigned, assigned_by, replicas_in}
 use Rattle.rt_controller.specs.declared.segment_machine.SegmentMachine.{SegmentMachine}
-use Rattle.rt_controller.specs.Assignment.{Assigned, assigned_by, replicas_in}
-use Rattle.rt_controller.specs.Controller.{ask_in, first_state, with_machine}
+use Rattle.rt_controller.specs.Answers.{ask_in}
+use Rattle.rt_controller.specs.Controller.{with_machine}
 use Rattle.rt_controller.specs.Lasting.{IsMachineOver, machine_end}
+use Rattle.rt_controller.specs.Requests.{first_state}
 use Rattle.rt_controller.proofs.KeepsRequests.{made}
 
 -- what lasts of a machine beside what it read

@@ -1,27 +1,22 @@
 -- What lasts of a controller beside what its machines and jobs have read.
-use Rattle.std.proofs.Common.{◌≡◌, List, [], refl, arith}
+use Rattle.std.proofs.Common.{◌≡◌}
 use Rattle.std.specs.Prelude.{All}
-use Rattle.std.proofs.lemmas.List.Elements.{All-nil, All-weaker}
+use Rattle.std.proofs.lemmas.List.Elements.{All-weaker}
 use Rattle.rt_lists.specs.Members.{IsFront}
-use Rattle.rt_model.specs.declared.node.Seen.{Seen}
 use Rattle.rt_model.specs.declared.setup.Setup.{Setup}
 use Rattle.rt_store.specs.Contents.{starting_of}
 use Rattle.rt_past.specs.Past.{Past}
-use Rattle.rt_controller.specs.declared.job.Job.{Job}
-use Rattle.rt_controller.specs.Assignment.{assigned_by}
-use Rattle.rt_controller.specs.Controller.{Controlling, Handling}
+use Rattle.rt_commit.specs.Assignment.{assigned_by}
+use Rattle.rt_commit.specs.Lasting.{IsJobOver}
+use Rattle.rt_commit.proofs.Lasts.{JobLasts, job_lasts_of}
+use Rattle.rt_controller.specs.Answers.{Handling}
+use Rattle.rt_controller.specs.Controller.{Controlling}
 use Rattle.rt_controller.specs.IsController.{IsController}
-use Rattle.rt_controller.specs.Lasting.{AreTries, WasSent, IsBacked, IsMachineOver, IsJobOver, IsControllerOver, HaveOneMachine, ArePaired, AreNumbered}
-use Rattle.rt_controller.specs.Laws.{IsTrying}
+use Rattle.rt_controller.specs.Lasting.{IsMachineOver, IsControllerOver, HaveOneMachine, ArePaired, AreNumbered}
 use Rattle.rt_controller.specs.Right.{IsHandled}
 use Rattle.rt_controller.proofs.LastsMachines.{MachineLasts, lasts_of}
 
 -- ---- what lasts beside what was read
-
-pub record JobLasts (setup : Setup) (past : Past) (j : Job) : Type 0 where
-  pub asked : WasSent past j.asked
-  pub backed : IsBacked setup past j.asked j.stage
-  pub trying : IsTrying j.stage
 
 pub record Lasts (setup : Setup) (past : Past) (c : Controlling) : Type 0 where
   pub assigned : c.assigned ≡ assigned_by setup
@@ -30,9 +25,6 @@ pub record Lasts (setup : Setup) (past : Past) (c : Controlling) : Type 0 where
   pub one : HaveOneMachine c.machines
   pub paired : ArePaired c.machines c.jobs
   pub numbered : AreNumbered c.jobs c.started
-
-job_lasts_of : (setup : Setup) (past : Past) (j : Job) → IsJobOver setup past j → JobLasts setup past j
-job_lasts_of setup past j k = record { asked = k.asked; backed = k.backed; trying = k.trying }
 
 pub parts_of : (setup : Setup) (past : Past) (c : Controlling) → IsControllerOver setup past c → Lasts setup past c
 parts_of setup past c k =
@@ -67,7 +59,3 @@ pub record Answers (setup : Setup) (past : Past) (c : Controlling) (x : Handling
   pub right : IsHandled past x.handled
   pub id : x.controller.id ≡ c.id
   pub jobs : IsFront c.jobs x.controller.jobs
-
-pub no_tries : (h : List Seen) → AreTries h []
-no_tries h =
-    record { tries = []; found = refl; each = All-nil _; ordered = λ i j d lt within. absurd (omega (arith, within)) }

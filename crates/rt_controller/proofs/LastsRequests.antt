@@ -1,7 +1,6 @@
 -- What lasts of a controller is kept by each request that was sent, and what is answered is right.
-use Rattle.std.proofs.Common.{◌≡◌, ℕ, ◌==◌, List, [], Option, Some, None, Result, Ok, Err, refl, sym, ◌∙◌, subst, arith}
+use Rattle.std.proofs.Common.{◌≡◌, ℕ, List, [], Option, Some, None, Result, Ok, Err, refl, sym, ◌∙◌, subst, arith}
 use Rattle.std.specs.Prelude.{slice_get, All}
-use Rattle.std.proofs.lemmas.Bool.{cond_both}
 use Rattle.std.proofs.lemmas.List.Elements.{All-push}
 use Rattle.std.proofs.lemmas.Option.{same_Some}
 use Rattle.rt_base.specs.declared.numbers.Moment.{Moment}
@@ -13,8 +12,6 @@ use Rattle.rt_model.specs.declared.completion.Ask.{Ask}
 use Rattle.rt_model.specs.declared.completion.Ask.TheVariants as ask
 use Rattle.rt_model.specs.declared.completion.Reaction.{Reaction}
 use Rattle.rt_model.specs.declared.completion.Reaction.TheVariants as reaction
-use Rattle.rt_model.specs.declared.completion.Said.{Said}
-use Rattle.rt_model.specs.declared.completion.Said.TheVariants as said
 use Rattle.rt_model.specs.declared.node.Key.TheVariants as key
 use Rattle.rt_model.specs.declared.node.Node.{Node}
 use Rattle.rt_model.specs.declared.node.Node.TheVariants as node
@@ -31,7 +28,7 @@ use Rattle.rt_model.specs.declared.setup.Setup.{Setup}
 use Rattle.rt_model.specs.declared.status.Status.{Status}
 use Rattle.rt_model.specs.declared.status.Status.TheVariants.{InProgress, Done, Abandoned}
 use Rattle.rt_model.specs.Completion.{Completion, first, react}
-use Rattle.rt_model.specs.Finished.{keeps, committed_row, abandoned_row}
+use Rattle.rt_model.specs.Finished.{committed_row, abandoned_row}
 use Rattle.rt_model.specs.Messages.{asked_of}
 use Rattle.rt_model.specs.Metadata.{IsDoneStatus}
 use Rattle.rt_deep.specs.declared.deep_put.DeepPut.{DeepPut}
@@ -48,23 +45,30 @@ use Rattle.rt_past.specs.Files.{Stands}
 use Rattle.rt_past.specs.Past.{Past}
 use Rattle.rt_past.specs.Replies.{IsStatus}
 use Rattle.rt_past.specs.Requests.{IsRequest}
-use Rattle.rt_controller.specs.declared.job.Job.{Job}
-use Rattle.rt_controller.specs.declared.job.JobStage.{JobStage}
-use Rattle.rt_controller.specs.declared.job.JobStage.TheVariants as stage
+use Rattle.rt_commit.specs.declared.job.Job.{Job}
+use Rattle.rt_commit.specs.declared.job.JobStage.TheVariants as stage
+use Rattle.rt_commit.specs.declared.job.JobStage.{JobStage}
+use Rattle.rt_commit.specs.declared.work.Work.TheVariants as work
+use Rattle.rt_commit.specs.Assignment.{replicas_in}
+use Rattle.rt_commit.specs.Calls.{Makes, DeepMeaning}
+use Rattle.rt_commit.specs.Lasting.{WasSent, IsBacked}
+use Rattle.rt_commit.specs.Laws.{IsTrying}
+use Rattle.rt_commit.proofs.Changed.{no_tries}
+use Rattle.rt_commit.proofs.Lasts.{JobLasts}
 use Rattle.rt_controller.specs.declared.segment_machine.SegmentMachine.{SegmentMachine}
-use Rattle.rt_controller.specs.declared.work.Work.TheVariants as work
-use Rattle.rt_controller.specs.Assignment.{replicas_in}
-use Rattle.rt_controller.specs.Calls.{Makes, DeepMeaning}
-use Rattle.rt_controller.specs.Controller.{Controlling, Handling, Turn, not_leading, uploads, not_assigned, past_last, has_machine, has_none, turn_of, call_of, handled_at, after_put, at_machine, after_read, by_node, by_status, opens, first_state, follows, follows_by, commit_stage, named_in, read_write, replaced, added, with_machine, ask_in, status_of, replies, fails, machine_place}
-use Rattle.rt_controller.specs.Lasting.{WasSent, IsBacked, HaveOneMachine, machine_end}
-use Rattle.rt_controller.specs.Laws.{IsTrying}
-use Rattle.rt_controller.proofs.KeepsRequests.{Tells, told_turn, All-replaced, All-added, its_machine, has_at, made}
+use Rattle.rt_controller.specs.Answers.{Handling, after_put, follows, follows_by, commit_stage, named_in, read_write, ask_in, status_of, replies, fails}
+use Rattle.rt_controller.specs.Controller.{Controlling, replaced, added, with_machine, machine_place}
+use Rattle.rt_controller.specs.Lasting.{HaveOneMachine, machine_end}
+use Rattle.rt_controller.specs.Requests.{Turn, not_leading, uploads, not_assigned, past_last, has_machine, has_none, turn_of, call_of, handled_at, at_machine, after_read, by_node, by_status, opens, first_state}
+use Rattle.rt_controller.proofs.KeepsRequests.{All-replaced, All-added, its_machine, has_at, made}
 use Rattle.rt_controller.proofs.LastsMachines.{no_first_end, MachineLasts, reacts_lasts, first_lasts}
-use Rattle.rt_controller.proofs.LastsParts.{Answers, JobLasts, Lasts, no_tries}
+use Rattle.rt_controller.proofs.LastsParts.{Answers, Lasts}
 use Rattle.rt_controller.proofs.Numbered.{start_numbered}
 use Rattle.rt_controller.proofs.Paired.{Moves, moves_at, replaced_moves, added_moves, replaced_one, added_one}
 use Rattle.rt_controller.proofs.PairedJobs.{PairedIn, follows_paired}
+use Rattle.rt_controller.proofs.RightStatuses.{own_said, row_right, abandoned_right}
 use Rattle.rt_controller.proofs.Turning.{TurnsTo, turned}
+use Rattle.rt_controller.proofs.Turns.{Tells, told_turn}
 
 module _ (setup : Setup) (past : Past) (r : Request) (has : Has past.sent (sent.Request r)) (q : IsRequest setup past r) where
   abbrev Right : Controlling → Handling → Type 0
@@ -80,14 +84,6 @@ module _ (setup : Setup) (past : Past) (r : Request) (has : Has past.sent (sent.
 
   failed : (c : Controlling) (because : FailCause) → Lasts setup past c → Right c (fails c r because)
   failed c because k = answered c (status.Failed because) k tt
-
-  own_said : (what : Said) → IsStatus past r (status_of what)
-  own_said said.Hold = tt
-  own_said (said.CatchUp x) = tt
-  own_said (said.Commit x) = tt
-  own_said said.CommitContinue = tt
-  own_said said.Processed = tt
-  own_said (said.Failed because) = tt
 
   abbrev new_job : Controlling → JobStage → Job
   new_job c s = record { number = c.started; asked = asked_of r; stage = s }
@@ -162,7 +158,7 @@ module _ (setup : Setup) (past : Past) (r : Request) (has : Has past.sent (sent.
   reacted : (c : Controlling) (ns : List SegmentMachine) (seen : SeenMeta) (m n : Completion) (what : Ask) (y : Reaction)
       → ask_in r.offset r.kind ≡ Some what → TurnsTo m what n y → Lasts setup past c → All (MachineLasts setup past) ns → HaveOneMachine ns
       → PairedIn (follows (record c { machines = ns }) r seen y).controller → Right c (follows (record c { machines = ns }) r seen y)
-  reacted c ns seen m n what (reaction.Answer answer) asks t k ms one paired = said_only c ns (status_of answer) k ms one (own_said answer) paired
+  reacted c ns seen m n what (reaction.Answer answer) asks t k ms one paired = said_only c ns (status_of answer) k ms one (own_said past r answer) paired
   reacted c ns seen m n what (reaction.StartCommit end) asks t k ms one paired = commit_starts c ns seen what end r.kind refl asks t.2 k ms one paired
   reacted c ns seen m n what reaction.StartOffline asks t k ms one paired =
       started c ns (stage.IdealRead work.Offline []) k ms one (no_tries past.history) (omega arith) paired
@@ -204,30 +200,13 @@ module _ (setup : Setup) (past : Past) (r : Request) (has : Has past.sent (sent.
 
   -- ---- a segment without a machine
 
-  keeps_right : (seen : SeenMeta) (end x : Offset) → IsStatus past r (status.Keep seen) → IsStatus past r (keeps seen end x)
-  keeps_right seen end x was = cond_both (x.0 == end.0) (status.Keep seen) status.Discard (IsStatus past r) (λ e. was) (λ e. tt)
-
-  row_right : (seen : SeenMeta) (end : Offset) (what : Ask) → IsStatus past r (status.Keep seen) → IsStatus past r (committed_row seen end what)
-  row_right seen end (ask.Consumed x reason) was = keeps_right seen end x was
-  row_right seen end (ask.CommitStart x) was = keeps_right seen end x was
-  row_right seen end (ask.CommitEnd x) was = keeps_right seen end x was
-  row_right seen end ask.Stopped was = tt
-  row_right seen end (ask.Extend millis) was = tt
-
-  abandoned_right : (what : Ask) → IsStatus past r (abandoned_row what)
-  abandoned_right (ask.Consumed x reason) = tt
-  abandoned_right (ask.CommitStart x) = tt
-  abandoned_right (ask.CommitEnd x) = tt
-  abandoned_right ask.Stopped = tt
-  abandoned_right (ask.Extend millis) = tt
-
   status_right : (c : Controlling) (now : Moment) (what : Ask) (m : SeenMeta) (s : Status) → ask_in r.offset r.kind ≡ Some what
       → machine_place c.machines r.partition r.sequence ≡ None → Lasts setup past c → Has past.history (read_write r m) → m.meta.status ≡ s
       → Right c (by_status c r now what m s)
   status_right c now what m InProgress asks none k there e = machine_opens c now what m asks none k
   status_right c now what m (Done commit) asks none k there e =
-      answered c (committed_row m commit.end what) k (row_right m commit.end what (there, subst IsDoneStatus (sym e) tt))
-  status_right c now what m Abandoned asks none k there e = answered c (abandoned_row what) k (abandoned_right what)
+      answered c (committed_row m commit.end what) k (row_right past r m commit.end what (there, subst IsDoneStatus (sym e) tt))
+  status_right c now what m Abandoned asks none k there e = answered c (abandoned_row what) k (abandoned_right past r what)
 
   abbrev write_at : ℕ → Node → Seen
   write_at version n = record { key = key.Meta r.partition r.sequence; version = version; node = n }

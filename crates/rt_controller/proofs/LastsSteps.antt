@@ -20,24 +20,28 @@ use Rattle.rt_past.specs.IsPast.{IsPast}
 use Rattle.rt_past.specs.Past.{Past}
 use Rattle.rt_past.specs.Replies.{IsStatus}
 use Rattle.rt_past.specs.Segments.{WasDone}
-use Rattle.rt_controller.specs.declared.job.Job.{Job}
-use Rattle.rt_controller.specs.declared.job.JobStage.{JobStage}
-use Rattle.rt_controller.specs.declared.job.JobStage.TheVariants as stage
-use Rattle.rt_controller.specs.Calls.{got, read, set, created, Makes, DeepMeaning}
-use Rattle.rt_controller.specs.Causes.{Rose}
-use Rattle.rt_controller.specs.Controller.{Controlling, Working, at_stage, job_place, settled, with_stage, worked}
-use Rattle.rt_controller.specs.Job.{Stepping, call_at, commits, job_call, job_step, step_at}
-use Rattle.rt_controller.specs.Lasting.{IsBacked, IsControllerOver, IsJobOver, WasSent}
-use Rattle.rt_controller.specs.Laws.{IsTrying}
-use Rattle.rt_controller.specs.Right.{EndsSo, IsReplied, LeavesJob, StatusSo, job_of, left_of}
-use Rattle.rt_controller.proofs.Ending.{Falls, falls}
+use Rattle.rt_commit.specs.declared.job.Job.{Job}
+use Rattle.rt_commit.specs.declared.job.JobStage.TheVariants as stage
+use Rattle.rt_commit.specs.declared.job.JobStage.{JobStage}
+use Rattle.rt_commit.specs.Calls.{got, read, set, created, Makes, DeepMeaning}
+use Rattle.rt_commit.specs.Causes.{Rose}
+use Rattle.rt_commit.specs.Job.{at_stage, Stepping, call_at, commits, job_call, job_step, step_at}
+use Rattle.rt_commit.specs.Lasting.{IsBacked, IsJobOver, WasSent}
+use Rattle.rt_commit.specs.Laws.{IsTrying}
+use Rattle.rt_commit.specs.Right.{EndsSo, StatusSo}
+use Rattle.rt_commit.proofs.Ending.{Falls, falls}
+use Rattle.rt_commit.proofs.Lasts.{JobLasts}
+use Rattle.rt_commit.proofs.LastsJobs.{step_so}
+use Rattle.rt_commit.proofs.Making.{makes_some}
+use Rattle.rt_controller.specs.Controller.{Controlling}
+use Rattle.rt_controller.specs.Lasting.{IsControllerOver}
+use Rattle.rt_controller.specs.Right.{IsReplied, LeavesJob, job_of, left_of}
+use Rattle.rt_controller.specs.Working.{Working, job_place, settled, with_stage, worked}
 use Rattle.rt_controller.proofs.JobOf.{fewer_left, job_goes, job_gone}
 use Rattle.rt_controller.proofs.JobsStay.{settled_keeps}
 use Rattle.rt_controller.proofs.Keeps.{All-remove_set, without}
-use Rattle.rt_controller.proofs.LastsJobs.{step_so}
 use Rattle.rt_controller.proofs.LastsMachines.{MachineLasts}
-use Rattle.rt_controller.proofs.LastsParts.{JobLasts, Lasts, parts_of}
-use Rattle.rt_controller.proofs.Making.{makes_some}
+use Rattle.rt_controller.proofs.LastsParts.{Lasts, parts_of}
 use Rattle.rt_controller.proofs.Numbered.{goes_numbered, ends_numbered}
 use Rattle.rt_controller.proofs.PairedJobs.{goes_paired, ends_paired, without_one}
 

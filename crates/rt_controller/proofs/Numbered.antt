@@ -8,9 +8,9 @@ use Rattle.std.proofs.lemmas.List.Elements.{All-push, All-set, All-weaker}
 use Rattle.std.proofs.lemmas.List.Quantifiers.{all_pairs_push, all_pairs_remove}
 use Rattle.std.proofs.lemmas.Option.{get_or_from_slice_get, slice_get_within}
 use Rattle.rt_lists.proofs.Lists.{All-found}
-use Rattle.rt_controller.specs.declared.job.Job.{Job}
-use Rattle.rt_controller.specs.declared.job.JobStage.{JobStage}
-use Rattle.rt_controller.specs.Controller.{at_stage}
+use Rattle.rt_commit.specs.declared.job.Job.{Job}
+use Rattle.rt_commit.specs.declared.job.JobStage.{JobStage}
+use Rattle.rt_commit.specs.Job.{at_stage}
 use Rattle.rt_controller.specs.Lasting.{AreNumbered}
 use Rattle.rt_controller.proofs.Keeps.{All-remove}
 use Rattle.rt_controller.proofs.Paired.{remove_set}

@@ -14,17 +14,16 @@ use Rattle.rt_model.specs.declared.setup.Setup.{Setup}
 use Rattle.rt_model.specs.Completion.{is_at}
 use Rattle.rt_model.proofs.Histories.{same_partition, same_sequence}
 use Rattle.rt_past.specs.Past.{Past}
-use Rattle.rt_controller.specs.declared.job.Job.{Job}
-use Rattle.rt_controller.specs.declared.job.JobStage.{JobStage}
-use Rattle.rt_controller.specs.declared.job.JobStage.TheVariants as stage
+use Rattle.rt_commit.specs.declared.job.Job.{Job}
+use Rattle.rt_commit.specs.declared.job.JobStage.TheVariants as stage
+use Rattle.rt_commit.specs.Job.{commits}
+use Rattle.rt_commit.specs.Lasting.{commit_end}
+use Rattle.rt_commit.proofs.CommitEnds.{commits_to, end_commits}
 use Rattle.rt_controller.specs.declared.segment_machine.SegmentMachine.{SegmentMachine}
-use Rattle.rt_controller.specs.declared.work.Work.{Work}
-use Rattle.rt_controller.specs.declared.work.Work.TheVariants as work
 use Rattle.rt_controller.specs.Controller.{Controlling, is_of}
-use Rattle.rt_controller.specs.Job.{commits, is_commit}
-use Rattle.rt_controller.specs.Lasting.{IsControllerOver, ArePaired, HaveOneMachine, HasItsMachine, HasOneJob, IsOnlyJob, commit_end, work_end, end_at, ends_at, job_ends_at, machine_end, machine_ends_at}
+use Rattle.rt_controller.specs.Lasting.{IsControllerOver, ArePaired, HaveOneMachine, HasItsMachine, HasOneJob, IsOnlyJob, end_at, ends_at, job_ends_at, machine_end, machine_ends_at}
 use Rattle.rt_controller.proofs.Paired.{one_if}
-use Rattle.rt_controller.proofs.PairedJobs.{at_some, commits_to, ends_here, fewer_ends, machine_at}
+use Rattle.rt_controller.proofs.PairedJobs.{at_some, ends_here, fewer_ends, machine_at}
 
 -- ---- what is counted, and what is counted once
 
@@ -78,18 +77,6 @@ ends_committing CommitterUploading o x e = absurd (none-some x e)
 ends_committing Committing o x e = (refl, same_Some o x e)
 ends_committing Committed o x e = absurd (none-some x e)
 ends_committing Aborted o x e = absurd (none-some x e)
-
-work_commits : (w : Work) (x : Offset) → work_end w ≡ Some x → is_commit w ≡ true
-work_commits (work.Commit done) x e = refl
-work_commits work.Offline x e = absurd (none-some x e)
-
-pub end_commits : (s : JobStage) (x : Offset) → commit_end s ≡ Some x → commits s ≡ true
-end_commits (stage.Check from end path) x e = refl
-end_commits (stage.Done from commit) x e = refl
-end_commits (stage.Next done) x e = refl
-end_commits (stage.IdealRead w found) x e = work_commits w x e
-end_commits (stage.IdealSet w found ideal) x e = work_commits w x e
-end_commits stage.Ended x e = absurd (none-some x e)
 
 -- ---- the two of them
 

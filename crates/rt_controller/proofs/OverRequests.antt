@@ -13,20 +13,25 @@ use Rattle.rt_store.specs.Meaning.{Told}
 use Rattle.rt_store.specs.Memory.{means}
 use Rattle.rt_past.specs.IsPast.{IsPast}
 use Rattle.rt_past.specs.Past.{Past}
+use Rattle.rt_commit.specs.declared.job.Job.{Job}
+use Rattle.rt_commit.specs.Right.{past_after, told_past}
+use Rattle.rt_commit.specs.Told.{ToldDeep, deep_after, store_after}
+use Rattle.rt_commit.proofs.RightCalls.{GoesOnRight, call_goes_on}
 use Rattle.rt_controller.specs.declared.handled.Handled.{Handled}
-use Rattle.rt_controller.specs.declared.job.Job.{Job}
-use Rattle.rt_controller.specs.Controller.{Controlling, Handling, handle_call}
+use Rattle.rt_controller.specs.Answers.{Handling}
+use Rattle.rt_controller.specs.Controller.{Controlling}
 use Rattle.rt_controller.specs.IsController.{IsController}
 use Rattle.rt_controller.specs.Lasting.{IsControllerOver}
-use Rattle.rt_controller.specs.Right.{IsHandled, job_of, past_after, told_past}
-use Rattle.rt_controller.specs.Told.{ToldDeep, deep_after, handled_on, store_after}
+use Rattle.rt_controller.specs.Requests.{handle_call}
+use Rattle.rt_controller.specs.Right.{IsHandled, job_of}
+use Rattle.rt_controller.specs.Told.{handled_on}
 use Rattle.rt_controller.proofs.JobsStay.{job_stays}
 use Rattle.rt_controller.proofs.KeepsRequests.{keeps_request}
 use Rattle.rt_controller.proofs.Lasts.{controller_lasts, ready_over}
 use Rattle.rt_controller.proofs.LastsParts.{Answers, parts_of, whole_of}
 use Rattle.rt_controller.proofs.LastsRequests.{request_right}
 use Rattle.rt_controller.proofs.Realized.{made_request}
-use Rattle.rt_controller.proofs.RightCalls.{GoesOnRight, call_goes_on, request_call}
+use Rattle.rt_controller.proofs.RightCalls.{request_call}
 
 pub request_past : (setup : Setup) (past : Past) (t : Told) (d : ToldDeep) (c : Controlling) (r : Request) → IsPast setup (told_past past t d)
     → Has past.sent (sent.Request r) → GoesOnRight setup (told_past past t d) (past_after past t d (handle_call c r))

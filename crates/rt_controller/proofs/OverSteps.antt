@@ -13,23 +13,27 @@ use Rattle.rt_store.specs.Meaning.{Meaning, Told}
 use Rattle.rt_store.specs.Memory.{means}
 use Rattle.rt_past.specs.IsPast.{IsPast}
 use Rattle.rt_past.specs.Past.{Past}
+use Rattle.rt_commit.specs.declared.job.Job.{Job}
+use Rattle.rt_commit.specs.Calls.{Makes, DeepMeaning}
+use Rattle.rt_commit.specs.Causes.{Rose}
+use Rattle.rt_commit.specs.Job.{job_call, job_step}
+use Rattle.rt_commit.specs.Right.{past_after, told_past}
+use Rattle.rt_commit.specs.Told.{ToldDeep, deep_after, store_after}
+use Rattle.rt_commit.proofs.RightCalls.{GoesOnRight, call_goes_on}
 use Rattle.rt_controller.specs.declared.handled.JobRefused.{JobRefused}
-use Rattle.rt_controller.specs.declared.job.Job.{Job}
-use Rattle.rt_controller.specs.Calls.{Makes, DeepMeaning}
-use Rattle.rt_controller.specs.Causes.{Rose}
-use Rattle.rt_controller.specs.Controller.{Controlling, Working, job_place, work_at, work_call, work_call_at, work_call_on, work_on, worked}
+use Rattle.rt_controller.specs.Controller.{Controlling}
 use Rattle.rt_controller.specs.IsController.{IsController}
-use Rattle.rt_controller.specs.Job.{job_call, job_step}
 use Rattle.rt_controller.specs.Lasting.{IsControllerOver}
-use Rattle.rt_controller.specs.Right.{IsReplied, job_at, job_of, past_after, told_past}
-use Rattle.rt_controller.specs.Told.{ToldDeep, deep_after, store_after, worked_on}
+use Rattle.rt_controller.specs.Right.{IsReplied, job_at, job_of}
+use Rattle.rt_controller.specs.Told.{worked_on}
+use Rattle.rt_controller.specs.Working.{Working, job_place, work_at, work_call, work_call_at, work_call_on, work_on, worked}
 use Rattle.rt_controller.proofs.JobsStay.{job_found, job_stays}
 use Rattle.rt_controller.proofs.Keeps.{keeps_work}
 use Rattle.rt_controller.proofs.Lasts.{controller_lasts, ready_over}
 use Rattle.rt_controller.proofs.LastsParts.{whole_of}
 use Rattle.rt_controller.proofs.LastsSteps.{StepsRight, work_right}
 use Rattle.rt_controller.proofs.Realized.{made_work}
-use Rattle.rt_controller.proofs.RightCalls.{GoesOnRight, call_goes_on, work_call_right}
+use Rattle.rt_controller.proofs.RightCalls.{work_call_right}
 
 pub work_past : (setup : Setup) (past : Past) (t : Told) (d : ToldDeep) (c : Controlling) (n : ℕ) (now : Moment) → IsSetup setup
     → IsPast setup (told_past past t d) → IsControllerOver setup (told_past past t d) c

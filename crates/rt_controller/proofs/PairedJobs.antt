@@ -1,5 +1,5 @@
 -- Each start of a job, and each step of one, keeps COMMITTING machines and commit jobs paired.
-use Rattle.std.proofs.Common.{◌≡◌, ℕ, ◌+◌, ◌≤◌, ◌==◌, ◌&&◌, Bool, true, false, cond, List, [], ◌∷◌, ◌++◌, Option, Some, None, refl, sym, ◌∙◌, ap, arith, get_or}
+use Rattle.std.proofs.Common.{◌≡◌, ℕ, ◌+◌, ◌≤◌, ◌==◌, ◌&&◌, Bool, true, false, List, [], ◌∷◌, ◌++◌, Option, Some, None, refl, sym, ◌∙◌, ap, arith, get_or}
 use Rattle.std.specs.Prelude.{slice_get, slice_set}
 use Rattle.std.specs.List.{count_by, remove, filter}
 use Rattle.std.proofs.lemmas.Bool.{and_parts, false≢true, eq-eqb, eqb-true}
@@ -24,15 +24,17 @@ use Rattle.rt_model.specs.Completion.{Completion, is_at}
 use Rattle.rt_model.specs.Messages.{asked_of}
 use Rattle.rt_model.proofs.Histories.{same_partition, same_sequence}
 use Rattle.rt_fsm.proofs.Table.{same_offset}
-use Rattle.rt_controller.specs.declared.job.Job.{Job}
-use Rattle.rt_controller.specs.declared.job.JobStage.{JobStage}
-use Rattle.rt_controller.specs.declared.job.JobStage.TheVariants as stage
+use Rattle.rt_commit.specs.declared.job.Job.{Job}
+use Rattle.rt_commit.specs.declared.job.JobStage.TheVariants as stage
+use Rattle.rt_commit.specs.declared.job.JobStage.{JobStage}
+use Rattle.rt_commit.specs.declared.work.Work.TheVariants as work
+use Rattle.rt_commit.specs.Job.{at_stage, commits}
+use Rattle.rt_commit.specs.Lasting.{commit_end}
+use Rattle.rt_commit.proofs.CommitEnds.{commits_to, commits_none}
 use Rattle.rt_controller.specs.declared.segment_machine.SegmentMachine.{SegmentMachine}
-use Rattle.rt_controller.specs.declared.work.Work.{Work}
-use Rattle.rt_controller.specs.declared.work.Work.TheVariants as work
-use Rattle.rt_controller.specs.Controller.{Controlling, ask_in, at_stage, commit_stage, follows, follows_by, is_committing, is_of, machine_place, named_in, read_write, without_at, without_machine}
-use Rattle.rt_controller.specs.Job.{commits}
-use Rattle.rt_controller.specs.Lasting.{commit_end, end_at, machine_end, ends_at, job_ends_at, machine_ends_at, HaveOneMachine, ArePaired}
+use Rattle.rt_controller.specs.Answers.{ask_in, commit_stage, follows, follows_by, named_in, read_write}
+use Rattle.rt_controller.specs.Controller.{Controlling, is_committing, is_of, machine_place, without_at, without_machine}
+use Rattle.rt_controller.specs.Lasting.{end_at, machine_end, ends_at, job_ends_at, machine_ends_at, HaveOneMachine, ArePaired}
 use Rattle.rt_controller.proofs.Paired.{one_if, count_push, count_set, count_remove, remove_set, position_none, one_and, and_no, filter_counts, filter_fewer, Moves}
 use Rattle.rt_controller.proofs.Turning.{TurnsTo}
 
@@ -197,29 +199,6 @@ same_ends p s x y j m e k =
     ap (λ (q : Partition). ends_at p s x q m.sequence (machine_end m.machine)) k.partition
     ∙ ap (λ (t : Sequence). ends_at p s x j.asked.partition t (machine_end m.machine)) k.sequence
     ∙ ap (λ (o : Option Offset). ends_at p s x j.asked.partition j.asked.sequence o) (k.end ∙ sym e)
-
--- a job is a commit job where it commits up to an offset
-ends_by_work : (b : Bool) (w : Work) → commits (stage.IdealRead w []) ≡ b → cond b ((x : Offset) × (commit_end (stage.IdealRead w []) ≡ Some x)) (commit_end (stage.IdealRead w []) ≡ None)
-ends_by_work true (work.Commit done) e = (_, refl)
-ends_by_work true work.Offline e = absurd (false≢true e)
-ends_by_work false (work.Commit done) e = absurd (false≢true (sym e))
-ends_by_work false work.Offline e = refl
-
-pub commits_to : (s : JobStage) → commits s ≡ true → (x : Offset) × (commit_end s ≡ Some x)
-commits_to (stage.Check from end path) e = (end, refl)
-commits_to (stage.Done from commit) e = (commit.end, refl)
-commits_to (stage.Next done) e = (_, refl)
-commits_to (stage.IdealRead w found) e = ends_by_work true w e
-commits_to (stage.IdealSet w found ideal) e = ends_by_work true w e
-commits_to stage.Ended e = absurd (false≢true e)
-
-commits_none : (s : JobStage) → commits s ≡ false → commit_end s ≡ None
-commits_none (stage.Check from end path) e = absurd (false≢true (sym e))
-commits_none (stage.Done from commit) e = absurd (false≢true (sym e))
-commits_none (stage.Next done) e = absurd (false≢true (sym e))
-commits_none (stage.IdealRead w found) e = ends_by_work false w e
-commits_none (stage.IdealSet w found ideal) e = ends_by_work false w e
-commits_none stage.Ended e = refl
 
 module _ (ms : List SegmentMachine) (js : List Job) (place : ℕ) (j : Job) (to : JobStage) (at : slice_get js place ≡ Some j)
     (one : HaveOneMachine ms) (k : ArePaired ms js) where

@@ -50,15 +50,17 @@ use Rattle.rt_past.specs.IsPast.{IsPast}
 use Rattle.rt_past.specs.Past.{Past}
 use Rattle.rt_past.specs.Requests.{IsRequest}
 use Rattle.rt_past.proofs.Uploads.{own_bytes}
+use Rattle.rt_commit.specs.Assignment.{Assigned, assigned_by, is_replica, replicas_in}
+use Rattle.rt_commit.specs.Calls.{Makes}
+use Rattle.rt_commit.specs.Told.{ToldDeep}
 use Rattle.rt_controller.specs.declared.segment_machine.SegmentMachine.{SegmentMachine}
 use Rattle.rt_controller.specs.declared.starting.NamedFile.{NamedFile}
-use Rattle.rt_controller.specs.Assignment.{Assigned, assigned_by, is_replica, replicas_in}
-use Rattle.rt_controller.specs.Calls.{Makes}
-use Rattle.rt_controller.specs.Controller.{Controlling, Handling, Turn, not_leading, uploads, not_assigned, past_last, has_machine, has_none, turn_of, call_of, handled_at, at_machine, after_read, by_node, by_status, first_state, follows, commit_stage, named_file, status_of, fails, follows_by, after_put}
+use Rattle.rt_controller.specs.Answers.{Handling, follows, commit_stage, named_file, status_of, fails, follows_by, after_put}
+use Rattle.rt_controller.specs.Controller.{Controlling}
+use Rattle.rt_controller.specs.Requests.{Turn, not_leading, uploads, not_assigned, past_last, has_machine, has_none, turn_of, call_of, handled_at, at_machine, after_read, by_node, by_status, first_state}
 use Rattle.rt_controller.specs.Right.{IsPossible, IsPossibleStatus, IsPossiblyHandled}
-use Rattle.rt_controller.specs.Told.{ToldDeep}
-use Rattle.rt_controller.proofs.KeepsRequests.{Tells, told_turn}
 use Rattle.rt_controller.proofs.Reacting.{IsOwn, IsOwnCause, IsOwnSaid, owned}
+use Rattle.rt_controller.proofs.Turns.{Tells, told_turn}
 
 abbrev Possible : Handling → Type 0
 Possible x = IsPossiblyHandled x.handled

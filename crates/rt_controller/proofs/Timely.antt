@@ -25,11 +25,13 @@ use Rattle.rt_fsm.proofs.Offsets.{starts}
 use Rattle.rt_past.specs.IsPast.{IsPast}
 use Rattle.rt_past.specs.Past.{Past}
 use Rattle.rt_store.specs.Meaning.{Meaning}
+use Rattle.rt_commit.specs.Calls.{DeepMeaning}
 use Rattle.rt_controller.specs.declared.handled.Handled.{Handled}
 use Rattle.rt_controller.specs.declared.segment_machine.SegmentMachine.{SegmentMachine}
-use Rattle.rt_controller.specs.Calls.{DeepMeaning}
-use Rattle.rt_controller.specs.Controller.{Controlling, Handling, Turn, not_leading, not_assigned, past_last, has_machine, asked_turn, at_machine, by_place, follows, follows_by, kind_turn, leads_to, machine_place, named_in, replaced, turn_of, with_machine}
+use Rattle.rt_controller.specs.Answers.{Handling, follows, follows_by, leads_to, named_in}
+use Rattle.rt_controller.specs.Controller.{Controlling, machine_place, replaced, with_machine}
 use Rattle.rt_controller.specs.Lasting.{IsControllerOver, IsMachineOver}
+use Rattle.rt_controller.specs.Requests.{Turn, not_leading, not_assigned, past_last, has_machine, asked_turn, at_machine, by_place, kind_turn, turn_of}
 use Rattle.rt_controller.specs.Right.{IsTimely, commit_job, commit_started, job_of, left_in, left_of}
 use Rattle.rt_controller.specs.Steps.{Handles, HandlesAt}
 use Rattle.rt_controller.proofs.JobsStay.{found_job}

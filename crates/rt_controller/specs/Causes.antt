@@ -1,17 +1,11 @@
 -- The causes of what a controller answers.
-use Rattle.std.specs.Prelude.{◌≡◌, ◌<◌, ◌⊎◌}
+use Rattle.std.specs.Prelude.{◌≡◌}
 use Rattle.rt_model.specs.declared.job_step.JobStep.{JobStep}
 use Rattle.rt_model.specs.declared.job_step.StepOutcome.TheVariants as outcome
 use Rattle.rt_model.specs.declared.reply.FailCause.TheVariants as cause
 use Rattle.rt_model.specs.declared.reply.ReplyStatus.TheVariants as status
-use Rattle.rt_store.specs.Meaning.{Meaning}
-use Rattle.rt_controller.specs.declared.handled.Handled.{Handled}
 use Rattle.rt_controller.specs.declared.handled.Handled.TheVariants as handled
-use Rattle.rt_controller.specs.Calls.{DeepMeaning}
-
--- the count of faults of one of the stores rose
-abbrev pub Rose : Meaning → Meaning → DeepMeaning → DeepMeaning → Type 0
-Rose s t d e = (s.faults < t.faults) ⊎ (d.faults < e.faults)
+use Rattle.rt_controller.specs.declared.handled.Handled.{Handled}
 
 -- a request failed for a fault of a store
 abbrev pub IsFault : Handled → Type 0

@@ -1,13 +1,10 @@
-pub mod Assignment
-pub mod Calls
+pub mod Answers
 pub mod Causes
-pub mod Changes
 pub mod Controller
-pub mod Found
 pub mod IsController
-pub mod Job
 pub mod Lasting
-pub mod Laws
+pub mod Requests
 pub mod Right
 pub mod Steps
 pub mod Told
+pub mod Working

@@ -1,13 +1,8 @@
 -- What a controller answers over a past, and how a commit begins and ends.
-use Rattle.std.specs.Prelude.{◌≡◌, ◌⊎◌, ℕ, ◌<◌, ◌≤◌, ◌+◌, List, [], ◌∷◌, ◌++◌, length, Bool, true, false, slice_get, slice_set, Option, Some, None}
+use Rattle.std.specs.Prelude.{◌≡◌, ℕ, ◌<◌, ◌≤◌, ◌+◌, List, [], ◌∷◌, ◌++◌, length, true, slice_get, slice_set, Option, Some, None}
 use Rattle.rt_base.specs.declared.numbers.Moment.{Moment}
-use Rattle.rt_base.specs.declared.numbers.Partition.{Partition}
-use Rattle.rt_base.specs.declared.numbers.Sequence.{Sequence}
 use Rattle.rt_model.specs.declared.job_step.JobStep.{JobStep}
-use Rattle.rt_model.specs.declared.job_step.StepName.{StepName}
-use Rattle.rt_model.specs.declared.job_step.StepName.TheVariants as name
 use Rattle.rt_model.specs.declared.machine_state.MachineState.TheVariants.{CommitterUploading, Committing}
-use Rattle.rt_model.specs.declared.node.Seen.{Seen}
 use Rattle.rt_model.specs.declared.reply.FailCause.{FailCause}
 use Rattle.rt_model.specs.declared.reply.FailCause.TheVariants as cause
 use Rattle.rt_model.specs.declared.reply.Reply.{Reply}
@@ -22,26 +17,20 @@ use Rattle.rt_store.specs.Meaning.{Told}
 use Rattle.rt_past.specs.IsPast.{IsPast}
 use Rattle.rt_past.specs.Past.{Past, Grows, with_files, with_history}
 use Rattle.rt_past.specs.Replies.{IsReply}
-use Rattle.rt_past.specs.Segments.{WasDone}
-use Rattle.rt_controller.specs.declared.handled.Handled.{Handled}
+use Rattle.rt_commit.specs.declared.job.Job.{Job}
+use Rattle.rt_commit.specs.declared.job.JobStage.TheVariants as stage
+use Rattle.rt_commit.specs.Job.{commits}
+use Rattle.rt_commit.specs.Lasting.{commit_end}
+use Rattle.rt_commit.specs.Laws.{steps_left}
+use Rattle.rt_commit.specs.Right.{EndsSo, MetFault}
+use Rattle.rt_commit.specs.Told.{ToldDeep}
 use Rattle.rt_controller.specs.declared.handled.Handled.TheVariants as handled
-use Rattle.rt_controller.specs.declared.job.Job.{Job}
-use Rattle.rt_controller.specs.declared.job.JobStage.TheVariants as stage
+use Rattle.rt_controller.specs.declared.handled.Handled.{Handled}
 use Rattle.rt_controller.specs.declared.segment_machine.SegmentMachine.{SegmentMachine}
-use Rattle.rt_controller.specs.Calls.{Call}
-use Rattle.rt_controller.specs.Controller.{Controlling, Handling, job_place, machine_place, read_write, with_machine}
-use Rattle.rt_controller.specs.Job.{commits}
-use Rattle.rt_controller.specs.Lasting.{AreTries, IsControllerOver, commit_end}
-use Rattle.rt_controller.specs.Laws.{steps_left}
-use Rattle.rt_controller.specs.Told.{ToldDeep, store_after, deep_after}
-
--- what was written and what was put are all that the stores tell
-abbrev pub told_past : Past → Told → ToldDeep → Past
-told_past past t d = record past { history = t.writes; files = d.files }
-
--- and so they are after a call
-abbrev pub past_after : Past → Told → ToldDeep → Call → Past
-past_after past t d call = told_past past (store_after t call) (deep_after d call)
+use Rattle.rt_controller.specs.Answers.{Handling, read_write}
+use Rattle.rt_controller.specs.Controller.{Controlling, machine_place, with_machine}
+use Rattle.rt_controller.specs.Lasting.{IsControllerOver}
+use Rattle.rt_controller.specs.Working.{job_place}
 
 -- ---- answers
 
@@ -84,39 +73,6 @@ abbrev pub IsPossiblyHandled : Handled → Type 0
 IsPossiblyHandled (handled.Reply reply) = IsPossibleStatus reply.status
 IsPossiblyHandled (handled.Job number) = Unit {0}
 
--- ---- how a commit ends
-
--- by its step: the segment's node is gone or has another version, ten sets of the ideal state found another version than
--- the one just read, or a store met a fault in the step
-abbrev pub FailsSo : List Seen → Type 0 → StepName → FailCause → Type 0
-FailsSo h rose n cause.NoSegment = n ≡ name.Done
-FailsSo h rose n (cause.VersionChanged expected found) = (n ≡ name.Done) × (expected ≡ found → ⊥)
-FailsSo h rose n (cause.IdealChanged versions) = (n ≡ name.IdealSet) × (length versions ≡ 10) × AreTries h versions
-FailsSo h rose n cause.StoreFault = rose
-FailsSo h rose n (cause.BadUpload wanted found) = ⊥
-FailsSo h rose n (cause.WrongState s) = ⊥
-FailsSo h rose n (cause.WrongOffset x o) = ⊥
-FailsSo h rose n (cause.NotCommitter i) = ⊥
-FailsSo h rose n cause.NotReplica = ⊥
-
--- a job that commits ends with the Done metadata of its segment, which was written, or fails so; another one is processed
-abbrev pub StatusSo : List Seen → Partition → Sequence → Type 0 → Bool → StepName → ReplyStatus → Type 0
-StatusSo h p s rose commit n (status.CommitSuccess seen) = (commit ≡ true) × WasDone h p s seen
-StatusSo h p s rose commit n status.Processed = commit ≡ false
-StatusSo h p s rose commit n (status.Failed because) = FailsSo h rose n because
-StatusSo h p s rose commit n (status.Keep seen) = ⊥
-StatusSo h p s rose commit n (status.UploadSuccess path) = ⊥
-StatusSo h p s rose commit n status.Hold = ⊥
-StatusSo h p s rose commit n (status.CatchUp offset) = ⊥
-StatusSo h p s rose commit n status.Discard = ⊥
-StatusSo h p s rose commit n (status.Commit offset) = ⊥
-StatusSo h p s rose commit n status.NotLeader = ⊥
-StatusSo h p s rose commit n status.CommitContinue = ⊥
-
-abbrev pub EndsSo : List Seen → Partition → Sequence → Type 0 → Bool → StepName → Option Reply → Type 0
-EndsSo h p s rose commit n None = Unit {0}
-EndsSo h p s rose commit n (Some reply) = StatusSo h p s rose commit n reply.status
-
 -- ---- the job of a number
 
 abbrev pub job_at : List Job → Option ℕ → Option Job
@@ -155,10 +111,6 @@ pub record HandlesOver (setup : Setup) (past : Past) (u : Told) (e : ToldDeep) (
   pub possible : IsPossiblyHandled what
   pub stay : (m : ℕ) (k : Job) → job_of c m ≡ Some k → job_of new m ≡ Some k
   pub id : new.id ≡ c.id
-
--- one of the stores met a fault
-abbrev pub MetFault : Told → Told → ToldDeep → ToldDeep → Type 0
-MetFault t u d e = (t.faults.met < u.faults.met) ⊎ (d.faults.met < e.faults.met)
 
 -- what a step of the job of a number leaves, beside what it did
 pub record WorksOver (setup : Setup) (past : Past) (t u : Told) (d e : ToldDeep) (c new : Controlling) (n : ℕ) (step : JobStep) : Type 0 where

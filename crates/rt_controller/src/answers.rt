@@ -4,12 +4,9 @@ ghost use Rattle.rt_model.specs.Completion.{IsBeforePick};
 ghost use Rattle.rt_model.specs.Finished.{abandoned_row, committed_row, keeps};
 ghost use Rattle.rt_model.specs.Messages.{asked_of};
 ghost use Rattle.rt_controller.specs.declared.handled.Handled.TheVariants as handled;
-ghost use Rattle.rt_controller.specs.Controller.{
-  claimed,
-  first_state,
-  reply_to,
-  status_of,
-};
+ghost use Rattle.rt_controller.specs.Answers.{claimed, status_of};
+ghost use Rattle.rt_controller.specs.Controller.{reply_to};
+ghost use Rattle.rt_controller.specs.Requests.{first_state};
 
 use crate::Handled;
 use rt_base::{Header, Offset, Range};

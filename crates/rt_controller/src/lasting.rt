@@ -17,16 +17,21 @@ ghost use Rattle.rt_store.specs.Contents.{starting_of};
 ghost use Rattle.rt_store.specs.Meaning.{Meaning, Told};
 ghost use Rattle.rt_store.specs.Memory.{means};
 ghost use Rattle.rt_controller.specs.declared.handled.Handled.{Handled};
-ghost use Rattle.rt_controller.specs.declared.job.Job.{Job};
+ghost use Rattle.rt_commit.specs.declared.job.Job.{Job};
 ghost use Rattle.rt_controller.specs.declared.segment_machine.SegmentMachine.{SegmentMachine};
-ghost use Rattle.rt_controller.specs.Calls.{DeepMeaning};
-ghost use Rattle.rt_controller.specs.Controller.{Controlling, Handling, Working, beginning, believing, crashed, handle_call, work_call};
+ghost use Rattle.rt_commit.specs.Calls.{DeepMeaning};
+ghost use Rattle.rt_controller.specs.Answers.{Handling};
+ghost use Rattle.rt_controller.specs.Controller.{Controlling, beginning, believing, crashed};
+ghost use Rattle.rt_controller.specs.Requests.{handle_call};
+ghost use Rattle.rt_controller.specs.Working.{Working, work_call};
 ghost use Rattle.rt_controller.specs.IsController.{IsController};
-ghost use Rattle.rt_controller.specs.Job.{commits};
+ghost use Rattle.rt_commit.specs.Job.{commits};
 ghost use Rattle.rt_controller.specs.Lasting.{HasItsMachine, HasOneJob, IsControllerOver, IsOnlyJob};
-ghost use Rattle.rt_controller.specs.Right.{HandlesOver, IsHandled, IsReplied, IsTimely, WorksOver, commit_job, commit_started, job_of, left_of, past_after, told_past};
+ghost use Rattle.rt_commit.specs.Right.{past_after, told_past};
+ghost use Rattle.rt_controller.specs.Right.{HandlesOver, IsHandled, IsReplied, IsTimely, WorksOver, commit_job, commit_started, job_of, left_of};
 ghost use Rattle.rt_controller.specs.Steps.{Handles, Works};
-ghost use Rattle.rt_controller.specs.Told.{ToldDeep, handled_on, worked_on};
+ghost use Rattle.rt_commit.specs.Told.{ToldDeep};
+ghost use Rattle.rt_controller.specs.Told.{handled_on, worked_on};
 
 /// What lasts of a controller stays true as the past grows.
 pub fn what_lasts_stays_true()

@@ -6,30 +6,21 @@
 #![tactic(auto)]
 
 mod answers;
-mod assignment;
-mod changes;
 mod controller;
-mod found_versions;
 mod handled;
-mod job;
-mod job_steps;
 mod lasting;
 mod laws;
-mod nodes;
+mod requests;
 mod segment_machine;
 mod starting;
-mod work;
+mod working;
 
-pub use assignment::Assignment;
 pub use controller::Controller;
-pub use found_versions::FoundVersions;
 pub use handled::{Handled, JobRefused};
-pub use job::{Job, JobStage, Stepped};
 pub use lasting::{
     a_committing_machine_has_its_job, a_job_keeps_the_past_right, a_request_keeps_the_past_right,
     a_request_over_a_past, a_step_over_a_past, a_timely_commit_end_starts_its_job,
     what_lasts_is_ready, what_lasts_stays_true, what_needs_no_store_keeps_what_lasts,
 };
-pub use laws::{a_job_replies_by_its_first_failure, jobs_end, told_calls_are_exact};
+pub use laws::told_calls_are_exact;
 pub use segment_machine::SegmentMachine;
-pub use work::Work;

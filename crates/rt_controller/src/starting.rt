@@ -1,11 +1,12 @@
 ghost use Rattle.std.specs.Prelude.{◌≡◌, ◌<◌, ◌^◌, IfOk};
 ghost use Rattle.std.specs.Vec.{vec_len, vec_capacity};
-ghost use Rattle.rt_controller.specs.Controller.{Controlling, commit_stage, follows_by, leads_to, named_file};
+ghost use Rattle.rt_controller.specs.Answers.{commit_stage, follows_by, leads_to, named_file};
+ghost use Rattle.rt_controller.specs.Controller.{Controlling};
 
+use crate::Handled;
 use crate::answers::{replies, status_of};
-use crate::job::{Job, JobStage};
-use crate::{FoundVersions, Handled, Work};
 use rt_base::Offset;
+use rt_commit::{FoundVersions, Job, JobStage, Work};
 use rt_lists::{Copied, Text};
 use rt_model::{Key, Node, Reaction, ReplyStatus, Request, RequestKind, Seen, SeenMeta};
 use std::alloc::{AllocError, Global};

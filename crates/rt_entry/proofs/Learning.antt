@@ -4,9 +4,9 @@ use Rattle.std.proofs.lemmas.Bool.{leb-true}
 use Rattle.rt_base.specs.declared.numbers.Offset.{Offset}
 use Rattle.rt_model.specs.declared.seg_meta.SeenMeta.{SeenMeta}
 use Rattle.rt_model.specs.declared.setup.Setup.{Setup}
-use Rattle.rt_replica.specs.declared.consumer.Consumer.{Consumer}
-use Rattle.rt_replica.specs.Consumer.{cur, end_of}
-use Rattle.rt_replica.specs.Requests.{learns_in}
+use Rattle.rt_consumer.specs.declared.consumer.Consumer.{Consumer}
+use Rattle.rt_consumer.specs.Consumer.{cur, end_of}
+use Rattle.rt_consumer.specs.Requests.{learns_in}
 use Rattle.rt_replica.proofs.Keeps.{learned_is}
 use Rattle.rt_entry.specs.declared.entry.Entry.{Entry}
 use Rattle.rt_entry.specs.declared.entry.Entry.TheVariants.{Replica, Committed}

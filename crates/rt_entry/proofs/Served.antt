@@ -15,12 +15,12 @@ use Rattle.rt_model.specs.Aggregate.{taken}
 use Rattle.rt_agg.specs.declared.served.Served.{Served}
 use Rattle.rt_agg.specs.Grouped.{Holds}
 use Rattle.rt_scan.specs.Scanned.{FitsConsuming, FitsSealed, rows_before}
-use Rattle.rt_replica.specs.declared.consumer.Consumer.{Consumer}
-use Rattle.rt_replica.specs.declared.settings.Settings.{Settings}
-use Rattle.rt_replica.specs.declared.phase.Phase.{Phase}
-use Rattle.rt_replica.specs.declared.phase.Phase.TheVariants as phase
-use Rattle.rt_replica.specs.Consumer.{HaveColumns, IsPhase}
-use Rattle.rt_replica.specs.Serving as replica
+use Rattle.rt_consumer.specs.declared.consumer.Consumer.{Consumer}
+use Rattle.rt_consumer.specs.declared.settings.Settings.{Settings}
+use Rattle.rt_consumer.specs.declared.phase.Phase.{Phase}
+use Rattle.rt_consumer.specs.declared.phase.Phase.TheVariants as phase
+use Rattle.rt_consumer.specs.Consumer.{HaveColumns, IsPhase}
+use Rattle.rt_consumer.specs.Serving as replica
 use Rattle.rt_entry.specs.declared.entry.Entry.{Entry}
 use Rattle.rt_entry.specs.declared.entry.Entry.TheVariants.{Replica, Committed}
 use Rattle.rt_entry.specs.declared.refused.ServeRefused.{ServeRefused}

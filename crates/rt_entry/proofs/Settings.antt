@@ -8,18 +8,18 @@ use Rattle.rt_model.specs.declared.request.Request.{Request}
 use Rattle.rt_model.specs.declared.seg_meta.SeenMeta.{SeenMeta}
 use Rattle.rt_model.specs.Messages.{same_number}
 use Rattle.rt_msgs.specs.Numbered.{Numbered}
-use Rattle.rt_replica.specs.declared.consumer.Consumer.{Consumer}
-use Rattle.rt_replica.specs.declared.phase.Phase.{Phase}
-use Rattle.rt_replica.specs.declared.phase.Phase.TheVariants as phase
-use Rattle.rt_replica.specs.declared.refused.ReplicaRefused.{ReplicaRefused}
-use Rattle.rt_replica.specs.declared.refused.ReplicaRefused.TheVariants.{NotDue, Memory}
-use Rattle.rt_replica.specs.declared.replies.Turn.{Turn}
-use Rattle.rt_replica.specs.declared.replies.Turn.TheVariants.{Stays, Goes}
-use Rattle.rt_replica.specs.declared.waited.Waited.{Waited}
-use Rattle.rt_replica.specs.Consumer.{number_of}
-use Rattle.rt_replica.specs.Batch.{Consumes, asked_in, taken, taken_in}
-use Rattle.rt_replica.specs.Replies.{replied, replied_to, turned, turn_by}
-use Rattle.rt_replica.specs.Requests.{Builds, Does, Extends, Requests, learned}
+use Rattle.rt_consumer.specs.declared.consumer.Consumer.{Consumer}
+use Rattle.rt_consumer.specs.declared.phase.Phase.{Phase}
+use Rattle.rt_consumer.specs.declared.phase.Phase.TheVariants as phase
+use Rattle.rt_consumer.specs.declared.refused.ReplicaRefused.{ReplicaRefused}
+use Rattle.rt_consumer.specs.declared.refused.ReplicaRefused.TheVariants.{NotDue, Memory}
+use Rattle.rt_consumer.specs.declared.replies.Turn.{Turn}
+use Rattle.rt_consumer.specs.declared.replies.Turn.TheVariants.{Stays, Goes}
+use Rattle.rt_consumer.specs.declared.waited.Waited.{Waited}
+use Rattle.rt_consumer.specs.Consumer.{number_of}
+use Rattle.rt_consumer.specs.Batch.{Consumes, asked_in, taken, taken_in}
+use Rattle.rt_consumer.specs.Replies.{replied, replied_to, turned, turn_by}
+use Rattle.rt_consumer.specs.Requests.{Builds, Does, Extends, Requests, learned}
 
 abbrev KeepsSettings : Consumer → Consumer → Type 0
 KeepsSettings old new = new.settings ≡ old.settings

@@ -1,16 +1,16 @@
 -- The calls of an entry: what each comes to.
 use Rattle.std.specs.Prelude.{◌≡◌, ◌<◌, Bool, false, length, Result, Ok, Err, ◌≤◌}
 use Rattle.rt_model.specs.declared.reply.Reply.{Reply}
-use Rattle.rt_replica.specs.declared.consumer.Consumer.{Consumer}
-use Rattle.rt_replica.specs.declared.refused.ReplicaRefused.{ReplicaRefused}
-use Rattle.rt_replica.specs.declared.refused.ReplicaRefused.TheVariants as replica
-use Rattle.rt_replica.specs.Replies.{is_answer, replied}
+use Rattle.rt_consumer.specs.declared.consumer.Consumer.{Consumer}
+use Rattle.rt_consumer.specs.declared.refused.ReplicaRefused.{ReplicaRefused}
+use Rattle.rt_consumer.specs.declared.refused.ReplicaRefused.TheVariants as replica
+use Rattle.rt_consumer.specs.Replies.{is_answer, replied}
 use Rattle.rt_entry.specs.declared.entry.Entry.{Entry}
 use Rattle.rt_entry.specs.declared.entry.Entry.TheVariants.{Replica, Committed}
 use Rattle.rt_entry.specs.declared.refused.ServerRefused.{ServerRefused}
 use Rattle.rt_entry.specs.declared.refused.ServerRefused.TheVariants.{NotDue, StoreFault, BadFile, Memory}
 use Rattle.rt_stream.specs.Log.{Log, messages_of}
-use Rattle.rt_replica.specs.Consumer.{cur}
+use Rattle.rt_consumer.specs.Consumer.{cur}
 
 -- what a call comes to: what it answers, and what it leaves
 abbrev pub Step : Type 0 → Type 0 → Type 0

@@ -11,8 +11,8 @@ use Rattle.rt_model.specs.Aggregate.{taken}
 use Rattle.rt_agg.specs.declared.served.Served.{Served}
 use Rattle.rt_agg.specs.Grouped.{Holds}
 use Rattle.rt_scan.specs.Scanned.{rows_before, FitsConsuming, FitsSealed}
-use Rattle.rt_replica.specs.declared.phase.Phase.{Phase}
-use Rattle.rt_replica.specs.declared.phase.Phase.TheVariants as phase
+use Rattle.rt_consumer.specs.declared.phase.Phase.{Phase}
+use Rattle.rt_consumer.specs.declared.phase.Phase.TheVariants as phase
 use Rattle.rt_entry.specs.declared.entry.Entry.{Entry}
 use Rattle.rt_entry.specs.declared.entry.Entry.TheVariants.{Replica, Committed}
 use Rattle.rt_entry.specs.declared.refused.ServeRefused.{ServeRefused}

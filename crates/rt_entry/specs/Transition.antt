@@ -11,8 +11,8 @@ use Rattle.rt_model.specs.declared.replica_state.ReplicaState.TheVariants as sta
 use Rattle.rt_model.specs.declared.seg_meta.SeenMeta.{SeenMeta}
 use Rattle.rt_store.specs.declared.refused.StoreRefused.{StoreRefused}
 use Rattle.rt_store.specs.declared.refused.StoreRefused.TheVariants.{NoNode, Exists, VersionChanged, Failed, Memory}
-use Rattle.rt_replica.specs.Consumer.{cur, state_of}
-use Rattle.rt_replica.specs.Requests.{learned, learns_in}
+use Rattle.rt_consumer.specs.Consumer.{cur, state_of}
+use Rattle.rt_consumer.specs.Requests.{learned, learns_in}
 use Rattle.rt_entry.specs.declared.entry.Entry.{Entry}
 use Rattle.rt_entry.specs.declared.entry.Entry.TheVariants.{Replica, Committed}
 use Rattle.rt_entry.specs.declared.refused.ServerRefused.{ServerRefused}

@@ -1,9 +1,9 @@
 ghost use Rattle.std.specs.Prelude.{◌≡◌, ◌<◌, true, Some, option_map};
-ghost use Rattle.rt_replica.specs.Consumer.{end_of};
+ghost use Rattle.rt_consumer.specs.Consumer.{end_of};
 ghost use Rattle.rt_entry.specs.declared.entry.Entry.TheVariants as entry;
 ghost use Rattle.rt_entry.specs.Entry.{file_in, is_wanting, replica_in, rows_in, state_by, state_in, wanting};
 ghost use Rattle.rt_entry.specs.Transition.{goes_on, gone_on, is_open, is_open_entry, told};
-ghost use Rattle.rt_replica.specs.declared.consumer.Consumer.{Consumer};
+ghost use Rattle.rt_consumer.specs.declared.consumer.Consumer.{Consumer};
 
 use rt_base::Offset;
 use rt_model::{ReplicaState, SeenMeta, Status};

@@ -1,7 +1,7 @@
 //! The calls of an entry's replica.
 ghost use Rattle.std.specs.Prelude.{◌≡◌, ◌<◌, ◌^◌};
-ghost use Rattle.rt_replica.specs.Batch.{Consumes};
-ghost use Rattle.rt_replica.specs.Requests.{Builds, Does, Extends, Requests, forced, stopped};
+ghost use Rattle.rt_consumer.specs.Batch.{Consumes};
+ghost use Rattle.rt_consumer.specs.Requests.{Builds, Does, Extends, Requests, forced, stopped};
 ghost use Rattle.rt_entry.specs.Calls.{EntryCall, TakesFrom, entry_replied};
 
 use crate::refused::answered_as;

@@ -11,9 +11,9 @@ use Rattle.std.proofs.lemmas.List.{append-nil, length-append}
 use Rattle.std.proofs.lemmas.Slice.Eq.{starts_is}
 use Rattle.rt_lines.specs.declared.cluster.Cluster.{Cluster}
 use Rattle.rt_lines.specs.declared.cluster.Options.{Options}
-use Rattle.rt_lines.specs.Cluster.{cluster_of, end_by, end_of, field_of, format_of, formatted, next_field, no_options, option_by, options_by, options_of, retained}
+use Rattle.rt_lines.specs.Cluster.{cluster_of, end_by, end_of, format_of, formatted, next_field, no_options, option_by, options_by, options_of, retained}
 use Rattle.rt_lines.specs.ClusterLine.{IsClusterLine, SaysFormat, SaysRetention, Spells}
-use Rattle.rt_lines.specs.Words.{after_prefix, is_numeral, number_of, parted_at, place_in, then_some}
+use Rattle.rt_lines.specs.Words.{field_of, after_prefix, is_numeral, number_of, parted_at, place_in, then_some}
 
 same_some : {A : Type 0} (x y : A) → Some x ≡ Some y → x ≡ y
 same_some x y e = cc

@@ -6,8 +6,8 @@ use Rattle.rt_base.specs.declared.limits.TheConstants.{LAST_MOMENT, MOST_CONTROL
 use Rattle.rt_base.specs.declared.which.Which.{Which}
 use Rattle.rt_lines.specs.declared.cluster.Cluster.{Cluster}
 use Rattle.rt_lines.specs.declared.cluster.Options.{Options}
-use Rattle.rt_lines.specs.Cluster.{field_of, next_field, format_of, retained, formatted, no_options, option_by, options_by, options_of, end_by, end_of, cluster_of, is_within, cluster_fault}
-use Rattle.rt_lines.specs.Words.{then_some, after_prefix, parted_at}
+use Rattle.rt_lines.specs.Cluster.{next_field, format_of, retained, formatted, no_options, option_by, options_by, options_of, end_by, end_of, cluster_of, is_within, cluster_fault}
+use Rattle.rt_lines.specs.Words.{field_of, then_some, after_prefix, parted_at}
 
 some_given : {A B : Type 0} (P : B → Type 0) (Q : A → Type 0) (o : Option A) (f : A → Option B) → IfSome o Q → ((x : A) → Q x → IfSome (f x) P) → IfSome (then_some o f) P
 some_given P Q None f h k = tt

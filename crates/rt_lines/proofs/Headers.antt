@@ -23,7 +23,7 @@ use Rattle.rt_lines.specs.declared.play_fault.PlayFault.TheVariants.{Usage, Refu
 use Rattle.rt_lines.specs.Cluster.{cluster_of, cluster_fault}
 use Rattle.rt_lines.specs.Lines.{ScriptLines}
 use Rattle.rt_lines.specs.Words.{then_some, after_prefix}
-use Rattle.rt_lines.specs.Header.{NumberedLine, then_ok, if_taken, text_behind, if_well_formed, schema_at, table_at, setup_of, setup_with, setup_at, with_rest, next_line, header_of, Says, Reads, ReadsHeader}
+use Rattle.rt_lines.specs.Header.{NumberedLine, then_ok, refused_by, if_taken, text_behind, if_well_formed, SchemaSaid, schema_said, schema_at, TableSaid, table_said, table_at, setup_of, setup_with, setup_at, with_rest, next_line, tables_of, setup_in, header_of, IsTableSaid, Says, Reads, ReadsHeader}
 
 -- a text in UTF-8, or not
 pub is_text : (word line text : List ℕ) → after_prefix word line ≡ Some text → IsUtf8 text → text_behind word line ≡ Some text
@@ -36,27 +36,22 @@ no_text_at text false e bad = refl
 pub is_no_text : (word line text : List ℕ) → after_prefix word line ≡ Some text → (IsUtf8 text → ⊥) → text_behind word line ≡ None
 is_no_text word line text e bad = ap (λ o. then_some o (λ t. cond (is_utf8 t) (Some t) None)) e ∙ no_text_at text (is_utf8 text) refl bad
 
--- what a text's reader answers, its line says
-answered_says : {A : Type 0} (reason : ℕ → LineReason) (number : ℕ) (wanted result : Result A SchemaRefused) → Answers wanted result → Says (if_taken reason number wanted) (if_taken reason number result)
-answered_says reason number wanted (Ok x) a = ap (if_taken reason number) (sym a)
-answered_says reason number wanted (Err refused.NotJson) a = ap (if_taken reason number) (sym a)
-answered_says reason number wanted (Err refused.MissingField) a = ap (if_taken reason number) (sym a)
-answered_says reason number wanted (Err refused.UnknownType) a = ap (if_taken reason number) (sym a)
-answered_says reason number wanted (Err refused.DuplicateColumn) a = ap (if_taken reason number) (sym a)
-answered_says reason number wanted (Err refused.Limit) a = ap (if_taken reason number) (sym a)
-answered_says reason number wanted (Err refused.Memory) a = tt
+-- a table line whose text is refused
+stopped : (said : SchemaSaid) (number : ℕ) (text : List ℕ) (why : SchemaRefused) → Answers (table_of said.schema text) (Err why) →
+    Says (if_taken BadTable number (table_said said number text (table_of said.schema text))) (Err (refused_by BadTable number why))
+stopped said number text refused.NotJson a = ap (λ r. if_taken BadTable number (table_said said number text r)) (sym a)
+stopped said number text refused.MissingField a = ap (λ r. if_taken BadTable number (table_said said number text r)) (sym a)
+stopped said number text refused.UnknownType a = ap (λ r. if_taken BadTable number (table_said said number text r)) (sym a)
+stopped said number text refused.DuplicateColumn a = ap (λ r. if_taken BadTable number (table_said said number text r)) (sym a)
+stopped said number text refused.Limit a = ap (λ r. if_taken BadTable number (table_said said number text r)) (sym a)
+stopped said number text refused.Memory a = tt
 
-pub schema_says : (number : ℕ) (line text : List ℕ) (result : Result Schema SchemaRefused) → text_behind (codes "schema ") line ≡ Some text → Answers (schema_of text) result →
-    Says (schema_at (number, line)) (if_taken BadSchema number result)
-schema_says number line text result e a =
-    subst (λ w. Says w (if_taken BadSchema number result)) (sym (ap (λ o. if_well_formed number o (λ t. if_taken BadSchema number (schema_of t))) e))
-    (answered_says BadSchema number (schema_of text) result a)
-
-pub table_says : (schema : Schema) (number : ℕ) (line text : List ℕ) (result : Result Table SchemaRefused) → text_behind (codes "table ") line ≡ Some text → Answers (table_of schema text) result →
-    Says (table_at schema (number, line)) (if_taken BadTable number result)
-table_says schema number line text result e a =
-    subst (λ w. Says w (if_taken BadTable number result)) (sym (ap (λ o. if_well_formed number o (λ t. if_taken BadTable number (table_of schema t))) e))
-    (answered_says BadTable number (table_of schema text) result a)
+pub table_refused : (said : SchemaSaid) (number : ℕ) (line text : List ℕ) (why : SchemaRefused) (fault : PlayFault) → text_behind (codes "table ") line ≡ Some text →
+    Answers (table_of said.schema text) (Err why) → fault ≡ refused_by BadTable number why → Says (table_at said (number, line)) (Err fault)
+table_refused said number line text why fault e a is =
+    subst (λ f. Says (table_at said (number, line)) (Err f)) (sym is)
+    (subst (λ w. Says w (Err (refused_by BadTable number why))) (sym (ap (λ o. if_well_formed number o (λ t. if_taken BadTable number (table_said said number t (table_of said.schema t)))) e))
+    (stopped said number text why a))
 
 -- a line that was read says what the next line is to say
 pub line_reads : {A : Type 0} (says : NumberedLine → Result A PlayFault) (old new : ScriptLines) (line : NumberedLine) (result : Result A PlayFault) → old.lines ≡ line ∷ new.lines → new.after ≡ old.after →
@@ -89,34 +84,30 @@ reads_err wanted f old mid new Usage h = h
 reads_err wanted f old mid new ReadFault h = h
 reads_err wanted f old mid new WriteFault h = h
 
-abbrev SetupAndRest : Type 0
-SetupAndRest = Result (Setup × List NumberedLine) PlayFault
+-- what stands behind the schema line, and behind both lines
+abbrev behind_schema : ℕ → SchemaSaid × List NumberedLine → Result (TableSaid × List NumberedLine) PlayFault
+behind_schema after schema = next_line (table_at schema.0) after schema.1
 
--- what stands behind the schema line, and behind the table line
-abbrev behind_table : Schema → ℕ → Table × List NumberedLine → SetupAndRest
-behind_table schema after table = next_line (setup_at schema table.0) after table.1
+abbrev behind_tables : ℕ → TableSaid × List NumberedLine → Result (Setup × List NumberedLine) PlayFault
+behind_tables after said = setup_in said.0 (record { lines = said.1; after = after })
 
-abbrev behind_schema : ℕ → Schema × List NumberedLine → SetupAndRest
-behind_schema after schema = then_ok (next_line (table_at schema.0) after schema.1) (behind_table schema.0 after)
-
-pub header_reads : (old first second new : ScriptLines) (schema : Schema) (table : Table) (result : Result Setup PlayFault) →
-    Reads (next_line schema_at old.after old.lines) old first (Ok schema) → Reads (next_line (table_at schema) first.after first.lines) first second (Ok table) →
-    Reads (next_line (setup_at schema table) second.after second.lines) second new result → ReadsHeader old new result
-header_reads old first second new schema table result a b c =
+pub tables_read : (old first new : ScriptLines) (schema : SchemaSaid) (result : Result TableSaid PlayFault) →
+    Reads (next_line schema_at old.after old.lines) old first (Ok schema) → Reads (next_line (table_at schema) first.after first.lines) first new result → Reads (tables_of old) old new result
+tables_read old first new schema result a b =
     reads_ok (next_line schema_at old.after old.lines) (behind_schema old.after) old first new schema result a
-    (subst (λ n. Reads (behind_schema n (schema, first.lines)) first new result) a.1
-    (reads_ok (next_line (table_at schema) first.after first.lines) (behind_table schema first.after) first second new table result b
-    (subst (λ n. Reads (behind_table schema n (table, second.lines)) second new result) b.1 c)))
+    (subst (λ n. Reads (behind_schema n (schema, first.lines)) first new result) a.1 b)
 
-pub schema_stops : (old first new : ScriptLines) (fault : PlayFault) → Reads (next_line schema_at old.after old.lines) old first (Err fault) → ReadsHeader old new (Err fault)
+pub schema_stops : (old first new : ScriptLines) (fault : PlayFault) → Reads (next_line schema_at old.after old.lines) old first (Err fault) → Reads (tables_of old) old new (Err fault)
 schema_stops old first new fault a = reads_err (next_line schema_at old.after old.lines) (behind_schema old.after) old first new fault a
 
-pub table_stops : (old first second new : ScriptLines) (schema : Schema) (fault : PlayFault) →
-    Reads (next_line schema_at old.after old.lines) old first (Ok schema) → Reads (next_line (table_at schema) first.after first.lines) first second (Err fault) → ReadsHeader old new (Err fault)
-table_stops old first second new schema fault a b =
-    reads_ok (next_line schema_at old.after old.lines) (behind_schema old.after) old first new schema (Err fault) a
-    (subst (λ n. Reads (behind_schema n (schema, first.lines)) first new (Err fault)) a.1
-    (reads_err (next_line (table_at schema) first.after first.lines) (behind_table schema first.after) first second new fault b))
+pub header_reads : (old mid new : ScriptLines) (said : TableSaid) (result : Result Setup PlayFault) →
+    Reads (tables_of old) old mid (Ok said) → Reads (setup_in said mid) mid new result → ReadsHeader old new result
+header_reads old mid new said result a b =
+    reads_ok (tables_of old) (behind_tables old.after) old mid new said result a
+    (subst (λ n. Reads (behind_tables n (said, mid.lines)) mid new result) a.1 b)
+
+pub tables_stop : (old mid new : ScriptLines) (fault : PlayFault) → Reads (tables_of old) old mid (Err fault) → ReadsHeader old new (Err fault)
+tables_stop old mid new fault a = reads_err (tables_of old) (behind_tables old.after) old mid new fault a
 
 -- what a header that is taken has
 answers_itself : {A : Type 0} (wanted : Result A SchemaRefused) → Answers wanted wanted
@@ -148,15 +139,31 @@ then_has : {A B : Type 0} (P : B → Type 0) (Q : A → Type 0) (r : Result A Pl
 then_has P Q (Ok x) f h k = k x h
 then_has P Q (Err fault) f h k = tt
 
-schema_has : (line : NumberedLine) → IfOk (schema_at line) IsSchema
-schema_has line =
-    well_formed_has IsSchema line.0 (text_behind (codes "schema ") line.1) (λ text. if_taken BadSchema line.0 (schema_of text))
-    (λ text. if_taken_has IsSchema BadSchema line.0 (schema_of text) (answered_is_schema text (schema_of text) (answers_itself (schema_of text))))
+-- a schema line that is taken: its schema is that of its text
+record IsSchemaSaid (said : SchemaSaid) : Type 0 where
+  schema : IsSchema said.schema
+  read : schema_of said.text ≡ Ok said.schema
 
-table_has : (schema : Schema) (line : NumberedLine) → IfOk (table_at schema line) (IsTable schema)
-table_has schema line =
-    well_formed_has (IsTable schema) line.0 (text_behind (codes "table ") line.1) (λ text. if_taken BadTable line.0 (table_of schema text))
-    (λ text. if_taken_has (IsTable schema) BadTable line.0 (table_of schema text) (answered_is_table schema text (table_of schema text) (answers_itself (table_of schema text))))
+schema_said_has : (text : List ℕ) (r : Result Schema SchemaRefused) → schema_of text ≡ r → IfOk r IsSchema → IfOk (schema_said text r) IsSchemaSaid
+schema_said_has text (Ok schema) e is = record { schema = is; read = e }
+schema_said_has text (Err why) e is = tt
+
+schema_has : (line : NumberedLine) → IfOk (schema_at line) IsSchemaSaid
+schema_has line =
+    well_formed_has IsSchemaSaid line.0 (text_behind (codes "schema ") line.1) (λ text. if_taken BadSchema line.0 (schema_said text (schema_of text)))
+    (λ text. if_taken_has IsSchemaSaid BadSchema line.0 (schema_said text (schema_of text))
+    (schema_said_has text (schema_of text) refl (answered_is_schema text (schema_of text) (answers_itself (schema_of text)))))
+
+table_said_has : (said : SchemaSaid) (line : ℕ) (text : List ℕ) (r : Result Table SchemaRefused) → IsSchemaSaid said → table_of said.schema text ≡ r → IfOk r (IsTable said.schema) →
+    IfOk (table_said said line text r) IsTableSaid
+table_said_has said line text (Ok table) is e has = record { schema = is.schema; table = has; schema_read = is.read; table_read = e }
+table_said_has said line text (Err why) is e has = tt
+
+table_has : (said : SchemaSaid) → IsSchemaSaid said → (line : NumberedLine) → IfOk (table_at said line) IsTableSaid
+table_has said is line =
+    well_formed_has IsTableSaid line.0 (text_behind (codes "table ") line.1) (λ text. if_taken BadTable line.0 (table_said said line.0 text (table_of said.schema text)))
+    (λ text. if_taken_has IsTableSaid BadTable line.0 (table_said said line.0 text (table_of said.schema text))
+    (table_said_has said line.0 text (table_of said.schema text) is refl (answered_is_table said.schema text (table_of said.schema text) (answers_itself (table_of said.schema text)))))
 
 -- one whose line says something has what it has of all that such a line can say
 well_formed_given : {A B : Type 0} (P : B → Type 0) (Q : A → Type 0) (line : ℕ) (o : Option A) (f : A → Result B PlayFault) → IfSome o Q → ((x : A) → Q x → IfOk (f x) P) → IfOk (if_well_formed line o f) P
@@ -192,16 +199,31 @@ setup_has schema table is has line =
     well_formed_given IsSetup HasFormat line.0 (cluster_of line.1) (λ c. setup_with schema table line.0 c (cluster_fault c table.replication)) (cluster_has line.1)
     (λ c format. with_has schema table line.0 c (cluster_fault c table.replication) refl is has format)
 
+tables_has : (script : ScriptLines) → IfOk (tables_of script) (λ x. IsTableSaid x.0)
+tables_has script =
+    then_has (λ x. IsTableSaid x.0) (λ x. IsSchemaSaid x.0) (next_line schema_at script.after script.lines) (behind_schema script.after) (next_has IsSchemaSaid schema_at script.after script.lines schema_has)
+    (λ schema is. next_has IsTableSaid (table_at schema.0) script.after schema.1 (table_has schema.0 is))
+
+cluster_line_has : (said : TableSaid) (script : ScriptLines) → IsTableSaid said → IfOk (setup_in said script) (λ x. IsSetup x.0)
+cluster_line_has said script is = next_has IsSetup (setup_at said.schema said.table) script.after script.lines (setup_has said.schema said.table is.schema is.table)
+
 header_has : (script : ScriptLines) → IfOk (header_of script) (λ x. IsSetup x.0)
 header_has script =
-    then_has (λ x. IsSetup x.0) (λ x. IsSchema x.0) (next_line schema_at script.after script.lines) (behind_schema script.after) (next_has IsSchema schema_at script.after script.lines schema_has)
-    (λ schema is. then_has (λ x. IsSetup x.0) (λ x. IsTable schema.0 x.0) (next_line (table_at schema.0) script.after schema.1) (behind_table schema.0 script.after) (next_has (IsTable schema.0) (table_at schema.0) script.after schema.1 (table_has schema.0))
-    (λ table has. next_has IsSetup (setup_at schema.0 table.0) script.after table.1 (setup_has schema.0 table.0 is has)))
+    then_has (λ x. IsSetup x.0) (λ x. IsTableSaid x.0) (tables_of script) (behind_tables script.after) (tables_has script)
+    (λ said is. cluster_line_has said.0 (record { lines = said.1; after = script.after }) is)
 
 -- a setup that a header says is one that is taken
 pub header_taken : (script : ScriptLines) (setup : Setup) (lines : List NumberedLine) → header_of script ≡ Ok (setup, lines) → IsSetup setup
 header_taken script setup lines e = subst (λ r. IfOk r (λ x. IsSetup x.0)) e (header_has script)
 
-pub reads_taken : (old new : ScriptLines) (result : Result Setup PlayFault) → ReadsHeader old new result → IfOk result IsSetup
-reads_taken old new (Ok setup) h = header_taken old setup new.lines h.0
-reads_taken old new (Err fault) h = tt
+-- what is read has what all has that such lines can say
+reads_have : {A : Type 0} (P : A → Type 0) (wanted : Result (A × List NumberedLine) PlayFault) (old new : ScriptLines) (result : Result A PlayFault) → IfOk wanted (λ x. P x.0) → Reads wanted old new result → IfOk result P
+reads_have P wanted old new (Ok x) h e = subst (λ r. IfOk r (λ y. P y.0)) e.0 h
+reads_have P wanted old new (Err fault) h e = tt
+
+pub tables_taken : (old new : ScriptLines) (result : Result TableSaid PlayFault) → Reads (tables_of old) old new result → IfOk result IsTableSaid
+tables_taken old new result e = reads_have IsTableSaid (tables_of old) old new result (tables_has old) e
+
+pub cluster_taken : (schema : Schema) (table : Table) (line : NumberedLine) (result : Result Setup PlayFault) → IsSchema schema → IsTable schema table → Says (setup_at schema table line) result → IfOk result IsSetup
+cluster_taken schema table line (Ok setup) is has e = subst (λ r. IfOk r IsSetup) e (setup_has schema table is has line)
+cluster_taken schema table line (Err fault) is has e = tt

@@ -3,6 +3,5 @@ pub mod ClusterLines
 pub mod Clusters
 pub mod Cuts
 mod Digits
-pub mod HeaderLimits
 pub mod Headers
 pub mod JsonTexts

@@ -6,11 +6,7 @@ use Rattle.rt_base.specs.declared.which.Which.{Which}
 use Rattle.rt_base.specs.declared.which.Which.TheVariants.{Servers, Controllers, Partitions, Replication, Moment}
 use Rattle.rt_lines.specs.declared.cluster.Cluster.{Cluster}
 use Rattle.rt_lines.specs.declared.cluster.Options.{Options}
-use Rattle.rt_lines.specs.Words.{then_some, after_prefix, parted_at, number_of}
-
--- the number of `KEY=N`
-abbrev pub field_of : List ℕ → List ℕ → Option ℕ
-field_of key word = then_some (after_prefix key word) number_of
+use Rattle.rt_lines.specs.Words.{then_some, after_prefix, field_of, parted_at}
 
 -- the number of a text's first word `KEY=N`, and the words behind it
 abbrev pub next_field : List ℕ → List ℕ → Option (ℕ × List ℕ)

@@ -6,8 +6,9 @@ use Rattle.rt_schema.specs.declared.schema.Schema.{Schema}
 use Rattle.rt_schema.specs.declared.table.Table.{Table}
 use Rattle.rt_schema.specs.declared.schema_refused.SchemaRefused.{SchemaRefused}
 use Rattle.rt_schema.specs.Refused.{number_of}
+use Rattle.rt_schema.specs.Schema.{IsSchema}
 use Rattle.rt_schema.specs.SchemaText.{schema_of}
-use Rattle.rt_schema.specs.TableText.{table_of}
+use Rattle.rt_schema.specs.TableText.{table_of, IsTable}
 use Rattle.rt_model.specs.declared.setup.Setup.{Setup}
 use Rattle.rt_lines.specs.declared.cluster.Cluster.{Cluster}
 use Rattle.rt_lines.specs.declared.line_reason.LineReason.{LineReason}
@@ -47,13 +48,41 @@ abbrev pub if_well_formed : {A B : Type 0} → ℕ → Option A → (A → Resul
 if_well_formed line None f = Err (Refused line BadLine)
 if_well_formed line (Some x) f = f x
 
+-- what a schema line says, with its text
+pub record SchemaSaid : Type 0 where
+  pub schema : Schema
+  pub text : List ℕ
+
+abbrev pub schema_said : List ℕ → Result Schema SchemaRefused → Result SchemaSaid SchemaRefused
+schema_said text (Ok schema) = Ok (record { schema = schema; text = text })
+schema_said text (Err why) = Err why
+
 -- `schema TEXT`
-abbrev pub schema_at : NumberedLine → Result Schema PlayFault
-schema_at line = if_well_formed line.0 (text_behind (codes "schema ") line.1) (λ text. if_taken BadSchema line.0 (schema_of text))
+abbrev pub schema_at : NumberedLine → Result SchemaSaid PlayFault
+schema_at line = if_well_formed line.0 (text_behind (codes "schema ") line.1) (λ text. if_taken BadSchema line.0 (schema_said text (schema_of text)))
+
+-- what the schema line and the table line say, with their texts and the number of the table line
+pub record TableSaid : Type 0 where
+  pub schema : Schema
+  pub table : Table
+  pub schema_text : List ℕ
+  pub table_text : List ℕ
+  pub line : ℕ
+
+abbrev pub table_said : SchemaSaid → ℕ → List ℕ → Result Table SchemaRefused → Result TableSaid SchemaRefused
+table_said said line text (Ok table) = Ok (record {
+  schema = said.schema;
+  table = table;
+  schema_text = said.text;
+  table_text = text;
+  line = line;
+})
+table_said said line text (Err why) = Err why
 
 -- `table TEXT`
-abbrev pub table_at : Schema → NumberedLine → Result Table PlayFault
-table_at schema line = if_well_formed line.0 (text_behind (codes "table ") line.1) (λ text. if_taken BadTable line.0 (table_of schema text))
+abbrev pub table_at : SchemaSaid → NumberedLine → Result TableSaid PlayFault
+table_at said line =
+    if_well_formed line.0 (text_behind (codes "table ") line.1) (λ text. if_taken BadTable line.0 (table_said said line.0 text (table_of said.schema text)))
 
 abbrev pub setup_of : Schema → Table → Cluster → Setup
 setup_of schema table c = record {
@@ -85,12 +114,26 @@ abbrev pub next_line : {A : Type 0} → (NumberedLine → Result A PlayFault) �
 next_line says after [] = Err (Refused after BadLine)
 next_line says after (line ∷ lines) = with_rest lines (says line)
 
+-- what the first two lines of a header say, with the lines behind them; or why one of them is refused
+abbrev pub tables_of : ScriptLines → Result (TableSaid × List NumberedLine) PlayFault
+tables_of script =
+    then_ok (next_line schema_at script.after script.lines) (λ schema.
+    next_line (table_at schema.0) script.after schema.1)
+
+-- what the third line says, behind two that said this
+abbrev pub setup_in : TableSaid → ScriptLines → Result (Setup × List NumberedLine) PlayFault
+setup_in said script = next_line (setup_at said.schema said.table) script.after script.lines
+
 -- what the header of a script says, with the lines behind it; or why it is refused
 abbrev pub header_of : ScriptLines → Result (Setup × List NumberedLine) PlayFault
-header_of script =
-    then_ok (next_line schema_at script.after script.lines) (λ schema.
-    then_ok (next_line (table_at schema.0) script.after schema.1) (λ table.
-    next_line (setup_at schema.0 table.0) script.after table.1))
+header_of script = then_ok (tables_of script) (λ said. setup_in said.0 (record { lines = said.1; after = script.after }))
+
+-- what lines say that are taken: a schema and a table over it, which are those of their texts
+pub record IsTableSaid (said : TableSaid) : Type 0 where
+  pub schema : IsSchema said.schema
+  pub table : IsTable said.schema said.table
+  pub schema_read : schema_of said.schema_text ≡ Ok said.schema
+  pub table_read : table_of said.schema said.table_text ≡ Ok said.table
 
 -- a line says this; want of memory is free, and no fault comes but a refusal and a limit
 abbrev pub Says : {A : Type 0} → Result A PlayFault → Result A PlayFault → Type 0

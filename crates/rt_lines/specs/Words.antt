@@ -36,6 +36,10 @@ number_up_to most word = if is_numeral word && nat_le (digits_value 10 word) mos
 abbrev pub number_of : List ℕ → Option ℕ
 number_of word = number_up_to 18446744073709551615 word
 
+-- the number of `KEY=N`
+abbrev pub field_of : List ℕ → List ℕ → Option ℕ
+field_of key word = then_some (after_prefix key word) number_of
+
 -- the number that a program's word writes: at most 20 decimal digits as they stand, leading zeros included
 abbrev pub word_number : List ℕ → Option ℕ
 word_number word =

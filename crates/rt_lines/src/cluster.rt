@@ -3,14 +3,12 @@ ghost use Rattle.rt_lines.specs.Cluster.{
   cluster_fault,
   cluster_of,
   end_of,
-  field_of,
   format_of,
   next_field,
   options_of,
 };
 
-use crate::numeral::number_up_to;
-use crate::parts::{after_prefix, part_at};
+use crate::parts::{after_prefix, field, part_at};
 use rt_base::Which;
 use rt_base::limits::{
     LAST_MOMENT, MOST_CONTROLLERS, MOST_PARTITIONS, MOST_REPLICATION, MOST_SERVERS,
@@ -146,12 +144,4 @@ fn next_field<'a>(key: &[u8], text: &'a [u8]) -> Option<(u64, &'a [u8])>
     let (word, text) = part_at(text, b' ')?;
     let number = field(key, word)?;
     Some((number, text))
-}
-
-// The number of `KEY=N`.
-fn field(key: &[u8], word: &[u8]) -> Option<u64>
-    ensures { result ≡ field_of key.now word.now }
-{
-    let word = after_prefix(word, key)?;
-    number_up_to(u64::MAX, word)
 }

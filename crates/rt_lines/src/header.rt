@@ -1,26 +1,20 @@
-ghost use Rattle.std.specs.Prelude.{◌≡◌, ◌<◌, ◌≤◌, ◌^◌, Some, None, IfOk, IfSome, IfNone, OnErr, OnOk, length};
+ghost use Rattle.std.specs.Prelude.{◌≡◌, ◌<◌, ◌^◌, IfOk, OnErr, OnOk, length};
 ghost use Rattle.rt_model.specs.Setup.{IsSetup};
-ghost use Rattle.rt_lines.specs.declared.line_reason.LineReason.TheVariants.{Schema as BadSchema, Table as BadTable};
 ghost use Rattle.rt_lines.specs.Header.{
+  IsTableSaid,
   Reads,
   ReadsHeader,
-  Says,
   next_line,
-  refused_by,
   schema_at,
-  setup_at,
-  setup_of,
+  setup_in,
   table_at,
-  text_behind,
+  tables_of,
 };
 
-use crate::cluster::{Cluster, beyond, read_cluster};
-use crate::parts::after_prefix;
-use crate::{LineReason, Lines, PlayFault};
-use rt_base::Moment;
-use rt_base::limits::{MOST_CONTROLLERS, MOST_PARTITIONS, MOST_SERVERS};
+use crate::header_lines::{bad_line, schema, setup, table};
+use crate::schema_line::SchemaLine;
+use crate::{Lines, PlayFault, TableLines};
 use rt_model::Setup;
-use rt_schema::{Schema, SchemaRefused, Table, read_schema, read_table};
 use std::alloc::Global;
 
 /// Reads the three header lines: the schema, the table and the cluster. The first of them that is
@@ -39,18 +33,55 @@ pub fn read_header(alloc: Global, lines: &mut Lines<'_>) -> Result<Setup, PlayFa
     Ok(setup)
 }
 
+/// Reads the first two header lines, the schema and the table, as `read_header` does. Where one of them is
+/// refused, or memory runs out, the lines are as they were.
+pub fn read_tables<'a>(alloc: Global, lines: &mut Lines<'a>) -> Result<TableLines<'a>, PlayFault>
+    ensures reads { Reads (tables_of lines.old) lines.old lines.new result }
+    ensures taken { IfOk result IsTableSaid }
+    ensures refused { OnErr result (lines.new ≡ lines.old) }
+    ensures few { OnOk result (length lines.new.lines < 2 ^ 64) }
+{
+    let mut ahead = lines.again();
+    let said = read_two_lines(alloc, &mut ahead)?;
+    *lines = ahead;
+    Ok(said)
+}
+
+/// Reads the third header line, the cluster, behind those that said this, as `read_header` does. Where it is
+/// refused the lines are as they were.
+pub fn read_cluster_line(lines: &mut Lines<'_>, said: TableLines<'_>) -> Result<Setup, PlayFault>
+    requires { IsTableSaid said }
+    ensures reads { Reads (setup_in said.entry lines.old) lines.old lines.new result }
+    ensures taken { IfOk result IsSetup }
+    ensures refused { OnErr result (lines.new ≡ lines.old) }
+    ensures few { OnOk result (length lines.new.lines < 2 ^ 64) }
+{
+    let mut ahead = lines.again();
+    let setup = read_third_line(&mut ahead, said)?;
+    *lines = ahead;
+    Ok(setup)
+}
+
 fn read_lines(alloc: Global, lines: &mut Lines<'_>) -> Result<Setup, PlayFault>
     ensures reads { ReadsHeader lines.old lines.new result }
     ensures taken { IfOk result IsSetup }
     ensures few { length lines.new.lines < 2 ^ 64 }
 {
-    let schema = read_schema_line(alloc, lines)?;
-    let table = read_table_line(alloc, lines, &schema)?;
-    read_cluster_line(lines, schema, table)
+    let said = read_two_lines(alloc, lines)?;
+    read_third_line(lines, said)
+}
+
+fn read_two_lines<'a>(alloc: Global, lines: &mut Lines<'a>) -> Result<TableLines<'a>, PlayFault>
+    ensures reads { Reads (tables_of lines.old) lines.old lines.new result }
+    ensures taken { IfOk result IsTableSaid }
+    ensures few { length lines.new.lines < 2 ^ 64 }
+{
+    let said = read_schema_line(alloc, lines)?;
+    read_table_line(alloc, lines, said)
 }
 
 #[tactic(auto, using(crate::proofs::Headers::line_reads))]
-fn read_schema_line(alloc: Global, lines: &mut Lines<'_>) -> Result<Schema, PlayFault>
+fn read_schema_line<'a>(alloc: Global, lines: &mut Lines<'a>) -> Result<SchemaLine<'a>, PlayFault>
     ensures reads { Reads (next_line schema_at lines.old.after lines.old.lines) lines.old lines.new result }
     ensures few { length lines.new.lines < 2 ^ 64 }
 {
@@ -61,134 +92,29 @@ fn read_schema_line(alloc: Global, lines: &mut Lines<'_>) -> Result<Schema, Play
 }
 
 #[tactic(auto, using(crate::proofs::Headers::line_reads))]
-fn read_table_line(
+fn read_table_line<'a>(
     alloc: Global,
-    lines: &mut Lines<'_>,
-    schema: &Schema,
-) -> Result<Table, PlayFault>
-    ensures reads { Reads (next_line (table_at schema.now) lines.old.after lines.old.lines) lines.old lines.new result }
+    lines: &mut Lines<'a>,
+    said: SchemaLine<'a>,
+) -> Result<TableLines<'a>, PlayFault>
+    ensures reads { Reads (next_line (table_at said.entry) lines.old.after lines.old.lines) lines.old lines.new result }
     ensures few { length lines.new.lines < 2 ^ 64 }
 {
     match lines.take() {
-        Ok((number, line)) => table(alloc, number, line, schema),
+        Ok((number, line)) => table(alloc, number, line, said),
         Err(number) => Err(bad_line(number)),
     }
 }
 
 #[tactic(auto, using(crate::proofs::Headers::line_reads))]
-fn read_cluster_line(
-    lines: &mut Lines<'_>,
-    schema: Schema,
-    table: Table,
-) -> Result<Setup, PlayFault>
-    ensures reads { Reads (next_line (setup_at schema table) lines.old.after lines.old.lines) lines.old lines.new result }
+fn read_third_line(lines: &mut Lines<'_>, said: TableLines<'_>) -> Result<Setup, PlayFault>
+    requires { IsTableSaid said }
+    ensures reads { Reads (setup_in said.entry lines.old) lines.old lines.new result }
+    ensures taken { IfOk result IsSetup }
     ensures few { length lines.new.lines < 2 ^ 64 }
 {
     match lines.take() {
-        Ok((number, line)) => setup(schema, table, number, line),
+        Ok((number, line)) => setup(said, number, line),
         Err(number) => Err(bad_line(number)),
-    }
-}
-
-// `schema TEXT`
-fn schema(alloc: Global, number: u64, line: &[u8]) -> Result<Schema, PlayFault>
-    ensures { Says (schema_at (number, line.now)) result }
-{
-    let Some(text) = text_behind(b"schema ".as_slice(), line) else {
-        return Err(bad_line(number));
-    };
-    match read_schema(alloc, text) {
-        Ok(schema) => Ok(schema),
-        Err(refused) => Err(schema_fault(number, refused)),
-    }
-}
-
-// `table TEXT`
-fn table(alloc: Global, number: u64, line: &[u8], schema: &Schema) -> Result<Table, PlayFault>
-    ensures { Says (table_at schema.now (number, line.now)) result }
-{
-    let Some(text) = text_behind(b"table ".as_slice(), line) else {
-        return Err(bad_line(number));
-    };
-    match read_table(alloc, text, schema) {
-        Ok(table) => Ok(table),
-        Err(refused) => Err(table_fault(number, refused)),
-    }
-}
-
-// What a schema and a table make with the cluster of a line.
-#[tactic(auto, using(crate::proofs::Clusters::few_nodes))]
-fn setup(schema: Schema, table: Table, number: u64, line: &[u8]) -> Result<Setup, PlayFault>
-    ensures { Says (setup_at schema table (number, line.now)) result }
-{
-    let Some(cluster) = read_cluster(line) else {
-        return Err(bad_line(number));
-    };
-    if let Some(which) = beyond(cluster, table.replication) {
-        return Err(PlayFault::Limit(which));
-    }
-    Ok(setup_of(schema, table, cluster))
-}
-
-fn setup_of(schema: Schema, table: Table, cluster: Cluster) -> Setup
-    requires { (cluster.servers ≤ MOST_SERVERS) × (cluster.controllers ≤ MOST_CONTROLLERS) × (cluster.partitions ≤ MOST_PARTITIONS) }
-    ensures { result ≡ setup_of schema table cluster }
-{
-    Setup {
-        schema,
-        table,
-        servers: cluster.servers as u32,
-        controllers: cluster.controllers as u32,
-        partitions: cluster.partitions as u32,
-        start: Moment(cluster.start),
-        grace: cluster.grace,
-        retention: cluster.options.retention,
-        format: cluster.options.format,
-    }
-}
-
-// The text behind a line's first word, in UTF-8.
-#[tactic(auto, using(crate::proofs::Headers::is_text, crate::proofs::Headers::is_no_text))]
-fn text_behind<'a>(word: &[u8], line: &'a [u8]) -> Option<&'a str>
-    ensures some { IfSome result (λ text. text_behind word.now line.now ≡ Some text.now) }
-    ensures none { IfNone result (text_behind word.now line.now ≡ None) }
-{
-    let text = after_prefix(line, word)?;
-    match str::from_utf8(text) {
-        Ok(text) => Some(text),
-        Err(_) => None,
-    }
-}
-
-fn bad_line(line: u64) -> PlayFault
-    ensures { result ≡ PlayFault.Refused line LineReason.BadLine }
-{
-    PlayFault::Refused {
-        line,
-        reason: LineReason::BadLine,
-    }
-}
-
-fn schema_fault(line: u64, refused: SchemaRefused) -> PlayFault
-    ensures { result ≡ refused_by BadSchema line refused }
-{
-    match refused.number() {
-        Some(number) => PlayFault::Refused {
-            line,
-            reason: LineReason::Schema(number),
-        },
-        None => PlayFault::Memory,
-    }
-}
-
-fn table_fault(line: u64, refused: SchemaRefused) -> PlayFault
-    ensures { result ≡ refused_by BadTable line refused }
-{
-    match refused.number() {
-        Some(number) => PlayFault::Refused {
-            line,
-            reason: LineReason::Table(number),
-        },
-        None => PlayFault::Memory,
     }
 }

@@ -92,8 +92,8 @@ pub(crate) fn write_array<T: Json>(out: &mut String, items: &[T]) -> Result<(), 
     out.push(']')
 }
 
-/// Adds the comma before the item of a place.
-pub(crate) fn write_comma(out: &mut String, place: usize) -> Result<(), AllocError>
+/// Adds the comma that stands before the item of a place in a JSON array, where one does.
+pub fn write_comma(out: &mut String, place: usize) -> Result<(), AllocError>
     ensures { OnOk result (string_bytes out.new ≡ string_bytes out.old ++ comma_before place) }
 {
     if place == 0 { Ok(()) } else { out.push(',') }

@@ -5,6 +5,7 @@
 mod answer;
 mod cluster;
 mod header;
+mod header_lines;
 mod json;
 mod json_text;
 mod laws;
@@ -13,12 +14,16 @@ mod lines;
 mod numeral;
 mod parts;
 mod play_fault;
+mod schema_line;
+mod table_lines;
 
 pub use answer::answer_text;
-pub use header::read_header;
+pub use header::{read_cluster_line, read_header, read_tables};
+pub use json::write_comma;
 pub use laws::cluster_lines_are_what_they_spell;
 pub use line_reason::LineReason;
 pub use lines::Lines;
 pub use numeral::{is_numeral, number_up_to, word_number};
-pub use parts::{after_prefix, part_at};
+pub use parts::{after_prefix, field, part_at};
 pub use play_fault::PlayFault;
+pub use table_lines::TableLines;

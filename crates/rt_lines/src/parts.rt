@@ -1,5 +1,7 @@
 ghost use Rattle.std.specs.Prelude.{◌≡◌, ◌≤◌, Some, None, IfSome, IfNone, length};
-ghost use Rattle.rt_lines.specs.Words.{after_prefix, parted_at, place_in};
+ghost use Rattle.rt_lines.specs.Words.{after_prefix, field_of, parted_at, place_in};
+
+use crate::numeral::number_up_to;
 
 /// A text without the prefix that it begins with.
 pub fn after_prefix<'a>(text: &'a [u8], prefix: &[u8]) -> Option<&'a [u8]>
@@ -24,6 +26,14 @@ pub fn part_at(text: &[u8], byte: u8) -> Option<(&[u8], &[u8])>
     } else {
         None
     }
+}
+
+/// The number of `KEY=N`.
+pub fn field(key: &[u8], word: &[u8]) -> Option<u64>
+    ensures { result ≡ field_of key.now word.now }
+{
+    let word = after_prefix(word, key)?;
+    number_up_to(u64::MAX, word)
 }
 
 fn place_in(text: &[u8], byte: u8) -> usize

@@ -7,7 +7,7 @@ use Rattle.rt_events.specs.declared.refusal.Refusal.{Refusal}
 use Rattle.rt_events.specs.declared.refusal.Refusal.TheVariants.{NoSuchMessage, NoSuchNode, NodeDown, NothingToDo, Limit, Memory}
 use Rattle.rt_play.specs.Doing.{Attempted, AttemptedBy, Choose, Each, EachFrom, Further, Gives, Happens, Passed, Refuses, Then}
 use Rattle.rt_play.specs.Saying.{PassesOver}
-use Rattle.rt_world.specs.Runs.{Turn, happens, passes, Leads}
+use Rattle.rt_safety.specs.Runs.{Turn, happens, passes, Leads}
 use Rattle.rt_world.specs.declared.state.State.{State}
 use Rattle.rt_play.proofs.Doing.{Act}
 

@@ -19,10 +19,10 @@ use Rattle.rt_script.specs.declared.line.Macro.{Macro}
 use Rattle.rt_script.specs.declared.line.Macro.TheVariants as macro
 use Rattle.rt_script.proofs.LinesFit.{line_fits}
 use Rattle.rt_world.specs.IsSafeWorld.{IsSafeWorld}
-use Rattle.rt_world.specs.Runs.{Turn, Leads}
+use Rattle.rt_safety.specs.Runs.{Turn, Leads}
 use Rattle.rt_world.specs.Start.{start}
 use Rattle.rt_world.specs.declared.state.State.{State}
-use Rattle.rt_world.proofs.Later.{runs_are_safe}
+use Rattle.rt_safety.proofs.Later.{runs_are_safe}
 
 -- ---- a line
 

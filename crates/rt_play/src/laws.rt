@@ -5,7 +5,7 @@ ghost use Rattle.rt_lines.specs.Lines.{script_lines};
 ghost use Rattle.rt_model.specs.declared.setup.Setup.{Setup};
 ghost use Rattle.rt_play.specs.Report.{FrontRuns};
 ghost use Rattle.rt_world.specs.IsSafeWorld.{IsSafeWorld};
-ghost use Rattle.rt_world.specs.Runs.{Turn, Runs};
+ghost use Rattle.rt_safety.specs.Runs.{Turn, Runs};
 ghost use Rattle.rt_world.specs.Start.{start};
 
 /// The lines of a script of which a report tells are a run of the script's cluster: turns lead from the cluster's first world to

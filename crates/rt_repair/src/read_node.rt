@@ -1,10 +1,9 @@
-ghost use Rattle.std.specs.Prelude.{◌≡◌, []};
-ghost use Rattle.rt_model.specs.Entries.{entries_by};
+ghost use Rattle.std.specs.Prelude.{◌≡◌};
 ghost use Rattle.rt_repair.specs.ReadNode.{read_node, last_node, lowest_node, last_follows, follows_done, is_done};
 
 use rt_base::{Partition, Sequence};
 use rt_lists::Items;
-use rt_model::{IdealEntry, IdealState, Key, Listed, Node, Seen, Status};
+use rt_model::{Key, Listed, Node, Seen, Status};
 
 /// A segment's node as it was listed: the write that it is, from which a store's call can start.
 #[derive(Drop, PartialEq, Eq)]
@@ -85,29 +84,4 @@ pub(crate) fn lowest_node(partition: Partition, nodes: Items<Listed>) -> Option<
     }
     let lowest = nodes.into_vec().swap_remove(0);
     Some(read_node(partition, lowest))
-}
-
-/// The entries of an ideal state, or none of another node.
-pub(crate) fn entries_of(node: &Node) -> &[IdealEntry]
-    ensures { result.now ≡ entries_by node.now }
-{
-    match node {
-        Node::Ideal(state) => state.entries.as_slice(),
-        Node::Meta(_) => &[],
-        Node::Boot => &[],
-        Node::Gone => &[],
-    }
-}
-
-/// The ideal state that a node is, or an empty one.
-pub(crate) fn state_of<'a>(node: &'a Node, empty: &'a IdealState) -> &'a IdealState
-    requires { empty.now.entries ≡ [] }
-    ensures { result.now.entries ≡ entries_by node.now }
-{
-    match node {
-        Node::Ideal(state) => state,
-        Node::Meta(_) => empty,
-        Node::Boot => empty,
-        Node::Gone => empty,
-    }
 }

@@ -2,7 +2,7 @@ ghost use Rattle.std.specs.Prelude.{◌≡◌};
 ghost use Rattle.rt_repair.specs.RepairSteps.{Tells, with_ideal, created, abandoned, ideal_set};
 
 use crate::decided::decide_on;
-use crate::read_node::{entries_of, last_node, state_of};
+use crate::read_node::last_node;
 use crate::{ReadNode, RepairStep};
 use rt_base::{Instance, Moment, Offset, Partition, Sequence};
 use rt_ideal::{add_consuming, comes_next, commit_step};
@@ -10,6 +10,7 @@ use rt_lists::{Items, Text};
 use rt_meta::{abandoned_of, first};
 use rt_model::{Decision, IdealEntry, IdealState, Key, Listed, Node, Seen, Setup};
 use rt_store::{Store, StoreRefused};
+use rt_znodes::{entries_of, state_of};
 use std::alloc::{AllocError, Global};
 use std::marker::Model;
 use std::mem;

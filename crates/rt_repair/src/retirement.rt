@@ -2,7 +2,7 @@ ghost use Rattle.std.specs.Prelude.{◌≡◌, length};
 ghost use Rattle.rt_model.specs.Ideal.{remove_segment_of};
 ghost use Rattle.rt_repair.specs.RetireSteps.{Tells, with_ideal, removed, deleted};
 
-use crate::read_node::{entries_of, lowest_node, state_of};
+use crate::read_node::lowest_node;
 use crate::retired::retire_lowest;
 use crate::{ReadNode, RetireStep, Retiring};
 use rt_base::{Moment, Partition, Sequence};
@@ -10,6 +10,7 @@ use rt_ideal::remove_segment;
 use rt_lists::Items;
 use rt_model::{IdealEntry, IdealState, Key, Listed, Node, Seen, Setup};
 use rt_store::{Store, StoreRefused};
+use rt_znodes::{entries_of, state_of};
 use std::alloc::{AllocError, Global};
 use std::marker::Model;
 use std::mem;

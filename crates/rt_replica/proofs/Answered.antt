@@ -26,17 +26,17 @@ use Rattle.rt_past.specs.IsPast.{IsPast}
 use Rattle.rt_past.specs.Replies.{IsReply, IsStatus}
 use Rattle.rt_past.specs.Requests.{IsRequest, IsKind}
 use Rattle.rt_past.specs.Segments.{IsBegun, WasDone}
-use Rattle.rt_replica.specs.declared.phase.Phase.{Phase}
-use Rattle.rt_replica.specs.declared.phase.Phase.TheVariants as phase
-use Rattle.rt_replica.specs.declared.replies.Turn.{Turn}
-use Rattle.rt_replica.specs.declared.replies.Turn.TheVariants.{Stays, Goes}
-use Rattle.rt_replica.specs.declared.stage.Stage.{Stage}
-use Rattle.rt_replica.specs.declared.stage.Stage.TheVariants.{InitialConsuming, CatchingUp, Holding, ConsumingToOnline, Retaining, Building, Starting, Uploading, Ending}
-use Rattle.rt_replica.specs.declared.waited.Waited.{Waited}
-use Rattle.rt_replica.specs.declared.waited.Waited.TheVariants.{Step, Extend}
-use Rattle.rt_replica.specs.declared.consumer.Consumer.{Consumer}
-use Rattle.rt_replica.specs.Consumer.{IsConsumer, cur, cur_in, ends_at, number_of}
-use Rattle.rt_replica.specs.Replies.{consumed, continued, uploaded, ended, answered_at, answered, extended_at, extended, is_processed, turned, turn_by, replied_to, replied}
+use Rattle.rt_consumer.specs.declared.phase.Phase.{Phase}
+use Rattle.rt_consumer.specs.declared.phase.Phase.TheVariants as phase
+use Rattle.rt_consumer.specs.declared.replies.Turn.{Turn}
+use Rattle.rt_consumer.specs.declared.replies.Turn.TheVariants.{Stays, Goes}
+use Rattle.rt_consumer.specs.declared.stage.Stage.{Stage}
+use Rattle.rt_consumer.specs.declared.stage.Stage.TheVariants.{InitialConsuming, CatchingUp, Holding, ConsumingToOnline, Retaining, Building, Starting, Uploading, Ending}
+use Rattle.rt_consumer.specs.declared.waited.Waited.{Waited}
+use Rattle.rt_consumer.specs.declared.waited.Waited.TheVariants.{Step, Extend}
+use Rattle.rt_consumer.specs.declared.consumer.Consumer.{Consumer}
+use Rattle.rt_consumer.specs.Consumer.{IsConsumer, cur, cur_in, ends_at, number_of}
+use Rattle.rt_consumer.specs.Replies.{consumed, continued, uploaded, ended, answered_at, answered, extended_at, extended, is_processed, turned, turn_by, replied_to, replied}
 use Rattle.rt_replica.specs.Held.{IsHeld}
 use Rattle.rt_replica.specs.Lasting.{StandsRight, IsToldAt, IsToldIn, WasAsked, WaitsFor, IsReplica}
 use Rattle.rt_replica.proofs.Holding.{replied_held}

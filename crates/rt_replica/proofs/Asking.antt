@@ -19,16 +19,16 @@ use Rattle.rt_past.specs.Past.{Past, Grows, with_request}
 use Rattle.rt_past.specs.Requests.{IsRequest, IsKind, upload_path}
 use Rattle.rt_past.specs.Files.{IsRightFile}
 use Rattle.rt_past.specs.Segments.{IsAssignedTo, IsIncarnation}
-use Rattle.rt_replica.specs.declared.phase.Phase.{Phase}
-use Rattle.rt_replica.specs.declared.phase.Phase.TheVariants as phase
-use Rattle.rt_replica.specs.declared.settings.Settings.{Settings}
-use Rattle.rt_replica.specs.declared.stage.Stage.{Stage}
-use Rattle.rt_replica.specs.declared.stage.Stage.TheVariants.{InitialConsuming, CatchingUp, Holding, ConsumingToOnline, Retaining, Building, Starting, Uploading, Ending}
-use Rattle.rt_replica.specs.declared.waited.Waited.{Waited}
-use Rattle.rt_replica.specs.declared.consumer.Consumer.{Consumer}
-use Rattle.rt_replica.specs.Consumer.{IsConsumer, IsPhase, IsStage, IsBuilt, AreRows, cur, cur_in, extends_at, extends_in, number_of}
+use Rattle.rt_consumer.specs.declared.phase.Phase.{Phase}
+use Rattle.rt_consumer.specs.declared.phase.Phase.TheVariants as phase
+use Rattle.rt_consumer.specs.declared.settings.Settings.{Settings}
+use Rattle.rt_consumer.specs.declared.stage.Stage.{Stage}
+use Rattle.rt_consumer.specs.declared.stage.Stage.TheVariants.{InitialConsuming, CatchingUp, Holding, ConsumingToOnline, Retaining, Building, Starting, Uploading, Ending}
+use Rattle.rt_consumer.specs.declared.waited.Waited.{Waited}
+use Rattle.rt_consumer.specs.declared.consumer.Consumer.{Consumer}
+use Rattle.rt_consumer.specs.Consumer.{IsConsumer, IsPhase, IsStage, IsBuilt, AreRows, cur, cur_in, extends_at, extends_in, number_of}
 use Rattle.rt_replica.specs.Held.{HoldsIn, HoldsRows}
-use Rattle.rt_replica.specs.Requests.{kind_at, kind_in, request_with}
+use Rattle.rt_consumer.specs.Requests.{kind_at, kind_in, request_with}
 use Rattle.rt_replica.specs.Lasting.{IsToldAt, IsToldIn, WasAsked, IsReplica}
 use Rattle.rt_replica.proofs.Holding.{file_held}
 use Rattle.rt_replica.proofs.Lasts.{replica_grows}

@@ -10,11 +10,11 @@ use Rattle.rt_schema.specs.declared.row.Row.{Row}
 use Rattle.rt_schema.specs.declared.schema.Schema.{Schema}
 use Rattle.rt_schema.specs.Row.{row_of}
 use Rattle.rt_mutable.specs.Consuming.{Consuming, after_message}
-use Rattle.rt_replica.specs.declared.settings.Settings.{Settings}
-use Rattle.rt_replica.specs.declared.stage.Stage.{Stage}
-use Rattle.rt_replica.specs.declared.stage.Stage.TheVariants.{InitialConsuming, CatchingUp, Holding, ConsumingToOnline, Retaining, Building, Starting, Uploading, Ending}
-use Rattle.rt_replica.specs.Consumer.{AreSettings, AreRows, IsStage}
-use Rattle.rt_replica.specs.Batch.{asked_at, filled, is_timed_out, after_batch}
+use Rattle.rt_consumer.specs.declared.settings.Settings.{Settings}
+use Rattle.rt_consumer.specs.declared.stage.Stage.{Stage}
+use Rattle.rt_consumer.specs.declared.stage.Stage.TheVariants.{InitialConsuming, CatchingUp, Holding, ConsumingToOnline, Retaining, Building, Starting, Uploading, Ending}
+use Rattle.rt_consumer.specs.Consumer.{AreSettings, AreRows, IsStage}
+use Rattle.rt_consumer.specs.Batch.{asked_at, filled, is_timed_out, after_batch}
 
 -- a message changes neither the columns nor the start, and moves the end by one
 pub same_columns : (rows : Consuming) (row : Option Row) → (after_message rows row).columns ≡ rows.columns

@@ -18,20 +18,20 @@ use Rattle.rt_model.specs.declared.reply.ReplyStatus.{ReplyStatus}
 use Rattle.rt_model.specs.declared.reply.ReplyStatus.TheVariants.{Hold, CatchUp, Keep, Discard, Commit, NotLeader, CommitContinue, UploadSuccess, CommitSuccess, Processed, Failed}
 use Rattle.rt_model.specs.declared.request.Reason.{Reason}
 use Rattle.rt_model.specs.declared.seg_meta.SeenMeta.{SeenMeta}
-use Rattle.rt_replica.specs.declared.phase.Phase.{Phase}
-use Rattle.rt_replica.specs.declared.phase.Phase.TheVariants as phase
-use Rattle.rt_replica.specs.declared.replies.Turn.{Turn}
-use Rattle.rt_replica.specs.declared.replies.Turn.TheVariants.{Stays, Goes}
-use Rattle.rt_replica.specs.declared.settings.Settings.{Settings}
-use Rattle.rt_replica.specs.declared.stage.Stage.{Stage}
-use Rattle.rt_replica.specs.declared.stage.Stage.TheVariants.{InitialConsuming, CatchingUp, Holding, ConsumingToOnline, Retaining, Building, Starting, Uploading, Ending}
-use Rattle.rt_replica.specs.declared.waited.Waited.{Waited}
-use Rattle.rt_replica.specs.declared.waited.Waited.TheVariants.{Step, Extend}
-use Rattle.rt_replica.specs.declared.consumer.Consumer.{Consumer}
-use Rattle.rt_replica.specs.Consumer.{IsConsumer, IsPhase, IsStage, IsBuilt, cur, cur_in, ends_at, number_of}
-use Rattle.rt_replica.specs.Batch.{asked_in, filled, row_limit, messages_from, taken, taken_in, consumed as consuming}
-use Rattle.rt_replica.specs.Replies.{consumed, continued, uploaded, ended, answered_at, answered, extended_at, extended, is_processed, turned, turn_by, replied_to, replied}
-use Rattle.rt_replica.specs.Requests.{filed_at, filed, IsSealedOf, learned_at, learned}
+use Rattle.rt_consumer.specs.declared.phase.Phase.{Phase}
+use Rattle.rt_consumer.specs.declared.phase.Phase.TheVariants as phase
+use Rattle.rt_consumer.specs.declared.replies.Turn.{Turn}
+use Rattle.rt_consumer.specs.declared.replies.Turn.TheVariants.{Stays, Goes}
+use Rattle.rt_consumer.specs.declared.settings.Settings.{Settings}
+use Rattle.rt_consumer.specs.declared.stage.Stage.{Stage}
+use Rattle.rt_consumer.specs.declared.stage.Stage.TheVariants.{InitialConsuming, CatchingUp, Holding, ConsumingToOnline, Retaining, Building, Starting, Uploading, Ending}
+use Rattle.rt_consumer.specs.declared.waited.Waited.{Waited}
+use Rattle.rt_consumer.specs.declared.waited.Waited.TheVariants.{Step, Extend}
+use Rattle.rt_consumer.specs.declared.consumer.Consumer.{Consumer}
+use Rattle.rt_consumer.specs.Consumer.{IsConsumer, IsPhase, IsStage, IsBuilt, cur, cur_in, ends_at, number_of}
+use Rattle.rt_consumer.specs.Batch.{asked_in, filled, row_limit, messages_from, taken, taken_in, consumed as consuming}
+use Rattle.rt_consumer.specs.Replies.{consumed, continued, uploaded, ended, answered_at, answered, extended_at, extended, is_processed, turned, turn_by, replied_to, replied}
+use Rattle.rt_consumer.specs.Requests.{filed_at, filed, IsSealedOf, learned_at, learned}
 use Rattle.rt_replica.specs.Held.{IsHeld, HoldsIn, HoldsRows, HoldsFile, messages_between, placed_from}
 use Rattle.rt_replica.proofs.Places.{between_append, length_between, between_more, placed_append, rows_placed, all_before, filled_takes}
 

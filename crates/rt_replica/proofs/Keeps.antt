@@ -21,19 +21,19 @@ use Rattle.rt_model.specs.declared.request.RequestNumber.{RequestNumber}
 use Rattle.rt_model.specs.declared.seg_meta.SeenMeta.{SeenMeta}
 use Rattle.rt_model.specs.declared.seg_meta.SegMeta.{SegMeta}
 use Rattle.rt_model.specs.declared.setup.Setup.{Setup}
-use Rattle.rt_replica.specs.declared.phase.Phase.{Phase}
-use Rattle.rt_replica.specs.declared.phase.Phase.TheVariants as phase
-use Rattle.rt_replica.specs.declared.refused.ReplicaRefused.{ReplicaRefused}
-use Rattle.rt_replica.specs.declared.refused.ReplicaRefused.TheVariants.{NotDue, Memory}
-use Rattle.rt_replica.specs.declared.settings.Settings.{Settings}
-use Rattle.rt_replica.specs.declared.stage.Stage.{Stage}
-use Rattle.rt_replica.specs.declared.stage.Stage.TheVariants.{InitialConsuming, CatchingUp, Holding, ConsumingToOnline, Retaining, Building, Starting, Uploading, Ending}
-use Rattle.rt_replica.specs.declared.waited.Waited.TheVariants.{Step, Extend}
-use Rattle.rt_replica.specs.declared.consumer.Consumer.{Consumer}
-use Rattle.rt_replica.specs.Consumer.{IsConsumer, IsPhase, IsStage, IsBuilt, AreRows, at, cur, cur_in, started_of, end_of, asks_in, extends_in, asks_at}
-use Rattle.rt_replica.specs.Batch.{asked_in, filled, row_limit, taken, taken_in, messages_from, Consumes}
-use Rattle.rt_replica.specs.Requests.{filed_at, filed, builds_at, builds_in, IsSealedOf, kind_at, kind_in, learned_at, learned, Does, forced, forced_at, stopped, stopped_at, stops_at, Builds, Requests, Extends}
-use Rattle.rt_replica.specs.Replies.{replied}
+use Rattle.rt_consumer.specs.declared.phase.Phase.{Phase}
+use Rattle.rt_consumer.specs.declared.phase.Phase.TheVariants as phase
+use Rattle.rt_consumer.specs.declared.refused.ReplicaRefused.{ReplicaRefused}
+use Rattle.rt_consumer.specs.declared.refused.ReplicaRefused.TheVariants.{NotDue, Memory}
+use Rattle.rt_consumer.specs.declared.settings.Settings.{Settings}
+use Rattle.rt_consumer.specs.declared.stage.Stage.{Stage}
+use Rattle.rt_consumer.specs.declared.stage.Stage.TheVariants.{InitialConsuming, CatchingUp, Holding, ConsumingToOnline, Retaining, Building, Starting, Uploading, Ending}
+use Rattle.rt_consumer.specs.declared.waited.Waited.TheVariants.{Step, Extend}
+use Rattle.rt_consumer.specs.declared.consumer.Consumer.{Consumer}
+use Rattle.rt_consumer.specs.Consumer.{IsConsumer, IsPhase, IsStage, IsBuilt, AreRows, at, cur, cur_in, started_of, end_of, asks_in, extends_in, asks_at}
+use Rattle.rt_consumer.specs.Batch.{asked_in, filled, row_limit, taken, taken_in, messages_from, Consumes}
+use Rattle.rt_consumer.specs.Requests.{filed_at, filed, builds_at, builds_in, IsSealedOf, kind_at, kind_in, learned_at, learned, Does, forced, forced_at, stopped, stopped_at, stops_at, Builds, Requests, Extends}
+use Rattle.rt_consumer.specs.Replies.{replied}
 use Rattle.rt_replica.proofs.Turns.{replied_is}
 use Rattle.rt_replica.proofs.Batches.{Further, filled_further, rows_kept, stage_is}
 

@@ -14,15 +14,15 @@ use Rattle.rt_model.specs.declared.setup.Setup.{Setup}
 use Rattle.rt_past.specs.Past.{Past}
 use Rattle.rt_past.specs.IsPast.{IsPast}
 use Rattle.rt_past.specs.Segments.{HadEntry, IsAssignedTo, IsBegun, WasDone}
-use Rattle.rt_replica.specs.declared.phase.Phase.{Phase}
-use Rattle.rt_replica.specs.declared.phase.Phase.TheVariants as phase
-use Rattle.rt_replica.specs.declared.settings.Settings.{Settings}
-use Rattle.rt_replica.specs.declared.stage.Stage.{Stage}
-use Rattle.rt_replica.specs.declared.stage.Stage.TheVariants.{InitialConsuming, CatchingUp, Holding, ConsumingToOnline, Retaining, Building, Starting, Uploading, Ending}
-use Rattle.rt_replica.specs.declared.consumer.Consumer.{Consumer}
-use Rattle.rt_replica.specs.Consumer.{at, cur, started_of}
-use Rattle.rt_replica.specs.Batch.{after_batch, asked_at, asked_in, consumed, filled, is_timed_out, messages_from, row_limit, taken, taken_at, taken_in}
-use Rattle.rt_replica.specs.Requests.{IsSealedOf, filed, filed_at, forced, forced_at, learned, learned_at, stopped, stopped_at, stops_at}
+use Rattle.rt_consumer.specs.declared.phase.Phase.{Phase}
+use Rattle.rt_consumer.specs.declared.phase.Phase.TheVariants as phase
+use Rattle.rt_consumer.specs.declared.settings.Settings.{Settings}
+use Rattle.rt_consumer.specs.declared.stage.Stage.{Stage}
+use Rattle.rt_consumer.specs.declared.stage.Stage.TheVariants.{InitialConsuming, CatchingUp, Holding, ConsumingToOnline, Retaining, Building, Starting, Uploading, Ending}
+use Rattle.rt_consumer.specs.declared.consumer.Consumer.{Consumer}
+use Rattle.rt_consumer.specs.Consumer.{at, cur, started_of}
+use Rattle.rt_consumer.specs.Batch.{after_batch, asked_at, asked_in, consumed, filled, is_timed_out, messages_from, row_limit, taken, taken_at, taken_in}
+use Rattle.rt_consumer.specs.Requests.{IsSealedOf, filed, filed_at, forced, forced_at, learned, learned_at, stopped, stopped_at, stops_at}
 use Rattle.rt_replica.specs.Held.{IsHeld}
 use Rattle.rt_replica.specs.Lasting.{IsToldAt, IsToldIn, IsReplica}
 use Rattle.rt_replica.proofs.Holding.{batch_held, built_held, learned_held}

@@ -1,6 +1,3 @@
-pub mod Rows
-pub mod Filling
-pub mod Fetched
 pub mod Turns
 pub mod Batches
 pub mod Keeps

@@ -11,14 +11,14 @@ use Rattle.rt_stream.specs.Log.{Log, messages_of}
 use Rattle.rt_model.specs.declared.request.Reason.TheVariants.{Force}
 use Rattle.rt_model.specs.declared.seg_meta.SegMeta.{SegMeta}
 use Rattle.rt_model.specs.declared.setup.Setup.{Setup}
-use Rattle.rt_replica.specs.declared.phase.Phase.{Phase}
-use Rattle.rt_replica.specs.declared.phase.Phase.TheVariants as phase
-use Rattle.rt_replica.specs.declared.stage.Stage.{Stage}
-use Rattle.rt_replica.specs.declared.stage.Stage.TheVariants.{InitialConsuming, CatchingUp, Holding, ConsumingToOnline, Retaining, Building, Starting, Uploading, Ending}
-use Rattle.rt_replica.specs.declared.consumer.Consumer.{Consumer}
-use Rattle.rt_replica.specs.Consumer.{at, started_of}
-use Rattle.rt_replica.specs.Batch.{consumed, Consumes}
-use Rattle.rt_replica.specs.Requests.{forced, forced_at, stopped, stopped_at, stops_at}
+use Rattle.rt_consumer.specs.declared.phase.Phase.{Phase}
+use Rattle.rt_consumer.specs.declared.phase.Phase.TheVariants as phase
+use Rattle.rt_consumer.specs.declared.stage.Stage.{Stage}
+use Rattle.rt_consumer.specs.declared.stage.Stage.TheVariants.{InitialConsuming, CatchingUp, Holding, ConsumingToOnline, Retaining, Building, Starting, Uploading, Ending}
+use Rattle.rt_consumer.specs.declared.consumer.Consumer.{Consumer}
+use Rattle.rt_consumer.specs.Consumer.{at, started_of}
+use Rattle.rt_consumer.specs.Batch.{consumed, Consumes}
+use Rattle.rt_consumer.specs.Requests.{forced, forced_at, stopped, stopped_at, stops_at}
 use Rattle.rt_replica.specs.Held.{IsHeld, HoldsIn, HoldsRows, placed_from}
 
 pub started_held : (setup : Setup) (p : Partition) (q : Sequence) (meta : SegMeta) (now : Moment) (log : Log) → meta.start.0 ≤ length (messages_of log p)

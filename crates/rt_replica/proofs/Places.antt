@@ -9,7 +9,7 @@ use Rattle.rt_schema.specs.declared.row.Row.{Row}
 use Rattle.rt_schema.specs.declared.schema.Schema.{Schema}
 use Rattle.rt_schema.specs.Row.{row_of}
 use Rattle.rt_mutable.specs.Consuming.{Consuming, Placed, after_message, is_before}
-use Rattle.rt_replica.specs.Batch.{filled}
+use Rattle.rt_consumer.specs.Batch.{filled}
 use Rattle.rt_replica.specs.Held.{placed_from, placed_row, messages_between}
 
 -- the messages of two ranges that meet

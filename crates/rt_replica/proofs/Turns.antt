@@ -12,19 +12,19 @@ use Rattle.rt_model.specs.declared.reply.ReplyStatus.{ReplyStatus}
 use Rattle.rt_model.specs.declared.reply.ReplyStatus.TheVariants.{Hold, CatchUp, Keep, Discard, Commit, NotLeader, CommitContinue, UploadSuccess, CommitSuccess, Processed, Failed}
 use Rattle.rt_model.specs.declared.request.Reason.{Reason}
 use Rattle.rt_model.specs.declared.seg_meta.SeenMeta.{SeenMeta}
-use Rattle.rt_replica.specs.declared.phase.Discarded.{Discarded}
-use Rattle.rt_replica.specs.declared.phase.Phase.{Phase}
-use Rattle.rt_replica.specs.declared.phase.Phase.TheVariants as phase
-use Rattle.rt_replica.specs.declared.replies.Turn.{Turn}
-use Rattle.rt_replica.specs.declared.replies.Turn.TheVariants.{Stays, Goes}
-use Rattle.rt_replica.specs.declared.settings.Settings.{Settings}
-use Rattle.rt_replica.specs.declared.stage.Stage.{Stage}
-use Rattle.rt_replica.specs.declared.stage.Stage.TheVariants.{InitialConsuming, CatchingUp, Holding, ConsumingToOnline, Retaining, Building, Starting, Uploading, Ending}
-use Rattle.rt_replica.specs.declared.waited.Waited.{Waited}
-use Rattle.rt_replica.specs.declared.waited.Waited.TheVariants.{Step, Extend}
-use Rattle.rt_replica.specs.declared.consumer.Consumer.{Consumer}
-use Rattle.rt_replica.specs.Consumer.{IsConsumer, IsPhase, IsStage, IsBuilt, IsWaited, AreRows, at, number_of, end_of, is_at, ends_at}
-use Rattle.rt_replica.specs.Replies.{consumed, continued, uploaded, ended, keeps, commits, answered_at, answered, extended_at, extended, is_processed, turned, turn_by, is_answer, replied_to, replied}
+use Rattle.rt_consumer.specs.declared.phase.Discarded.{Discarded}
+use Rattle.rt_consumer.specs.declared.phase.Phase.{Phase}
+use Rattle.rt_consumer.specs.declared.phase.Phase.TheVariants as phase
+use Rattle.rt_consumer.specs.declared.replies.Turn.{Turn}
+use Rattle.rt_consumer.specs.declared.replies.Turn.TheVariants.{Stays, Goes}
+use Rattle.rt_consumer.specs.declared.settings.Settings.{Settings}
+use Rattle.rt_consumer.specs.declared.stage.Stage.{Stage}
+use Rattle.rt_consumer.specs.declared.stage.Stage.TheVariants.{InitialConsuming, CatchingUp, Holding, ConsumingToOnline, Retaining, Building, Starting, Uploading, Ending}
+use Rattle.rt_consumer.specs.declared.waited.Waited.{Waited}
+use Rattle.rt_consumer.specs.declared.waited.Waited.TheVariants.{Step, Extend}
+use Rattle.rt_consumer.specs.declared.consumer.Consumer.{Consumer}
+use Rattle.rt_consumer.specs.Consumer.{IsConsumer, IsPhase, IsStage, IsBuilt, IsWaited, AreRows, at, number_of, end_of, is_at, ends_at}
+use Rattle.rt_consumer.specs.Replies.{consumed, continued, uploaded, ended, keeps, commits, answered_at, answered, extended_at, extended, is_processed, turned, turn_by, is_answer, replied_to, replied}
 
 by_test : (T : Turn → Type 0) (b : Bool) (x y : Turn) → (b ≡ true → T x) → (b ≡ false → T y) → T (cond b x y)
 by_test T true x y p q = p refl

@@ -7,9 +7,9 @@ use Rattle.rt_schema.specs.Row.{row_of, rows_in}
 use Rattle.rt_mutable.specs.Consuming.{Consuming, Placed}
 use Rattle.rt_segment.specs.Segment.{SealedSegment, rows_of}
 use Rattle.rt_stream.specs.Log.{Log, messages_of}
-use Rattle.rt_replica.specs.declared.phase.Phase.{Phase}
-use Rattle.rt_replica.specs.declared.phase.Phase.TheVariants as phase
-use Rattle.rt_replica.specs.declared.consumer.Consumer.{Consumer}
+use Rattle.rt_consumer.specs.declared.phase.Phase.{Phase}
+use Rattle.rt_consumer.specs.declared.phase.Phase.TheVariants as phase
+use Rattle.rt_consumer.specs.declared.consumer.Consumer.{Consumer}
 
 -- the messages of a partition from one offset up to another
 abbrev pub messages_between : List (List ℕ) → ℕ → ℕ → List (List ℕ)

@@ -1,7 +1,2 @@
-pub mod Consumer
-pub mod Replies
-pub mod Batch
-pub mod Requests
 pub mod Held
-pub mod Serving
 pub mod Lasting

@@ -19,13 +19,13 @@ ghost use Rattle.rt_past.specs.IsPast.{IsPast};
 ghost use Rattle.rt_past.specs.Replies.{IsReply};
 ghost use Rattle.rt_past.specs.Requests.{IsRequest};
 ghost use Rattle.rt_past.specs.Segments.{HadEntry, IsAssignedTo, IsBegun, IsIncarnation, WasDone};
-ghost use Rattle.rt_replica.specs.declared.consumer.Consumer.{Consumer};
-ghost use Rattle.rt_replica.specs.declared.phase.Phase.{Phase};
-ghost use Rattle.rt_replica.specs.declared.waited.Waited.{Waited};
-ghost use Rattle.rt_replica.specs.Consumer.{IsConsumer, extends_in, number_of, started_of};
-ghost use Rattle.rt_replica.specs.Batch.{consumed};
-ghost use Rattle.rt_replica.specs.Replies.{replied};
-ghost use Rattle.rt_replica.specs.Requests.{IsSealedOf, filed, forced, stopped, learned, kind_in, request_with};
+ghost use Rattle.rt_consumer.specs.declared.consumer.Consumer.{Consumer};
+ghost use Rattle.rt_consumer.specs.declared.phase.Phase.{Phase};
+ghost use Rattle.rt_consumer.specs.declared.waited.Waited.{Waited};
+ghost use Rattle.rt_consumer.specs.Consumer.{IsConsumer, extends_in, number_of, started_of};
+ghost use Rattle.rt_consumer.specs.Batch.{consumed};
+ghost use Rattle.rt_consumer.specs.Replies.{replied};
+ghost use Rattle.rt_consumer.specs.Requests.{IsSealedOf, filed, forced, stopped, learned, kind_in, request_with};
 ghost use Rattle.rt_replica.specs.Lasting.{IsReplica};
 
 /// What lasts of a replica stays true as the past grows.

@@ -10,12 +10,12 @@ ghost use Rattle.rt_model.specs.declared.reply.Reply.{Reply};
 ghost use Rattle.rt_model.specs.declared.seg_meta.SeenMeta.{SeenMeta};
 ghost use Rattle.rt_model.specs.declared.seg_meta.SegMeta.{SegMeta};
 ghost use Rattle.rt_model.specs.declared.setup.Setup.{Setup};
-ghost use Rattle.rt_replica.specs.declared.consumer.Consumer.{Consumer};
-ghost use Rattle.rt_replica.specs.declared.phase.Phase.{Phase};
-ghost use Rattle.rt_replica.specs.Consumer.{IsConsumer, started_of};
-ghost use Rattle.rt_replica.specs.Replies.{is_answer, replied};
-ghost use Rattle.rt_replica.specs.Batch.{Consumes, consumed};
-ghost use Rattle.rt_replica.specs.Requests.{IsSealedOf, filed, forced, stopped, learned};
+ghost use Rattle.rt_consumer.specs.declared.consumer.Consumer.{Consumer};
+ghost use Rattle.rt_consumer.specs.declared.phase.Phase.{Phase};
+ghost use Rattle.rt_consumer.specs.Consumer.{IsConsumer, started_of};
+ghost use Rattle.rt_consumer.specs.Replies.{is_answer, replied};
+ghost use Rattle.rt_consumer.specs.Batch.{Consumes, consumed};
+ghost use Rattle.rt_consumer.specs.Requests.{IsSealedOf, filed, forced, stopped, learned};
 ghost use Rattle.rt_replica.specs.Held.{IsHeld};
 
 /// A replica that starts within its log holds the rows of all its messages from its start up to `cur`, and stays so: when

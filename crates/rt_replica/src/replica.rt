@@ -1,14 +1,14 @@
 ghost use Rattle.std.specs.Prelude.{◌≡◌, ◌<◌, ◌≤◌, ◌^◌, true, Some, IfOk, IsFalse, length, option_map};
 ghost use Rattle.rt_model.specs.Setup.{IsSetup};
 ghost use Rattle.rt_stream.specs.Log.{messages_of};
-ghost use Rattle.rt_replica.specs.Consumer.{started_of, state_of, cur, end_of, extends_in};
-ghost use Rattle.rt_replica.specs.Replies.{is_answer, replied};
-ghost use Rattle.rt_replica.specs.Batch.{Consumes};
-ghost use Rattle.rt_replica.specs.Requests.{Does, Builds, Requests, Extends, forced, stopped, builds_in, asks_now, is_due, size_in, is_ready, rows_in, learns_in, learned};
-ghost use Rattle.rt_replica.specs.Serving.{held_in, file_in, told_in};
+ghost use Rattle.rt_consumer.specs.Consumer.{started_of, state_of, cur, end_of, extends_in};
+ghost use Rattle.rt_consumer.specs.Replies.{is_answer, replied};
+ghost use Rattle.rt_consumer.specs.Batch.{Consumes};
+ghost use Rattle.rt_consumer.specs.Requests.{Does, Builds, Requests, Extends, forced, stopped, builds_in, asks_now, is_due, size_in, is_ready, rows_in, learns_in, learned};
+ghost use Rattle.rt_consumer.specs.Serving.{held_in, file_in, told_in};
 
-use crate::{Consumer, ReplicaRefused};
 use rt_base::{Moment, Offset, Partition, Sequence};
+use rt_consumer::{Consumer, ReplicaRefused};
 use rt_model::{ReplicaState, Reply, Request, SeenMeta, SegMeta, Setup};
 use rt_msgs::Numbers;
 use rt_mutable::MutableSegment;
@@ -27,8 +27,8 @@ pub struct Replica {
 }
 
 impl Model for Replica {
-    ghost use Rattle.rt_replica.specs.declared.consumer.Consumer.{Consumer};
-    ghost use Rattle.rt_replica.specs.Consumer.{IsConsumer};
+    ghost use Rattle.rt_consumer.specs.declared.consumer.Consumer.{Consumer};
+    ghost use Rattle.rt_consumer.specs.Consumer.{IsConsumer};
 
     ghost Value = { Consumer };
 

@@ -1,4 +1,5 @@
 pub mod BrokerTexts
+pub mod FurtherTexts
 pub mod Heads
 pub mod MacroTexts
 pub mod MessageTexts

@@ -49,36 +49,54 @@ abbrev pub replica_text : Instance → Partition → Sequence → List ℕ
 replica_text instance partition sequence =
     codes "s" ++ (decimal instance.0 ++ (codes " " ++ (decimal partition.0 ++ (codes "/" ++ decimal sequence.0))))
 
+-- what lies outside the nodes
+abbrev pub outside_subject : Event → List ℕ
+outside_subject (Produce partition message) = decimal partition.0
+outside_subject (FaultStore kept) = codes "store " ++ kept_text kept
+outside_subject (FaultDeep kept) = codes "deep " ++ kept_text kept
+outside_subject _ = []
+
+-- a replica that does something; the report of a request names its message instead
+abbrev pub replica_subject : Event → List ℕ
+replica_subject (Consume instance partition sequence max) = replica_text instance partition sequence
+replica_subject (Force instance partition sequence) = replica_text instance partition sequence
+replica_subject (Stop instance partition sequence) = replica_text instance partition sequence
+replica_subject (Build instance partition sequence) = replica_text instance partition sequence
+replica_subject (Transit instance partition sequence) = replica_text instance partition sequence
+replica_subject (Download instance partition sequence) = replica_text instance partition sequence
+replica_subject _ = []
+
+-- who takes a message or makes a step of a job, and which
+abbrev pub message_subject : Event → List ℕ
+message_subject (Deliver message controller) = codes "c" ++ decimal controller.0
+message_subject (Job controller job) = codes "c" ++ (decimal controller.0 ++ (codes " j" ++ decimal job))
+message_subject (Reply message) = codes "m" ++ decimal message
+message_subject _ = []
+
+-- a node, and the partition that it looks after
+abbrev pub node_subject : Event → List ℕ
+node_subject (Lead controller on) = codes "c" ++ (decimal controller.0 ++ on_text on)
+node_subject (CrashServer instance) = codes "s" ++ decimal instance.0
+node_subject (CrashController controller) = codes "c" ++ decimal controller.0
+node_subject (RestartServer instance) = codes "s" ++ decimal instance.0
+node_subject (RestartController controller) = codes "c" ++ decimal controller.0
+node_subject (See instance) = codes "s" ++ decimal instance.0
+node_subject (Repair controller partition) = codes "c" ++ (decimal controller.0 ++ (codes " " ++ decimal partition.0))
+node_subject (Retain controller partition) = codes "c" ++ (decimal controller.0 ++ (codes " " ++ decimal partition.0))
+node_subject _ = []
+
+-- a query with what it asks of, and the node of the store that is shown
+abbrev pub looking_subject : Event → List ℕ
+looking_subject (Route query partition) = codes "q" ++ (decimal query ++ (codes " " ++ decimal partition.0))
+looking_subject (Piece query partition sequence instance) = codes "q" ++ (decimal query ++ (codes " " ++ (decimal partition.0 ++ (codes "/" ++ decimal sequence.0))))
+looking_subject (ShowMeta partition sequence) = codes "meta/" ++ (decimal partition.0 ++ (codes "/" ++ decimal sequence.0))
+looking_subject ShowIdeal = codes "ideal"
+looking_subject _ = []
+
+-- what an event is about: something of one kind at most, and nothing of the others
 abbrev pub subject_text : Event → List ℕ
-subject_text (Produce partition message) = decimal partition.0
-subject_text (Tick millis) = []
-subject_text (Lead controller on) = codes "c" ++ (decimal controller.0 ++ on_text on)
-subject_text (Consume instance partition sequence max) = replica_text instance partition sequence
-subject_text (Force instance partition sequence) = replica_text instance partition sequence
-subject_text (Stop instance partition sequence) = replica_text instance partition sequence
-subject_text (Build instance partition sequence) = replica_text instance partition sequence
-subject_text (Report instance partition sequence) = []
-subject_text (Extend instance partition sequence millis) = []
-subject_text (Deliver message controller) = codes "c" ++ decimal controller.0
-subject_text (Job controller job) = codes "c" ++ (decimal controller.0 ++ (codes " j" ++ decimal job))
-subject_text (Reply message) = codes "m" ++ decimal message
-subject_text (CrashServer instance) = codes "s" ++ decimal instance.0
-subject_text (CrashController controller) = codes "c" ++ decimal controller.0
-subject_text (RestartServer instance) = codes "s" ++ decimal instance.0
-subject_text (RestartController controller) = codes "c" ++ decimal controller.0
-subject_text (See instance) = codes "s" ++ decimal instance.0
-subject_text (Transit instance partition sequence) = replica_text instance partition sequence
-subject_text (Download instance partition sequence) = replica_text instance partition sequence
-subject_text (Repair controller partition) = codes "c" ++ (decimal controller.0 ++ (codes " " ++ decimal partition.0))
-subject_text (Retain controller partition) = codes "c" ++ (decimal controller.0 ++ (codes " " ++ decimal partition.0))
-subject_text (FaultStore kept) = codes "store " ++ kept_text kept
-subject_text (FaultDeep kept) = codes "deep " ++ kept_text kept
-subject_text (Ask query) = []
-subject_text (Route query partition) = codes "q" ++ (decimal query ++ (codes " " ++ decimal partition.0))
-subject_text (Piece query partition sequence instance) = codes "q" ++ (decimal query ++ (codes " " ++ (decimal partition.0 ++ (codes "/" ++ decimal sequence.0))))
-subject_text (Answer query) = []
-subject_text (ShowMeta partition sequence) = codes "meta/" ++ (decimal partition.0 ++ (codes "/" ++ decimal sequence.0))
-subject_text ShowIdeal = codes "ideal"
+subject_text event =
+    outside_subject event ++ (replica_subject event ++ (message_subject event ++ (node_subject event ++ looking_subject event)))
 
 -- the partition that an event is about; the first, where it is about none
 abbrev pub partition_of : Event → Partition

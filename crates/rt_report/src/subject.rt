@@ -1,18 +1,50 @@
 ghost use Rattle.std.specs.Prelude.{◌≡◌, ◌++◌, OnOk, codes, decimal, string_bytes};
-ghost use Rattle.rt_report.specs.Subject.{kept_text, on_text, partition_of, replica_text, subject_text};
+ghost use Rattle.rt_report.specs.Subject.{
+  kept_text,
+  looking_subject,
+  message_subject,
+  node_subject,
+  on_text,
+  outside_subject,
+  partition_of,
+  replica_subject,
+  replica_text,
+  subject_text,
+};
 
 use rt_base::{ControllerId, Instance, Partition, Sequence};
 use rt_events::Event;
 use std::alloc::AllocError;
 
-/// Adds what an event is about, as its report names it.
+/// Adds what an event is about, as its report names it. An event is about something of one kind at most, and the
+/// others add nothing.
 pub(crate) fn write_subject(out: &mut String, event: &Event) -> Result<(), AllocError>
     ensures { OnOk result (string_bytes out.new ≡ string_bytes out.old ++ subject_text event.now) }
 {
+    write_outside(out, event)?;
+    write_of_replica(out, event)?;
+    write_message(out, event)?;
+    write_node(out, event)?;
+    write_looked_at(out, event)
+}
+
+// What lies outside the nodes.
+fn write_outside(out: &mut String, event: &Event) -> Result<(), AllocError>
+    ensures { OnOk result (string_bytes out.new ≡ string_bytes out.old ++ outside_subject event.now) }
+{
     match event {
         Event::Produce { partition, .. } => write!(out, "{}", partition.0),
-        Event::Tick { .. } => Ok(()),
-        Event::Lead { controller, on } => write_lead(out, *controller, *on),
+        Event::FaultStore { kept } => write_fault(out, "store ", *kept),
+        Event::FaultDeep { kept } => write_fault(out, "deep ", *kept),
+        _ => Ok(()),
+    }
+}
+
+// A replica that does something.
+fn write_of_replica(out: &mut String, event: &Event) -> Result<(), AllocError>
+    ensures { OnOk result (string_bytes out.new ≡ string_bytes out.old ++ replica_subject event.now) }
+{
+    match event {
         Event::Consume {
             instance,
             partition,
@@ -34,16 +66,6 @@ pub(crate) fn write_subject(out: &mut String, event: &Event) -> Result<(), Alloc
             partition,
             sequence,
         } => write_replica(out, *instance, *partition, *sequence),
-        Event::Report { .. } => Ok(()),
-        Event::Extend { .. } => Ok(()),
-        Event::Deliver { controller, .. } => write!(out, "c{}", controller.0),
-        Event::Job { controller, job } => write!(out, "c{} j{job}", controller.0),
-        Event::Reply { message } => write!(out, "m{message}"),
-        Event::CrashServer { instance } => write!(out, "s{}", instance.0),
-        Event::CrashController { controller } => write!(out, "c{}", controller.0),
-        Event::RestartServer { instance } => write!(out, "s{}", instance.0),
-        Event::RestartController { controller } => write!(out, "c{}", controller.0),
-        Event::See { instance } => write!(out, "s{}", instance.0),
         Event::Transit {
             instance,
             partition,
@@ -54,6 +76,33 @@ pub(crate) fn write_subject(out: &mut String, event: &Event) -> Result<(), Alloc
             partition,
             sequence,
         } => write_replica(out, *instance, *partition, *sequence),
+        _ => Ok(()),
+    }
+}
+
+// Who takes a message or makes a step of a job, and which.
+fn write_message(out: &mut String, event: &Event) -> Result<(), AllocError>
+    ensures { OnOk result (string_bytes out.new ≡ string_bytes out.old ++ message_subject event.now) }
+{
+    match event {
+        Event::Deliver { controller, .. } => write!(out, "c{}", controller.0),
+        Event::Job { controller, job } => write!(out, "c{} j{job}", controller.0),
+        Event::Reply { message } => write!(out, "m{message}"),
+        _ => Ok(()),
+    }
+}
+
+// A node, and the partition that it looks after.
+fn write_node(out: &mut String, event: &Event) -> Result<(), AllocError>
+    ensures { OnOk result (string_bytes out.new ≡ string_bytes out.old ++ node_subject event.now) }
+{
+    match event {
+        Event::Lead { controller, on } => write_lead(out, *controller, *on),
+        Event::CrashServer { instance } => write!(out, "s{}", instance.0),
+        Event::CrashController { controller } => write!(out, "c{}", controller.0),
+        Event::RestartServer { instance } => write!(out, "s{}", instance.0),
+        Event::RestartController { controller } => write!(out, "c{}", controller.0),
+        Event::See { instance } => write!(out, "s{}", instance.0),
         Event::Repair {
             controller,
             partition,
@@ -62,9 +111,15 @@ pub(crate) fn write_subject(out: &mut String, event: &Event) -> Result<(), Alloc
             controller,
             partition,
         } => write!(out, "c{} {}", controller.0, partition.0),
-        Event::FaultStore { kept } => write_fault(out, "store ", *kept),
-        Event::FaultDeep { kept } => write_fault(out, "deep ", *kept),
-        Event::Ask { .. } => Ok(()),
+        _ => Ok(()),
+    }
+}
+
+// A query with what it asks of, and the node of the store that is shown.
+fn write_looked_at(out: &mut String, event: &Event) -> Result<(), AllocError>
+    ensures { OnOk result (string_bytes out.new ≡ string_bytes out.old ++ looking_subject event.now) }
+{
+    match event {
         Event::Route { query, partition } => write!(out, "q{query} {}", partition.0),
         Event::Piece {
             query,
@@ -72,12 +127,12 @@ pub(crate) fn write_subject(out: &mut String, event: &Event) -> Result<(), Alloc
             sequence,
             ..
         } => write!(out, "q{query} {}/{}", partition.0, sequence.0),
-        Event::Answer { .. } => Ok(()),
         Event::ShowMeta {
             partition,
             sequence,
         } => write!(out, "meta/{}/{}", partition.0, sequence.0),
         Event::ShowIdeal => out.push_str("ideal"),
+        _ => Ok(()),
     }
 }
 

@@ -19,12 +19,12 @@ use Rattle.rt_model.specs.declared.status.Status.{Status}
 use Rattle.rt_model.specs.declared.status.Status.TheVariants.{InProgress, Done, Abandoned}
 use Rattle.rt_model.specs.Setup.{IsSetup}
 use Rattle.rt_msgs.specs.Numbered.{Numbered}
-use Rattle.rt_replica.specs.declared.consumer.Consumer.{Consumer}
-use Rattle.rt_replica.specs.declared.refused.ReplicaRefused.{ReplicaRefused}
-use Rattle.rt_replica.specs.Batch.{Consumes}
-use Rattle.rt_replica.specs.Consumer.{IsConsumer, end_in, end_of, started_of}
-use Rattle.rt_replica.specs.Replies.{replied}
-use Rattle.rt_replica.specs.Requests.{Builds, Does, Extends, Requests, forced, stopped}
+use Rattle.rt_consumer.specs.declared.consumer.Consumer.{Consumer}
+use Rattle.rt_consumer.specs.declared.refused.ReplicaRefused.{ReplicaRefused}
+use Rattle.rt_consumer.specs.Batch.{Consumes}
+use Rattle.rt_consumer.specs.Consumer.{IsConsumer, end_in, end_of, started_of}
+use Rattle.rt_consumer.specs.Replies.{replied}
+use Rattle.rt_consumer.specs.Requests.{Builds, Does, Extends, Requests, forced, stopped}
 use Rattle.rt_replica.proofs.Keeps.{builds_is, consumes_is, extends_is, forces_is, replies_is, requests_is, started_is, stops_is}
 use Rattle.rt_entry.specs.declared.entry.Entry.{Entry}
 use Rattle.rt_entry.specs.declared.entry.Entry.TheVariants.{Replica, Committed}

@@ -14,14 +14,14 @@ use Rattle.rt_model.specs.declared.setup.Setup.{Setup}
 use Rattle.rt_msgs.specs.Numbered.{Numbered, number_at}
 use Rattle.rt_past.specs.Past.{Past, Grows, with_request}
 use Rattle.rt_past.specs.Requests.{IsRequest}
-use Rattle.rt_replica.specs.declared.consumer.Consumer.{Consumer}
-use Rattle.rt_replica.specs.declared.refused.ReplicaRefused.{ReplicaRefused}
-use Rattle.rt_replica.specs.declared.refused.ReplicaRefused.TheVariants as replica
-use Rattle.rt_replica.specs.declared.waited.Waited.{Waited}
-use Rattle.rt_replica.specs.declared.waited.Waited.TheVariants.{Step, Extend}
-use Rattle.rt_replica.specs.Consumer.{extends_in, number_of}
+use Rattle.rt_consumer.specs.declared.consumer.Consumer.{Consumer}
+use Rattle.rt_consumer.specs.declared.refused.ReplicaRefused.{ReplicaRefused}
+use Rattle.rt_consumer.specs.declared.refused.ReplicaRefused.TheVariants as replica
+use Rattle.rt_consumer.specs.declared.waited.Waited.{Waited}
+use Rattle.rt_consumer.specs.declared.waited.Waited.TheVariants.{Step, Extend}
+use Rattle.rt_consumer.specs.Consumer.{extends_in, number_of}
 use Rattle.rt_replica.specs.Lasting.{IsReplica}
-use Rattle.rt_replica.specs.Requests.{Extends, Requests, request_with}
+use Rattle.rt_consumer.specs.Requests.{Extends, Requests, request_with}
 use Rattle.rt_replica.proofs.Asking.{asked_lasts, extend_right, request_right}
 use Rattle.rt_entry.specs.declared.entry.Entry.TheVariants.{Replica}
 use Rattle.rt_entry.specs.declared.refused.ServerRefused.{ServerRefused}

@@ -25,10 +25,10 @@ use Rattle.rt_past.specs.Past.{Past}
 use Rattle.rt_past.specs.IsPast.{IsPast}
 use Rattle.rt_past.specs.Replies.{IsReply}
 use Rattle.rt_past.specs.Segments.{IsIncarnation}
-use Rattle.rt_replica.specs.declared.consumer.Consumer.{Consumer}
-use Rattle.rt_replica.specs.Batch.{Consumes}
-use Rattle.rt_replica.specs.Requests.{Builds, Does, forced, stopped}
-use Rattle.rt_replica.specs.Replies.{replied}
+use Rattle.rt_consumer.specs.declared.consumer.Consumer.{Consumer}
+use Rattle.rt_consumer.specs.Batch.{Consumes}
+use Rattle.rt_consumer.specs.Requests.{Builds, Does, forced, stopped}
+use Rattle.rt_consumer.specs.Replies.{replied}
 use Rattle.rt_entry.specs.declared.entry.Entry.TheVariants.{Replica}
 use Rattle.rt_entry.specs.declared.refused.ServerRefused.{ServerRefused}
 use Rattle.rt_entry.specs.declared.refused.ServerRefused.TheVariants.{StoreFault, Memory}

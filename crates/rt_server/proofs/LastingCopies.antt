@@ -12,14 +12,14 @@ use Rattle.rt_past.specs.Past.{Past}
 use Rattle.rt_past.specs.Files.{range_to}
 use Rattle.rt_past.specs.IsPast.{IsPast}
 use Rattle.rt_past.specs.Segments.{IsBegun, WasDone}
-use Rattle.rt_replica.specs.declared.phase.CommittedFile.{CommittedFile}
-use Rattle.rt_replica.specs.declared.phase.Phase.{Phase}
-use Rattle.rt_replica.specs.declared.phase.Phase.TheVariants as phase
-use Rattle.rt_replica.specs.declared.settings.Settings.{Settings}
-use Rattle.rt_replica.specs.Consumer.{IsKept, IsPhase}
+use Rattle.rt_consumer.specs.declared.phase.CommittedFile.{CommittedFile}
+use Rattle.rt_consumer.specs.declared.phase.Phase.{Phase}
+use Rattle.rt_consumer.specs.declared.phase.Phase.TheVariants as phase
+use Rattle.rt_consumer.specs.declared.settings.Settings.{Settings}
+use Rattle.rt_consumer.specs.Consumer.{IsKept, IsPhase}
 use Rattle.rt_replica.specs.Held.{HoldsFile, HoldsIn}
 use Rattle.rt_replica.specs.Lasting.{IsToldIn}
-use Rattle.rt_replica.specs.Serving as replica
+use Rattle.rt_consumer.specs.Serving as replica
 use Rattle.rt_entry.specs.declared.entry.Entry.{Entry}
 use Rattle.rt_entry.specs.declared.entry.Entry.TheVariants.{Replica, Committed}
 use Rattle.rt_entry.specs.Entry.{IsEntry, file_in}

@@ -32,7 +32,7 @@ use Rattle.rt_deep.proofs.Seeing.{absent_seen, get_seen}
 use Rattle.rt_past.specs.Past.{Past}
 use Rattle.rt_past.specs.Files.{IsStored, Stands}
 use Rattle.rt_past.specs.IsPast.{IsPast}
-use Rattle.rt_replica.specs.Consumer.{end_in}
+use Rattle.rt_consumer.specs.Consumer.{end_in}
 use Rattle.rt_entry.specs.declared.entry.CommittedSegment.{CommittedSegment}
 use Rattle.rt_entry.specs.declared.entry.Entry.{Entry}
 use Rattle.rt_entry.specs.declared.entry.Entry.TheVariants.{Replica, Committed}

@@ -24,9 +24,9 @@ use Rattle.rt_past.specs.Segments.{IsBegun, IsIncarnation}
 use Rattle.rt_past.proofs.Growth.{incarnation_grows}
 use Rattle.rt_past.proofs.Numbers.{drawn_anew, drawn_next, next_is_fresh}
 use Rattle.rt_past.proofs.Ways.{past_called, past_requests}
-use Rattle.rt_replica.specs.declared.phase.Phase.{Phase}
-use Rattle.rt_replica.specs.declared.phase.Phase.TheVariants as phase
-use Rattle.rt_replica.specs.Consumer.{cur_in}
+use Rattle.rt_consumer.specs.declared.phase.Phase.{Phase}
+use Rattle.rt_consumer.specs.declared.phase.Phase.TheVariants as phase
+use Rattle.rt_consumer.specs.Consumer.{cur_in}
 use Rattle.rt_replica.specs.Held.{HoldsIn}
 use Rattle.rt_entry.specs.declared.refused.ServerRefused.{ServerRefused}
 use Rattle.rt_entry.specs.declared.refused.ServerRefused.TheVariants.{NotDue, StoreFault, BadFile, Memory}

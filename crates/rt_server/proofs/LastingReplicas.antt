@@ -12,19 +12,19 @@ use Rattle.rt_model.specs.declared.setup.Setup.{Setup}
 use Rattle.rt_past.specs.Past.{Past}
 use Rattle.rt_past.specs.IsPast.{IsPast}
 use Rattle.rt_past.specs.Replies.{IsReply}
-use Rattle.rt_replica.specs.declared.consumer.Consumer.{Consumer}
-use Rattle.rt_replica.specs.declared.phase.Phase.{Phase}
-use Rattle.rt_replica.specs.declared.phase.Phase.TheVariants as phase
-use Rattle.rt_replica.specs.declared.refused.ReplicaRefused.{ReplicaRefused}
-use Rattle.rt_replica.specs.declared.refused.ReplicaRefused.TheVariants.{NotDue, Memory}
-use Rattle.rt_replica.specs.declared.replies.Turn.{Turn}
-use Rattle.rt_replica.specs.declared.replies.Turn.TheVariants.{Stays, Goes}
-use Rattle.rt_replica.specs.declared.waited.Waited.{Waited}
-use Rattle.rt_replica.specs.Batch.{Consumes, asked_in, taken, taken_in, consumed}
-use Rattle.rt_replica.specs.Consumer.{IsConsumer, number_of}
+use Rattle.rt_consumer.specs.declared.consumer.Consumer.{Consumer}
+use Rattle.rt_consumer.specs.declared.phase.Phase.{Phase}
+use Rattle.rt_consumer.specs.declared.phase.Phase.TheVariants as phase
+use Rattle.rt_consumer.specs.declared.refused.ReplicaRefused.{ReplicaRefused}
+use Rattle.rt_consumer.specs.declared.refused.ReplicaRefused.TheVariants.{NotDue, Memory}
+use Rattle.rt_consumer.specs.declared.replies.Turn.{Turn}
+use Rattle.rt_consumer.specs.declared.replies.Turn.TheVariants.{Stays, Goes}
+use Rattle.rt_consumer.specs.declared.waited.Waited.{Waited}
+use Rattle.rt_consumer.specs.Batch.{Consumes, asked_in, taken, taken_in, consumed}
+use Rattle.rt_consumer.specs.Consumer.{IsConsumer, number_of}
 use Rattle.rt_replica.specs.Lasting.{IsReplica}
-use Rattle.rt_replica.specs.Replies.{replied, replied_to, turn_by, turned}
-use Rattle.rt_replica.specs.Requests.{Builds, Does, forced, learned, stopped}
+use Rattle.rt_consumer.specs.Replies.{replied, replied_to, turn_by, turned}
+use Rattle.rt_consumer.specs.Requests.{Builds, Does, forced, learned, stopped}
 use Rattle.rt_replica.proofs.Answered.{replied_lasts}
 use Rattle.rt_replica.proofs.KeepsLasting.{built_lasts, consumed_lasts, forced_lasts, stopped_lasts}
 use Rattle.rt_server.specs.Lasting.{segment_of}

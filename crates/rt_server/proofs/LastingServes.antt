@@ -16,10 +16,10 @@ use Rattle.rt_model.specs.declared.piece.Piece.{Piece}
 use Rattle.rt_model.specs.declared.seg_meta.SeenMeta.{SeenMeta}
 use Rattle.rt_model.specs.declared.setup.Setup.{Setup}
 use Rattle.rt_past.specs.Past.{Past}
-use Rattle.rt_replica.specs.declared.phase.Phase.{Phase}
-use Rattle.rt_replica.specs.declared.phase.Phase.TheVariants as phase
-use Rattle.rt_replica.specs.declared.settings.Settings.{Settings}
-use Rattle.rt_replica.specs.Consumer.{IsPhase}
+use Rattle.rt_consumer.specs.declared.phase.Phase.{Phase}
+use Rattle.rt_consumer.specs.declared.phase.Phase.TheVariants as phase
+use Rattle.rt_consumer.specs.declared.settings.Settings.{Settings}
+use Rattle.rt_consumer.specs.Consumer.{IsPhase}
 use Rattle.rt_replica.specs.Held.{HoldsFile, HoldsIn, HoldsRows, messages_between, placed_from, placed_row}
 use Rattle.rt_replica.proofs.Places.{all_before, between_append, length_between, placed_append, rows_placed}
 use Rattle.rt_entry.specs.declared.entry.Entry.{Entry}

@@ -27,7 +27,7 @@ use Rattle.rt_past.specs.Files.{IsStored}
 use Rattle.rt_past.specs.IsPast.{IsPast}
 use Rattle.rt_past.specs.Segments.{HadEntry, IsAssignedTo, IsBegun, WasDone}
 use Rattle.rt_past.specs.Writes.{AreRightEntries, IsRightNode, IsRightStatus}
-use Rattle.rt_replica.specs.Consumer.{end_in, end_of}
+use Rattle.rt_consumer.specs.Consumer.{end_in, end_of}
 use Rattle.rt_replica.proofs.Answered.{one_start}
 use Rattle.rt_server.specs.Calls.{targets_of}
 use Rattle.rt_server.specs.Lasting.{AreTargets, IsServerOver}

@@ -43,10 +43,10 @@ use Rattle.rt_past.specs.Replies.{IsReply}
 use Rattle.rt_past.specs.Requests.{AreDrawn}
 use Rattle.rt_past.proofs.Growth.{grows_same}
 use Rattle.rt_past.proofs.Ways.{past_called}
-use Rattle.rt_replica.specs.declared.consumer.Consumer.{Consumer}
-use Rattle.rt_replica.specs.declared.refused.ReplicaRefused.{ReplicaRefused}
-use Rattle.rt_replica.specs.declared.refused.ReplicaRefused.TheVariants as replica
-use Rattle.rt_replica.specs.Batch.{Consumes}
+use Rattle.rt_consumer.specs.declared.consumer.Consumer.{Consumer}
+use Rattle.rt_consumer.specs.declared.refused.ReplicaRefused.{ReplicaRefused}
+use Rattle.rt_consumer.specs.declared.refused.ReplicaRefused.TheVariants as replica
+use Rattle.rt_consumer.specs.Batch.{Consumes}
 use Rattle.rt_entry.specs.declared.entry.CommittedSegment.{CommittedSegment}
 use Rattle.rt_entry.specs.declared.refused.ServerRefused.{ServerRefused}
 use Rattle.rt_entry.specs.declared.refused.ServerRefused.TheVariants.{BadFile}

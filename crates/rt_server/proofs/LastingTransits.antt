@@ -26,8 +26,8 @@ use Rattle.rt_store.proofs.Seeing.{read_seen}
 use Rattle.rt_past.specs.Past.{Past}
 use Rattle.rt_past.specs.IsPast.{IsPast}
 use Rattle.rt_past.specs.Segments.{IsBegun, WasDone, WasMeta}
-use Rattle.rt_replica.specs.declared.consumer.Consumer.{Consumer}
-use Rattle.rt_replica.specs.Consumer.{started_of}
+use Rattle.rt_consumer.specs.declared.consumer.Consumer.{Consumer}
+use Rattle.rt_consumer.specs.Consumer.{started_of}
 use Rattle.rt_replica.specs.Lasting.{IsReplica}
 use Rattle.rt_replica.proofs.KeepsLasting.{learned_lasts, started_lasts}
 use Rattle.rt_entry.specs.declared.entry.Entry.{Entry}

@@ -21,7 +21,7 @@ use Rattle.rt_store.specs.Calls.{Reads}
 use Rattle.rt_store.specs.Contents.{starting_of}
 use Rattle.rt_store.specs.Meaning.{Meaning}
 use Rattle.rt_store.proofs.Seeing.{read_grows, read_lawful, read_seen}
-use Rattle.rt_replica.specs.Consumer.{end_in}
+use Rattle.rt_consumer.specs.Consumer.{end_in}
 use Rattle.rt_entry.specs.declared.refused.ServerRefused.{ServerRefused}
 use Rattle.rt_server.specs.Past.{HasHistory, MayLearn, StartsWithItsNode}
 use Rattle.rt_server.specs.Table.{ServerState}

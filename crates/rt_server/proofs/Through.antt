@@ -16,9 +16,9 @@ use Rattle.rt_model.specs.declared.reply.Reply.{Reply}
 use Rattle.rt_model.specs.declared.request.Request.{Request}
 use Rattle.rt_msgs.specs.Numbered.{Numbered}
 use Rattle.rt_stream.specs.Feed.{FeedMeaning}
-use Rattle.rt_replica.specs.declared.consumer.Consumer.{Consumer}
-use Rattle.rt_replica.specs.Batch.{Consumes}
-use Rattle.rt_replica.specs.Requests.{Builds, Does, Extends, Requests, forced, stopped}
+use Rattle.rt_consumer.specs.declared.consumer.Consumer.{Consumer}
+use Rattle.rt_consumer.specs.Batch.{Consumes}
+use Rattle.rt_consumer.specs.Requests.{Builds, Does, Extends, Requests, forced, stopped}
 use Rattle.rt_entry.specs.declared.entry.Entry.{Entry}
 use Rattle.rt_entry.specs.declared.entry.Entry.TheVariants.{Replica, Committed}
 use Rattle.rt_entry.specs.declared.refused.ServerRefused.{ServerRefused}

@@ -20,11 +20,11 @@ use Rattle.rt_store.specs.declared.refused.StoreRefused.{StoreRefused}
 use Rattle.rt_store.specs.declared.refused.StoreRefused.TheVariants as store
 use Rattle.rt_store.specs.Meaning.{Meaning}
 use Rattle.rt_store.specs.Calls.{Reads, Bumps}
-use Rattle.rt_replica.specs.declared.consumer.Consumer.{Consumer}
-use Rattle.rt_replica.specs.declared.refused.ReplicaRefused.{ReplicaRefused}
-use Rattle.rt_replica.specs.Batch.{Consumes}
-use Rattle.rt_replica.specs.Replies.{is_answer, replied}
-use Rattle.rt_replica.specs.Requests.{Builds, Does, Extends, Requests, forced, stopped}
+use Rattle.rt_consumer.specs.declared.consumer.Consumer.{Consumer}
+use Rattle.rt_consumer.specs.declared.refused.ReplicaRefused.{ReplicaRefused}
+use Rattle.rt_consumer.specs.Batch.{Consumes}
+use Rattle.rt_consumer.specs.Replies.{is_answer, replied}
+use Rattle.rt_consumer.specs.Requests.{Builds, Does, Extends, Requests, forced, stopped}
 use Rattle.rt_entry.specs.declared.entry.Entry.TheVariants.{Replica}
 use Rattle.rt_entry.specs.declared.refused.ServerRefused.{ServerRefused}
 use Rattle.rt_entry.specs.declared.refused.ServerRefused.TheVariants.{NotDue, StoreFault, Memory}

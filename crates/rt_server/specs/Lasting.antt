@@ -21,8 +21,8 @@ use Rattle.rt_past.specs.Past.{Past, Grows, with_request}
 use Rattle.rt_past.specs.IsPast.{IsPast}
 use Rattle.rt_past.specs.Requests.{AreDrawn, IsRequest}
 use Rattle.rt_past.specs.Segments.{HadEntry, IsAssignedTo, IsIncarnation, WasDone}
-use Rattle.rt_replica.specs.declared.consumer.Consumer.{Consumer}
-use Rattle.rt_replica.specs.Consumer.{IsKept}
+use Rattle.rt_consumer.specs.declared.consumer.Consumer.{Consumer}
+use Rattle.rt_consumer.specs.Consumer.{IsKept}
 use Rattle.rt_replica.specs.Held.{HoldsFile}
 use Rattle.rt_replica.specs.Lasting.{IsReplica}
 use Rattle.rt_entry.specs.declared.entry.CommittedSegment.{CommittedSegment}

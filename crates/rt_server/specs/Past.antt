@@ -9,8 +9,8 @@ use Rattle.rt_model.specs.Metadata.{HasNode}
 use Rattle.rt_past.specs.Segments.{OpensAt}
 use Rattle.rt_store.specs.Contents.{starting_of}
 use Rattle.rt_store.specs.Meaning.{Meaning}
-use Rattle.rt_replica.specs.declared.consumer.Consumer.{Consumer}
-use Rattle.rt_replica.specs.Consumer.{end_of}
+use Rattle.rt_consumer.specs.declared.consumer.Consumer.{Consumer}
+use Rattle.rt_consumer.specs.Consumer.{end_of}
 use Rattle.rt_server.specs.Table.{Segments, ServerState, replica_of}
 
 -- the store's history begins with the cluster's starting contents, and is lawful

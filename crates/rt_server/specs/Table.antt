@@ -12,7 +12,7 @@ use Rattle.rt_segment.specs.Segment.{SealedSegment}
 use Rattle.rt_model.specs.declared.ideal_state.Mode.{Mode}
 use Rattle.rt_model.specs.declared.setup.Setup.{Setup}
 use Rattle.rt_msgs.specs.Numbered.{Numbered}
-use Rattle.rt_replica.specs.declared.consumer.Consumer.{Consumer}
+use Rattle.rt_consumer.specs.declared.consumer.Consumer.{Consumer}
 use Rattle.rt_entry.specs.declared.entry.Entry.{Entry}
 use Rattle.rt_entry.specs.Entry.{replica_in, wanted_in, file_in}
 

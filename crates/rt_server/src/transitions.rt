@@ -1,7 +1,7 @@
 //! A segment moves to what the ideal state asks.
 ghost use Rattle.std.specs.Prelude.{◌≡◌, Some, IfOk, OnErr};
 ghost use Rattle.rt_model.specs.Setup.{IsSetup};
-ghost use Rattle.rt_replica.specs.Consumer.{end_of};
+ghost use Rattle.rt_consumer.specs.Consumer.{end_of};
 ghost use Rattle.rt_server.specs.Past.{MayLearn, MayLearnOf};
 ghost use Rattle.rt_server.specs.Table.{entry_of};
 ghost use Rattle.rt_server.specs.Transition.{committed, moved_by, moved_to, opened, removed, transition};

@@ -105,6 +105,10 @@ upsert_at columns keyed table =
 abbrev pub object_of : List ℕ → Option Data
 object_of text = option_and_then if_object (read text)
 
+-- the time column that a table's text names
+abbrev pub time_column_of : List ℕ → Option (List ℕ)
+time_column_of table_text = time_of (object_of table_text)
+
 -- the settings that the texts of a schema and of a table have
 abbrev pub upsert_of : Schema → List ℕ → List ℕ → Result (Option UpsertConfig) UpsertRefused
 upsert_of schema schema_text table_text = upsert_at schema.columns (object_of schema_text) (object_of table_text)

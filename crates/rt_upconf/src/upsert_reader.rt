@@ -3,6 +3,7 @@ ghost use Rattle.serde_json.specs.View.{view};
 ghost use Rattle.rt_upconf.specs.Upsert.{Answers, are_columns, column_at, comparison_of, comparison_from, config_with, configured, fallback_of, full_of, is_comparable, keys_of, upsert_at, upsert_of, IsUpsertConfig};
 
 use crate::object::{inside, is_given, lent, object_at, read_object, text_at, text_of, texts_at};
+use crate::time_column::time_of;
 use crate::{UpsertConfig, UpsertRefused};
 use rt_lists::{Items, Text};
 use rt_schema::{Column, Kind, Schema};
@@ -54,8 +55,7 @@ fn upsert_at(
     let Some(config) = object_at(found) else {
         return Err(UpsertRefused::NotObject);
     };
-    let time = text_of(inside(inside(table, "segmentsConfig"), "timeColumnName"));
-    configured(alloc, columns, keyed, time, config)
+    configured(alloc, columns, keyed, time_of(table), config)
 }
 
 // What the settings say by their mode.

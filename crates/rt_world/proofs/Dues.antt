@@ -6,7 +6,7 @@ use Rattle.rt_base.specs.declared.numbers.Instance.{Instance}
 use Rattle.rt_base.specs.declared.numbers.Partition.{Partition}
 use Rattle.rt_base.specs.declared.numbers.Sequence.{Sequence}
 use Rattle.rt_events.specs.declared.refusal.Refusal.TheVariants.{NoSuchNode, NodeDown, NothingToDo}
-use Rattle.rt_replica.specs.declared.consumer.Consumer.{Consumer}
+use Rattle.rt_consumer.specs.declared.consumer.Consumer.{Consumer}
 use Rattle.rt_server.specs.Table.{replica_of}
 use Rattle.rt_world.specs.Finding.{find_controller, find_server, has_controller, has_partition, has_server, is_controller_up, is_server_up, passes, replica_at, replica_in}
 use Rattle.rt_world.specs.Replicas.{replica_due}

@@ -11,8 +11,8 @@ use Rattle.rt_model.specs.declared.request.RequestNumber.{RequestNumber}
 use Rattle.rt_model.specs.declared.sent.Sent.TheVariants as sent
 use Rattle.rt_past.proofs.Numbers.{drawn_other}
 use Rattle.rt_past.specs.Past.{with_request}
-use Rattle.rt_replica.specs.Requests.{size_in}
-use Rattle.rt_replica.specs.declared.consumer.Consumer.{Consumer}
+use Rattle.rt_consumer.specs.Requests.{size_in}
+use Rattle.rt_consumer.specs.declared.consumer.Consumer.{Consumer}
 use Rattle.rt_server.proofs.LastingTold.{asks_for_right, asks_right}
 use Rattle.rt_server.specs.Lasting.{SendsRight}
 use Rattle.rt_world.proofs.Bounds.{few_sent}

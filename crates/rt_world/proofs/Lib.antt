@@ -1,11 +1,5 @@
-pub mod Adds
-pub mod AddsEvents
-pub mod Answering
 pub mod Asking
 pub mod Bounds
-pub mod CommitOpens
-pub mod CommitRuns
-pub mod Committed
 pub mod Does
 pub mod Dues
 pub mod Ending
@@ -14,7 +8,6 @@ pub mod Few
 pub mod Going
 pub mod Ideals
 pub mod JobCounts
-pub mod JobsOn
 pub mod KeepsClock
 pub mod KeepsJobs
 pub mod KeepsLives
@@ -24,7 +17,6 @@ pub mod KeepsRepairs
 pub mod KeepsRequests
 pub mod KeepsServers
 pub mod KeepsStream
-pub mod Later
 pub mod Leading
 pub mod NeedsNodes
 pub mod NeedsQueries
@@ -33,7 +25,6 @@ pub mod Places
 pub mod Possible
 pub mod Quiet
 pub mod Refusing
-pub mod Runs
 pub mod SafeSteps
 pub mod SeenReplicas
 pub mod Sets
@@ -44,4 +35,3 @@ pub mod Stores
 pub mod Taking
 pub mod Topics
 pub mod Upkeeping
-pub mod Worlds

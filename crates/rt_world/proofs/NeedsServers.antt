@@ -5,8 +5,8 @@ use Rattle.rt_base.specs.declared.numbers.Instance.{Instance}
 use Rattle.rt_base.specs.declared.numbers.Partition.{Partition}
 use Rattle.rt_base.specs.declared.numbers.Sequence.{Sequence}
 use Rattle.rt_events.specs.declared.refusal.Refusal.TheVariants.{NoSuchNode, NodeDown, NothingToDo}
-use Rattle.rt_replica.specs.declared.consumer.Consumer.{Consumer}
-use Rattle.rt_replica.specs.Requests.{size_in}
+use Rattle.rt_consumer.specs.declared.consumer.Consumer.{Consumer}
+use Rattle.rt_consumer.specs.Requests.{size_in}
 use Rattle.rt_server.proofs.LastingNeeds.{history_needed, messages_needed, numbers_needed, start_needed}
 use Rattle.rt_server.proofs.LastingTold.{download_finds}
 use Rattle.rt_server.specs.Logs.{HasMessages}

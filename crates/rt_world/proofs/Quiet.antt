@@ -17,10 +17,10 @@ use Rattle.rt_entry.specs.declared.refused.ServerRefused.{ServerRefused}
 use Rattle.rt_model.specs.declared.commit.Commit.{Commit}
 use Rattle.rt_model.specs.declared.ideal_state.Mode.{Mode}
 use Rattle.rt_model.specs.declared.replica_state.ReplicaState.{ReplicaState}
-use Rattle.rt_replica.specs.Batch.{Consumes, Looks}
-use Rattle.rt_replica.specs.declared.consumer.Consumer.{Consumer}
-use Rattle.rt_replica.specs.declared.refused.ReplicaRefused.{ReplicaRefused}
-use Rattle.rt_replica.specs.declared.refused.ReplicaRefused.TheVariants as replica
+use Rattle.rt_consumer.specs.Batch.{Consumes, Looks}
+use Rattle.rt_consumer.specs.declared.consumer.Consumer.{Consumer}
+use Rattle.rt_consumer.specs.declared.refused.ReplicaRefused.{ReplicaRefused}
+use Rattle.rt_consumer.specs.declared.refused.ReplicaRefused.TheVariants as replica
 use Rattle.rt_schema.specs.declared.schema.Schema.{Schema}
 use Rattle.rt_server.specs.Calls.{SeesIdeal, Takes, ThroughAt, Transits, TransitsIf, TransitsTo}
 use Rattle.rt_server.specs.Transition.{transit_due}

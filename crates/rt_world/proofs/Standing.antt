@@ -12,16 +12,16 @@ use Rattle.rt_entry.specs.declared.refused.ServerRefused.TheVariants.{NotDue, Me
 use Rattle.rt_model.specs.declared.request.RequestKind.{RequestKind}
 use Rattle.rt_model.specs.declared.request.RequestNumber.{RequestNumber}
 use Rattle.rt_msgs.specs.Numbered.{Numbered, number_at}
-use Rattle.rt_replica.specs.Batch.{Consumes, asked_at, asked_in}
-use Rattle.rt_replica.specs.Consumer.{asks_at, extends_in, state_of, state_at}
-use Rattle.rt_replica.specs.Requests.{Builds, Does, Extends, Requests, asks_now, forced, is_due, kind_at, kind_in, stopped, stops_at}
-use Rattle.rt_replica.specs.declared.consumer.Consumer.{Consumer}
-use Rattle.rt_replica.specs.declared.phase.Phase.{Phase}
-use Rattle.rt_replica.specs.declared.phase.Phase.TheVariants as phase
-use Rattle.rt_replica.specs.declared.refused.ReplicaRefused.{ReplicaRefused}
-use Rattle.rt_replica.specs.declared.refused.ReplicaRefused.TheVariants as replica
-use Rattle.rt_replica.specs.declared.stage.Stage.{Stage}
-use Rattle.rt_replica.specs.declared.stage.Stage.TheVariants.{InitialConsuming, CatchingUp, Holding, ConsumingToOnline, Retaining, Building, Starting, Uploading, Ending}
+use Rattle.rt_consumer.specs.Batch.{Consumes, asked_at, asked_in}
+use Rattle.rt_consumer.specs.Consumer.{asks_at, extends_in, state_of, state_at}
+use Rattle.rt_consumer.specs.Requests.{Builds, Does, Extends, Requests, asks_now, forced, is_due, kind_at, kind_in, stopped, stops_at}
+use Rattle.rt_consumer.specs.declared.consumer.Consumer.{Consumer}
+use Rattle.rt_consumer.specs.declared.phase.Phase.{Phase}
+use Rattle.rt_consumer.specs.declared.phase.Phase.TheVariants as phase
+use Rattle.rt_consumer.specs.declared.refused.ReplicaRefused.{ReplicaRefused}
+use Rattle.rt_consumer.specs.declared.refused.ReplicaRefused.TheVariants as replica
+use Rattle.rt_consumer.specs.declared.stage.Stage.{Stage}
+use Rattle.rt_consumer.specs.declared.stage.Stage.TheVariants.{InitialConsuming, CatchingUp, Holding, ConsumingToOnline, Retaining, Building, Starting, Uploading, Ending}
 use Rattle.rt_server.proofs.Kept.{replica_found}
 use Rattle.rt_server.specs.Calls.{Asks, AsksFor, Forces, Seals, Stops, Takes, ThroughAt}
 use Rattle.rt_server.specs.Table.{Segments, entry_of, is_segment, put_back, replica_at, replica_of}

@@ -9,7 +9,7 @@ use Rattle.rt_events.specs.declared.refusal.Refusal.TheVariants.{NoSuchNode, Nod
 use Rattle.rt_model.specs.declared.reply.Reply.{Reply}
 use Rattle.rt_model.specs.declared.request.Request.{Request}
 use Rattle.rt_model.specs.declared.sent.Sent.{Sent}
-use Rattle.rt_replica.specs.declared.consumer.Consumer.{Consumer}
+use Rattle.rt_consumer.specs.declared.consumer.Consumer.{Consumer}
 use Rattle.rt_server.specs.Table.{replica_of}
 use Rattle.rt_world.specs.Room.{only_if, Found}
 use Rattle.rt_world.specs.declared.controller_node.ControllerNode.{ControllerNode}

@@ -1,7 +1,8 @@
 -- The jobs of controllers, step by step.
 use Rattle.std.specs.Prelude.{◌≡◌, ℕ, Bool, false, length, slice_get, Option, Some, None, Ok}
 use Rattle.rt_base.specs.declared.numbers.ControllerId.{ControllerId}
-use Rattle.rt_controller.specs.Controller.{Controlling, is_open, sets_next}
+use Rattle.rt_controller.specs.Working.{is_open, sets_next}
+use Rattle.rt_controller.specs.Controller.{Controlling}
 use Rattle.rt_controller.specs.Steps.{Works}
 use Rattle.rt_deep.specs.Meaning.{Told as ToldDeep}
 use Rattle.rt_deep.specs.Memory.{means as deep_means}

@@ -1,15 +1,10 @@
 pub mod Applying
 pub mod Clock
-pub mod CommitRun
 pub mod Finding
-pub mod GoesOn
-pub mod IsAnswered
-pub mod IsRightReplica
 pub mod IsSafe
 pub mod IsSafeWorld
 pub mod Jobs
 pub mod Kept
-pub mod Later
 pub mod Lives
 pub mod Messages
 pub mod Nodes
@@ -21,7 +16,6 @@ pub mod Repairs
 pub mod Replicas
 pub mod Requests
 pub mod Room
-pub mod Runs
 pub mod Servers
 pub mod Shows
 pub mod Start

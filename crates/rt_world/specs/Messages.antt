@@ -10,8 +10,8 @@ use Rattle.rt_events.specs.declared.outcome.Outcome.{Outcome}
 use Rattle.rt_events.specs.declared.refusal.Refusal.TheVariants.{NoSuchMessage, NoSuchNode, NodeDown}
 use Rattle.rt_model.specs.declared.reply.Reply.{Reply}
 use Rattle.rt_model.specs.declared.request.Request.{Request}
-use Rattle.rt_replica.specs.Consumer.{state_of}
-use Rattle.rt_replica.specs.declared.consumer.Consumer.{Consumer}
+use Rattle.rt_consumer.specs.Consumer.{state_of}
+use Rattle.rt_consumer.specs.declared.consumer.Consumer.{Consumer}
 use Rattle.rt_server.specs.Calls.{replied_in}
 use Rattle.rt_server.specs.Table.{replica_of}
 use Rattle.rt_store.specs.Meaning.{Told}
@@ -53,9 +53,9 @@ handed w cost what = let x = tells w what in (counted x.0 cost, x.1)
 
 -- the state after a controller's step that may call the stores
 abbrev pub after_step : State → ControllerId → ControllerNode → Controlling → Told → ToldDeep → State
-after_step w c node controller store deep =
+after_step w c n controller store deep =
     record w {
-      controllers = slice_set w.controllers c.0 (record node { controller = controller });
+      controllers = slice_set w.controllers c.0 (record n { controller = controller });
       store = store;
       deep = deep;
     }
@@ -63,10 +63,10 @@ after_step w c node controller store deep =
 abbrev pub DeliversAt : Option Request → Option ControllerNode → State → ControllerId → Cost → Next → Type 0
 DeliversAt None n w c cost x = ⊥
 DeliversAt (Some q) None w c cost x = ⊥
-DeliversAt (Some q) (Some node) w c cost x =
+DeliversAt (Some q) (Some n) w c cost x =
     (controller : Controlling) × (what : Handled) × (store : Told) × (deep : ToldDeep)
-    × Handles {E = Unit {0}} (means w.store) (means store) (deep_means w.deep) (deep_means deep) node.controller q w.moment controller (Ok what)
-    × (x ≡ handed (after_step w c node controller store deep) cost what)
+    × Handles {E = Unit {0}} (means w.store) (means store) (deep_means w.deep) (deep_means deep) n.controller q w.moment controller (Ok what)
+    × (x ≡ handed (after_step w c n controller store deep) cost what)
 
 abbrev pub Delivers : State → ℕ → ControllerId → Cost → Next → Type 0
 Delivers w m c cost x = DeliversAt (request_at w m) (slice_get w.controllers c.0) w c cost x

@@ -17,12 +17,13 @@ use Rattle.rt_model.specs.declared.node.Listed.{Listed}
 use Rattle.rt_model.specs.declared.node.Node.{Node}
 use Rattle.rt_model.specs.declared.node.Seen.{Seen}
 use Rattle.rt_model.specs.declared.piece.Piece.{Piece}
+use Rattle.rt_model.specs.declared.replica_state.ReplicaState.{ReplicaState}
 use Rattle.rt_model.specs.declared.status.Status.{Status}
 use Rattle.rt_model.specs.declared.status.Status.TheVariants.{InProgress, Done, Abandoned}
 use Rattle.rt_pause.specs.declared.replica_seen.ReplicaSeen.{ReplicaSeen}
-use Rattle.rt_replica.specs.Consumer.{cur, state_of}
-use Rattle.rt_replica.specs.Requests.{is_ready}
-use Rattle.rt_replica.specs.declared.consumer.Consumer.{Consumer}
+use Rattle.rt_consumer.specs.Consumer.{cur, state_of}
+use Rattle.rt_consumer.specs.Requests.{is_ready}
+use Rattle.rt_consumer.specs.declared.consumer.Consumer.{Consumer}
 use Rattle.rt_segment.specs.Segment.{SealedSegment}
 use Rattle.rt_segment.specs.Spelling.{file_of as bytes_of}
 use Rattle.rt_server.specs.Due.{due_of as due_segments, wanted_of, held_of}
@@ -161,6 +162,18 @@ seen_below w (suc i) = seen_below w i ++ seen_at i (slice_get w.servers i)
 
 abbrev pub replicas_seen : State → List ReplicaSeen
 replicas_seen w = seen_below w w.setup.servers
+
+-- where the replica of a segment stands, at a server that is up
+abbrev pub replica_up : Option ServerNode → Partition → Sequence → Option Consumer
+replica_up None p q = None
+replica_up (Some n) p q = if n.up then replica_of n.server.table p q else None
+
+abbrev pub stage_of : Option Consumer → Option ReplicaState
+stage_of None = None
+stage_of (Some r) = Some (state_of r.phase)
+
+abbrev pub stage_at : State → Instance → Partition → Sequence → Option ReplicaState
+stage_at w i p q = stage_of (replica_up (slice_get w.servers i.0) p q)
 
 abbrev pub file_in : Option ServerNode → Partition → Sequence → Option SealedSegment
 file_in None p q = None

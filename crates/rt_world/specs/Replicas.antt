@@ -7,9 +7,9 @@ use Rattle.rt_base.specs.declared.numbers.Sequence.{Sequence}
 use Rattle.rt_events.specs.declared.outcome.Outcome.{Outcome}
 use Rattle.rt_events.specs.declared.refusal.Refusal.TheVariants.{NothingToDo}
 use Rattle.rt_model.specs.declared.replica_state.ReplicaState.{ReplicaState}
-use Rattle.rt_replica.specs.Consumer.{cur, state_of}
-use Rattle.rt_replica.specs.Requests.{rows_in, forced, is_due, builds_in}
-use Rattle.rt_replica.specs.declared.consumer.Consumer.{Consumer}
+use Rattle.rt_consumer.specs.Consumer.{cur, state_of}
+use Rattle.rt_consumer.specs.Requests.{rows_in, forced, is_due, builds_in}
+use Rattle.rt_consumer.specs.declared.consumer.Consumer.{Consumer}
 use Rattle.rt_server.specs.Calls.{InTable, Takes, Seals, Forces as server_forces, Stops as server_stops}
 use Rattle.rt_server.specs.Table.{replica_of}
 use Rattle.rt_stream.specs.Feed.{log_meaning}

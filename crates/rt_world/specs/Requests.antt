@@ -6,9 +6,9 @@ use Rattle.rt_base.specs.declared.numbers.Sequence.{Sequence}
 use Rattle.rt_events.specs.declared.refusal.Refusal.TheVariants.{NothingToDo}
 use Rattle.rt_model.specs.declared.request.Request.{Request}
 use Rattle.rt_model.specs.declared.sent.Sent.{Sent}
-use Rattle.rt_replica.specs.Consumer.{extends_in}
-use Rattle.rt_replica.specs.Requests.{asks_now, size_in}
-use Rattle.rt_replica.specs.declared.consumer.Consumer.{Consumer}
+use Rattle.rt_consumer.specs.Consumer.{extends_in}
+use Rattle.rt_consumer.specs.Requests.{asks_now, size_in}
+use Rattle.rt_consumer.specs.declared.consumer.Consumer.{Consumer}
 use Rattle.rt_server.specs.Calls.{Asks, AsksFor}
 use Rattle.rt_world.specs.Applying.{Next}
 use Rattle.rt_world.specs.Finding.{find_server, replica_at, passes}

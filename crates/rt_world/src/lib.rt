@@ -11,9 +11,6 @@ mod cost;
 mod counts;
 mod finding;
 mod jobs;
-mod laws;
-mod laws_of_runs;
-mod laws_of_worlds;
 mod leaders;
 mod lives;
 mod messages;
@@ -36,17 +33,6 @@ mod world;
 pub use controller_node::ControllerNode;
 pub use cost::Cost;
 pub use counts::Counts;
-pub use laws::{
-    a_commit_end_in_time_opens_its_commit, an_open_commit_goes_on_until_it_ends,
-    every_event_keeps_a_world_safe, the_first_world_is_safe,
-};
-pub use laws_of_runs::{
-    a_run_only_adds, every_world_of_every_run_is_safe, no_upload_is_bad_and_no_sender_a_stranger,
-};
-pub use laws_of_worlds::{
-    every_answer_is_right, files_and_messages_are_right, no_download_meets_a_bad_file,
-    partitions_are_chained_and_tiled, servers_have_the_rows_of_the_stream,
-};
 pub use rt_events::{Event, Outcome, Refusal};
 pub use server_node::ServerNode;
 pub use state::State;

@@ -15,6 +15,7 @@ ghost use Rattle.rt_world.specs.Reading.{
   pieces_of,
   ServesRows,
   replicas_seen,
+  stage_at,
   copy_in,
   ideal_in,
   end_after,
@@ -26,7 +27,7 @@ use rt_base::{Instance, NodeId, Offset, Partition, Sequence};
 use rt_broker::Plan;
 use rt_lists::{Copied, Items};
 use rt_model::{IdealState, Key, Listed, Node, Piece, Status};
-use rt_pause::ReplicaSeen;
+use rt_pause::{ReplicaSeen, Stage};
 use rt_server::ServedRows;
 use std::alloc::{AllocError, Global};
 
@@ -185,6 +186,21 @@ impl State {
         match self.servers.get(number as usize) {
             Some(node) => node.add_replicas(alloc, Instance(number), seen),
             None => Ok(()),
+        }
+    }
+
+    /// Where the replica of a segment stands; none where the server is down or has none.
+    pub(crate) fn stage(
+        &self,
+        instance: Instance,
+        partition: Partition,
+        sequence: Sequence,
+    ) -> Option<Stage>
+        ensures { result ≡ stage_at self.now instance partition sequence }
+    {
+        match self.servers.get(instance.0 as usize) {
+            Some(node) => node.stage(partition, sequence),
+            None => None,
         }
     }
 

@@ -1,13 +1,13 @@
 //! What a server that is up has.
 ghost use Rattle.std.specs.Prelude.{◌≡◌, ◌≤◌, ◌++◌, IfOk, IfSome, OnOk, Some, option_map};
 ghost use Rattle.rt_server.specs.Table.{replica_of};
-ghost use Rattle.rt_world.specs.Reading.{rows_of_node, seen_of, seen_as, file_bytes, file_in};
+ghost use Rattle.rt_world.specs.Reading.{rows_of_node, seen_of, seen_as, replica_up, stage_of, file_bytes, file_in};
 
 use crate::ServerNode;
 use rt_base::{Instance, Partition, Sequence};
 use rt_lists::Items;
 use rt_model::Piece;
-use rt_pause::ReplicaSeen;
+use rt_pause::{ReplicaSeen, Stage};
 use rt_segment::encode;
 use rt_server::{ServeRefused, ServedRows};
 use std::alloc::{AllocError, Global};
@@ -66,6 +66,19 @@ impl ServerNode {
                 cur: replica.cur(),
             }),
             None => Ok(()),
+        }
+    }
+
+    /// Where the replica of a segment stands, at a server that is up.
+    pub(crate) fn stage(&self, partition: Partition, sequence: Sequence) -> Option<Stage>
+        ensures { result ≡ stage_of (replica_up (Some self.now) partition sequence) }
+    {
+        if !self.up {
+            return None;
+        }
+        match self.server.replica(partition, sequence) {
+            Some(replica) => Some(replica.state()),
+            None => None,
         }
     }
 

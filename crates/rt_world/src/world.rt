@@ -17,6 +17,7 @@ ghost use Rattle.rt_world.specs.Reading.{
   pieces_of,
   ServesRows,
   replicas_seen,
+  stage_at,
   copy_in,
   ideal_in,
 };
@@ -28,7 +29,7 @@ use rt_base::limits::MOST_EVENTS;
 use rt_base::{ControllerId, Instance, NodeId, Offset, Partition, Sequence};
 use rt_lists::Items;
 use rt_model::{IdealState, Listed, Piece, Setup};
-use rt_pause::ReplicaSeen;
+use rt_pause::{ReplicaSeen, Stage};
 use rt_server::ServedRows;
 use std::alloc::{AllocError, Global};
 use std::marker::Model;
@@ -235,6 +236,18 @@ impl World {
         ensures { IfOk result (λ seen. seen ≡ replicas_seen self.now.state) }
     {
         self.state.replicas(alloc)
+    }
+
+    /// Where the replica of a segment stands; none where the server is down or has no replica of it.
+    pub fn stage(
+        &self,
+        instance: Instance,
+        partition: Partition,
+        sequence: Sequence,
+    ) -> Option<Stage>
+        ensures { result ≡ stage_at self.now.state instance partition sequence }
+    {
+        self.state.stage(instance, partition, sequence)
     }
 
     /// The present metadata nodes of a partition, by sequence. Fails only where memory is refused.

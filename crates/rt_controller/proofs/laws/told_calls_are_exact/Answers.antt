@@ -1,4 +1,5 @@
-use Rattle.rt_controller.proofs.Telling.{told_request, told_work, told_out}
+use Rattle.rt_commit.proofs.Telling.{told_out}
+use Rattle.rt_controller.proofs.Telling.{told_request, told_work}
 use Rattle.rt_controller.proofs.laws.told_calls_are_exact.Goals as goal
 
 pub returns-clause-requests : goal.returns-clause-requests

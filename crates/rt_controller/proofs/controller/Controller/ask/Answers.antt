@@ -2,7 +2,7 @@
 use Rattle.std.proofs.Common.{◌≡◌, ◌<◌, List, None, true, sym, ◌∙◌, ap, arith}
 use Rattle.rt_base.specs.declared.limits.TheConstants.{LAST_NUMBER}
 use Rattle.rt_controller.specs.declared.segment_machine.SegmentMachine.{SegmentMachine}
-use Rattle.rt_controller.specs.Assignment.{is_replica}
+use Rattle.rt_commit.specs.Assignment.{is_replica}
 use Rattle.rt_controller.specs.Controller.{Controlling, machine_place}
 use Rattle.rt_controller.proofs.Parts.{asks_none, asked_none}
 use Rattle.rt_controller.proofs.controller.Controller.ask.Goals as goal

@@ -1,0 +1,12 @@
+pub mod Assignment
+pub mod Calls
+pub mod Causes
+pub mod Changes
+pub mod Found
+pub mod IsJob
+pub mod Job
+pub mod Lasting
+pub mod Laws
+pub mod Right
+pub mod Steps
+pub mod Told

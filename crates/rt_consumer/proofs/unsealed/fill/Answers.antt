@@ -1,0 +1,10 @@
+use Rattle.std.proofs.Common.{arith}
+use Rattle.rt_consumer.specs.Batch.{filled}
+use Rattle.rt_consumer.proofs.Filling.{filled_stop}
+use Rattle.rt_consumer.proofs.unsealed.fill.Goals as goal
+
+pub returns-then-len-limit-2-clause-ok : goal.returns-then-len-limit-2-clause-ok
+returns-then-len-limit-2-clause-ok c =
+    filled_stop c.args.settings.now.schema c.args.limit c.loop-message.rows c.add.new.rows (filled c.args.settings.now.schema c.args.limit c.args.rows.now c.args.messages.now)
+    c.args.messages.now c.loop-message.message-index c.message-item.result c.loop-message-test.true c.message-item.is c.loop-message.invariant.room c.in-Ok.ensures.ok
+    (omega (arith, c.if-len-limit-2.true, c.len-in-loop-message.ensures.rows)) c.loop-message.invariant.left

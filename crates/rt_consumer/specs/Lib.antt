@@ -1,0 +1,5 @@
+pub mod Consumer
+pub mod Replies
+pub mod Batch
+pub mod Requests
+pub mod Serving

@@ -1,0 +1,232 @@
+ghost use Rattle.std.specs.Prelude.{◌≡◌, true, IfOk};
+ghost use Rattle.rt_model.specs.Setup.{IsSetup};
+ghost use Rattle.rt_consumer.specs.Consumer.{IsConsumer, IsStage, IsBuilt, AreSettings, HaveColumns, started_of, cur, state_of};
+ghost use Rattle.rt_consumer.specs.Replies.{is_answer, replied};
+ghost use Rattle.rt_consumer.specs.Requests.{Does, Builds, forced, stopped, builds_at, filed, filed_at};
+
+use crate::replies::{Turn, answered, extended};
+use crate::{
+    BuiltFile, CommittedFile, Discarded, Phase, ReplicaRefused, Settings, Stage, Unsealed, Waited,
+};
+use rt_base::{Moment, Offset, Partition, Sequence};
+use rt_build::seal_as;
+use rt_lists::Text;
+use rt_model::{Reason, ReplicaState, Reply, SegMeta, Setup};
+use rt_mutable::MutableSegment;
+use rt_segment::Sealed;
+use std::alloc::{AllocError, Global};
+use std::mem;
+
+/// All that a replica is.
+#[derive(Drop)]
+pub struct Consumer {
+    pub settings: Settings,
+    pub partition: Partition,
+    pub sequence: Sequence,
+    /// The segment's name.
+    pub name: Text,
+    /// The offset of the segment's first message.
+    pub start: Offset,
+    /// When it began to consume.
+    pub started: Moment,
+    pub phase: Phase,
+    pub waited: Option<Waited>,
+}
+
+impl Consumer {
+    /// A replica in INITIAL_CONSUMING, of the segment that its metadata opens. Fails only where memory is refused.
+    pub fn start(
+        alloc: Global,
+        setup: &Setup,
+        partition: Partition,
+        sequence: Sequence,
+        meta: &SegMeta,
+        now: Moment,
+    ) -> Result<Consumer, AllocError>
+        requires { IsSetup setup.now }
+        ensures { IfOk result (λ consumer. consumer ≡ started_of setup.now partition sequence meta.now now) }
+    {
+        let settings = Settings::of(alloc, setup)?;
+        let name = meta.name.copy(alloc)?;
+        let rows = MutableSegment::make_indexed(
+            alloc,
+            &setup.schema,
+            meta.start,
+            setup.table.indexed.as_slice(),
+        )?;
+        Ok(Consumer {
+            settings,
+            partition,
+            sequence,
+            name,
+            start: meta.start,
+            started: now,
+            phase: Phase::Unsealed(Unsealed {
+                rows,
+                stage: Stage::InitialConsuming,
+            }),
+            waited: None,
+        })
+    }
+
+    /// Where the replica stands.
+    pub fn state(&self) -> ReplicaState
+        ensures { result ≡ state_of self.now.phase }
+    {
+        self.phase.state()
+    }
+
+    /// The offset of the next message.
+    pub fn cur(&self) -> Offset
+        ensures { result ≡ cur self.now }
+    {
+        self.phase.cur()
+    }
+
+    /// Ends the consuming, in INITIAL_CONSUMING past the start. Takes no memory.
+    pub fn force(&mut self) -> Result<(), ReplicaRefused>
+        ensures { Does (forced self.old.phase) self.old self.new result }
+    {
+        match &mut self.phase {
+            Phase::Unsealed(unsealed) => unsealed.force()?,
+            _ => return Err(ReplicaRefused::NotDue),
+        }
+        self.waited = None;
+        Ok(())
+    }
+
+    /// Drops the rows of a replica that is neither retained, committed nor discarded. Takes no memory.
+    pub fn stop(&mut self) -> Result<(), ReplicaRefused>
+        ensures { Does (stopped self.old.phase) self.old self.new result }
+    {
+        let cur = match &self.phase {
+            Phase::Unsealed(unsealed) if unsealed.stage.stops() => unsealed.rows.end(),
+            _ => return Err(ReplicaRefused::NotDue),
+        };
+        self.phase = Phase::Discarded(Discarded { cur, stopped: true });
+        self.waited = None;
+        Ok(())
+    }
+
+    /// Seals the rows, in RETAINING for serving, and in COMMITTING for the upload. Where memory is refused, all is as
+    /// before.
+    pub fn build(&mut self, alloc: Global) -> Result<(), ReplicaRefused>
+        requires { IsConsumer self.old }
+        ensures { Builds self.old self.new result }
+    {
+        let Phase::Unsealed(unsealed) = &self.phase else {
+            return Err(ReplicaRefused::NotDue);
+        };
+        if !unsealed.stage.builds() {
+            return Err(ReplicaRefused::NotDue);
+        }
+        let file = seal(
+            alloc,
+            &self.settings,
+            self.partition,
+            self.sequence,
+            unsealed,
+        )?;
+        let file = BuiltFile::make(alloc, file)?;
+        let phase = mem::replace(&mut self.phase, gone(self.start));
+        self.phase = with_file(phase, file);
+        self.waited = None;
+        Ok(())
+    }
+
+    /// Takes an answer, and tells whether it is the one that is waited for. Takes no memory; an answer to another
+    /// number changes nothing.
+    pub fn on_reply(&mut self, reply: Reply) -> bool
+        ensures taken { result ≡ is_answer self.old.waited reply }
+        ensures step { self.new ≡ replied self.old reply }
+    {
+        let Some(waited) = self.waited else {
+            return false;
+        };
+        if !waited.number().is(reply.number) {
+            return false;
+        }
+        let phase = mem::replace(&mut self.phase, gone(self.start));
+        let turn = match waited {
+            Waited::Step(_) => answered(phase, reply.status),
+            Waited::Extend(_) => extended(phase, reply.status),
+        };
+        match turn {
+            Turn::Stays(phase) => self.phase = phase,
+            Turn::Goes(phase) => {
+                self.phase = phase;
+                self.waited = None;
+            }
+        }
+        true
+    }
+}
+
+/// What stands in a replica's place while it changes.
+pub fn gone(cur: Offset) -> Phase {
+    Phase::Discarded(Discarded {
+        cur,
+        stopped: false,
+    })
+}
+
+/// The sealed rows, in the setup's format.
+#[tactic(auto, using(crate::proofs::Rows::built_past, crate::proofs::Rows::indexed_names, crate::proofs::Rows::columns_sealed))]
+fn seal(
+    alloc: Global,
+    settings: &Settings,
+    partition: Partition,
+    sequence: Sequence,
+    unsealed: &Unsealed,
+) -> Result<Sealed, AllocError>
+    requires settings { AreSettings settings.now }
+    requires columns { HaveColumns settings.now unsealed.now.rows }
+    requires stage { IsStage settings.now partition sequence unsealed.now.rows unsealed.now.stage }
+    requires due { builds_at unsealed.now.stage ≡ true }
+    ensures { IfOk result (IsBuilt settings.now partition sequence unsealed.now.rows) }
+{
+    let file = seal_as(
+        alloc,
+        &unsealed.rows,
+        partition,
+        sequence,
+        unsealed.rows.end(),
+        settings.indexed.as_slice(),
+        settings.format,
+    )?;
+    // That a file is whole is told with its header.
+    let _header = file.header();
+    Ok(file)
+}
+
+fn with_file(phase: Phase, file: BuiltFile) -> Phase
+    ensures { result ≡ filed phase file }
+{
+    match phase {
+        Phase::Unsealed(unsealed) => {
+            let Unsealed { rows, stage } = unsealed;
+            filed_at(rows, stage, file)
+        }
+        phase => phase,
+    }
+}
+
+/// A retaining replica is retained, and a committing one may start its commit.
+fn filed_at(rows: MutableSegment, stage: Stage, file: BuiltFile) -> Phase
+    ensures { result ≡ filed_at rows stage file }
+{
+    match stage {
+        Stage::Retaining(done) => Phase::Retained(CommittedFile {
+            file: file.into_file(),
+            done,
+        }),
+        Stage::Building(reason) => {
+            let stage = Stage::Starting {
+                reason,
+                built: file,
+            };
+            Phase::Unsealed(Unsealed { rows, stage })
+        }
+        stage => Phase::Unsealed(Unsealed { rows, stage }),
+    }
+}

@@ -1,0 +1,4 @@
+pub mod Fetched
+pub mod Others
+pub mod Plans
+pub mod Steps

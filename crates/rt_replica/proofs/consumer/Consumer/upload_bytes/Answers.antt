@@ -1,6 +1,0 @@
-use Rattle.std.proofs.Common.{◌∙◌, ap, sym}
-use Rattle.rt_replica.specs.Requests.{size_at, size_in}
-use Rattle.rt_replica.proofs.consumer.Consumer.upload_bytes.Goals as goal
-
-pub returns-in-Uploading : goal.returns-in-Uploading
-returns-in-Uploading c = c.size.ensures ∙ sym (ap size_in c.in-Unsealed.is ∙ ap size_at c.in-Uploading.is)

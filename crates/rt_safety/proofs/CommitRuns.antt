@@ -1,0 +1,228 @@
+-- Along events that happen a commit job goes on, until it ends as a commit ends.
+use Rattle.std.proofs.Common.{◌≡◌, ◌⊎◌, inl, inr, ℕ, ◌+◌, ◌≤◌, ◌==◌, ◌&&◌, Bool, true, false, List, [], ◌∷◌, Ok, Option, Some, None, refl, sym, ◌∙◌, ap, subst, slice_get, length, arith, ⊎_elim}
+use Rattle.std.proofs.lemmas.Bool.{and_parts, cases_eq, eq-eqb, eqb-true, false≢true}
+use Rattle.std.proofs.lemmas.Option.{same_Some}
+use Rattle.rt_base.specs.declared.numbers.ControllerId.{ControllerId}
+use Rattle.rt_commit.specs.declared.job.Job.{Job}
+use Rattle.rt_commit.specs.Job.{commits}
+use Rattle.rt_commit.specs.Laws.{steps_left}
+use Rattle.rt_commit.specs.Right.{EndsSo, MetFault, StatusSo}
+use Rattle.rt_controller.specs.Right.{LeavesJob, WorksOver, job_of}
+use Rattle.rt_controller.proofs.CallsOver.{works_over}
+use Rattle.rt_commit.proofs.CommitEnds.{end_commits}
+use Rattle.rt_controller.proofs.Paired.{one_if}
+use Rattle.rt_commit.proofs.CommitEnds.{commits_to}
+use Rattle.rt_events.specs.declared.event.Event.{Event}
+use Rattle.rt_events.specs.declared.event.Event.TheVariants as event
+use Rattle.rt_events.specs.declared.outcome.Outcome.{Outcome}
+use Rattle.rt_events.specs.declared.outcome.Outcome.TheVariants as told
+use Rattle.rt_model.specs.declared.asked.Asked.{Asked}
+use Rattle.rt_model.specs.declared.job_step.JobStep.{JobStep}
+use Rattle.rt_model.specs.declared.reply.Reply.{Reply}
+use Rattle.rt_model.specs.declared.sent.Sent.TheVariants as sent
+use Rattle.rt_deep.specs.Meaning.{Told as ToldDeep}
+use Rattle.rt_store.specs.Meaning.{Told}
+use Rattle.rt_controller.specs.Controller.{Controlling}
+use Rattle.rt_world.specs.Applying.{Next}
+use Rattle.rt_safety.specs.CommitRun.{EndsIn, GoesSo, IsOpen, GoesWithoutCrash, is_crash, job_in, open_job, steps_in}
+use Rattle.rt_world.specs.IsSafe.{past_of}
+use Rattle.rt_world.specs.IsSafeWorld.{IsSafeWorld}
+use Rattle.rt_world.specs.Jobs.{JobSteps, JobStepsAt, noted_set, stepped, stepped_by}
+use Rattle.rt_world.specs.Lives.{controller_crashed, controller_restarted}
+use Rattle.rt_world.specs.Clock.{node_believing}
+use Rattle.rt_world.specs.Messages.{after_step}
+use Rattle.rt_world.specs.Step.{Steps}
+use Rattle.rt_world.specs.declared.controller_node.ControllerNode.{ControllerNode}
+use Rattle.rt_world.specs.declared.cost.Cost.{Cost}
+use Rattle.rt_world.specs.declared.state.State.{State}
+use Rattle.rt_safety.proofs.JobsOn.{Stays, answers_same, believing_stays, controller_does_stays, controllers_stay, delivers_stay, own_slot, pieces_same, repairs_stay, replies_same, retires_stay, routes_same, sends_same, server_calls_same, server_does_same, server_fetches_same, server_gets_same, slot_stays}
+use Rattle.rt_world.proofs.SafeSteps.{steps_keep}
+
+-- ---- what an event leaves of the job
+
+abbrev GoesOn : State → ControllerId → ℕ → Asked → ℕ → Event → State → Outcome → Type 0
+GoesOn w c n a left e y outcome = EndsIn w c n a e y outcome ⊎ ((k : ℕ) × (k + steps_in c n e ≤ left) × IsOpen y c n a k)
+
+still_open : (w y : State) (c : ControllerId) (n : ℕ) (a : Asked) (left : ℕ) (o : IsOpen w c n a left) → Stays w y c n o.job → IsOpen y c n a left
+still_open w y c n a left o stays =
+    record { job = o.job; there = stays o.there; asked = o.asked; commits_it = o.commits_it; few = o.few }
+
+-- an event that isn't a step of the job
+goes_on : (w y : State) (c : ControllerId) (n : ℕ) (a : Asked) (left : ℕ) (e : Event) (outcome : Outcome) (o : IsOpen w c n a left) → steps_in c n e ≡ 0
+    → Stays w y c n o.job → GoesOn w c n a left e y outcome
+goes_on w y c n a left e outcome o none stays = inr (left, omega (arith, none), still_open w y c n a left o stays)
+
+-- ---- a step of a job
+
+stepped_controllers : (w : State) (cost : Cost) (step : JobStep) (o : Option Reply) → (stepped_by w cost step o).0.controllers ≡ w.controllers
+stepped_controllers w cost step None = refl
+stepped_controllers w cost step (Some r) = refl
+
+abbrev after_job : State → ControllerId → ControllerNode → Controlling → Told → ToldDeep → Cost → State
+after_job w d node new store deep cost = noted_set (after_step w d node new store deep) cost (length w.store.writes)
+
+same_controller : (c d : ControllerId) → c.0 ≡ d.0 → c ≡ d
+same_controller c d e = let id : ℕ → ControllerId = λ n. record { 0 = n } in ap id e
+
+step_counts : (c d : ControllerId) (n m : ℕ) → ((c.0 ≡ d.0) → (n ≡ m) → ⊥) → steps_in c n (event.Job d m) ≡ 0
+step_counts c d n m other = by_test ((d.0 == c.0) && (m == n)) refl
+  where
+    by_test : (b : Bool) → ((d.0 == c.0) && (m == n)) ≡ b → one_if b ≡ 0
+    by_test true e = let parts = and_parts (d.0 == c.0) (m == n) e in absurd (other (sym (eqb-true d.0 c.0 parts.0)) (sym (eqb-true m n parts.1)))
+    by_test false e = refl
+
+one_step : (c : ControllerId) (n : ℕ) → steps_in c n (event.Job c n) ≤ 1
+one_step c n = by_test ((c.0 == c.0) && (n == n))
+  where
+    by_test : (b : Bool) → one_if b ≤ 1
+    by_test true = omega arith
+    by_test false = omega arith
+
+module _ (w : State) (c : ControllerId) (n : ℕ) (a : Asked) (left : ℕ) (s : IsSafeWorld w) (o : IsOpen w c n a left) where
+  module _ (node : ControllerNode) (at : slice_get w.controllers c.0 ≡ Some node) (new : Controlling) (step : JobStep) (store : Told) (deep : ToldDeep) (cost : Cost)
+      (k : WorksOver w.setup (past_of w) w.store store w.deep deep node.controller new n step) where
+    its_job : k.job ≡ o.job
+    its_job = same_Some k.job o.job (sym k.open_job ∙ sym (ap (λ (x : Option ControllerNode). job_in x n) at) ∙ o.there)
+
+    asked_is : k.job.asked ≡ a
+    asked_is = ap (λ (x : Job). x.asked) its_job ∙ o.asked
+
+    commits_is : commits k.job.stage ≡ true
+    commits_is = ap (λ (x : Job). commits x.stage) its_job ∙ o.commits_it
+
+    few_left : steps_left k.job.stage ≤ left
+    few_left = subst (λ (x : Job). steps_left x.stage ≤ left) (sym its_job) o.few
+
+    abbrev y : Option Reply → State
+    y r = (stepped_by (after_job w c node new store deep cost) cost step r).0
+
+    opened : (r : Option Reply) → open_job (y r) c n ≡ job_of new n
+    opened r =
+        ap (λ (l : List ControllerNode). job_in (slice_get l c.0) n) (stepped_controllers (after_job w c node new store deep cost) cost step r)
+        ∙ ap (λ (x : Option ControllerNode). job_in x n) (own_slot w.controllers c.0 node (record node { controller = new }) at)
+
+    by_reply : (r : Option Reply) → LeavesJob k.job r (job_of new n)
+        → EndsSo store.writes k.job.asked.partition k.job.asked.sequence (MetFault w.store store w.deep deep) (commits k.job.stage) step.step r
+        → GoesOn w c n a left (event.Job c n) (y r) (stepped_by (after_job w c node new store deep cost) cost step r).1
+    by_reply None (next, there, number, asked, end, less) so =
+        let to = commits_to k.job.stage commits_is in
+        inr (
+          steps_left next.stage,
+          omega (arith, less, few_left, one_step c n),
+          record {
+            job = next;
+            there = opened None ∙ there;
+            asked = asked ∙ asked_is;
+            commits_it = end_commits next.stage to.0 (end ∙ to.1);
+            few = omega arith;
+          },
+        )
+    by_reply (Some reply) (gone, number, partition, sequence) so =
+        inl
+        (record {
+          step = step;
+          reply = reply;
+          own = refl;
+          told_so = refl;
+          was_sent = refl;
+          number = number ∙ ap (λ (x : Asked). x.number) asked_is;
+          partition = partition ∙ ap (λ (x : Asked). x.partition) asked_is;
+          sequence = sequence ∙ ap (λ (x : Asked). x.sequence) asked_is;
+          so =
+              subst (λ (b : Bool). StatusSo store.writes a.partition a.sequence (MetFault w.store store w.deep deep) b step.step reply.status) commits_is
+              (subst (λ (x : Asked). StatusSo store.writes x.partition x.sequence (MetFault w.store store w.deep deep) (commits k.job.stage) step.step reply.status) asked_is so);
+        })
+
+    own_goes : GoesOn w c n a left (event.Job c n) (y step.reply) (stepped (after_job w c node new store deep cost) cost step).1
+    own_goes = by_reply step.reply k.leaves k.ends
+
+  own_at : (d : ControllerId) (m : ℕ) (node : ControllerNode) → slice_get w.controllers d.0 ≡ Some node → (new : Controlling) (step : JobStep) (store : Told)
+      (deep : ToldDeep) (cost : Cost) → WorksOver w.setup (past_of w) w.store store w.deep deep node.controller new m step → c.0 ≡ d.0 → n ≡ m
+      → GoesOn w c n a left (event.Job d m) (stepped (after_job w d node new store deep cost) cost step).0 (stepped (after_job w d node new store deep cost) cost step).1
+  own_at d m node at new step store deep cost k i f =
+      let Q : ControllerId → ℕ → Type 0 = λ d m. slice_get w.controllers d.0 ≡ Some node
+      → WorksOver w.setup (past_of w) w.store store w.deep deep node.controller new m step
+      → GoesOn w c n a left (event.Job d m) (stepped (after_job w d node new store deep cost) cost step).0 (stepped (after_job w d node new store deep cost) cost step).1 in
+      subst (λ (b : ControllerId). Q b m) (same_controller c d i)
+      (subst (λ (b : ℕ). Q c b) f (λ at k. own_goes node at new step store deep cost k)) at k
+
+  -- the step of any job
+  pub job_goes : (d : ControllerId) (m : ℕ) (cost : Cost) (x : Next) → JobSteps w d m cost x → GoesOn w c n a left (event.Job d m) x.0 x.1
+  job_goes d m cost x h = by_node (slice_get w.controllers d.0) refl h
+    where
+      by_node : (p : Option ControllerNode) → slice_get w.controllers d.0 ≡ p → JobStepsAt p w d m cost x → GoesOn w c n a left (event.Job d m) x.0 x.1
+      by_node None at h = absurd h
+      by_node (Some node) at (new, step, store, deep, works, is) =
+          let k = works_over w.setup (past_of w) w.store store w.deep deep node.controller new m w.moment step s.safe.setup s.safe.past refl refl
+          (s.safe.controllers d.0 node at).over works in
+          let z = stepped (after_job w d node new store deep cost) cost step in
+          let G : Next → Type 0 = λ v. GoesOn w c n a left (event.Job d m) v.0 v.1 in
+          let same = stepped_controllers (after_job w d node new store deep cost) cost step step.reply in
+          let other : ((c.0 ≡ d.0) → (n ≡ m) → ⊥) → G z = λ apart.
+          goes_on w z.0 c n a left (event.Job d m) z.1 o (step_counts c d n m apart)
+          (slot_stays w z.0 c d n o.job node (record node { controller = new }) at same (λ i e. k.stay n o.job (λ f. apart i f) e)) in
+          subst G (sym is)
+          (⊎_elim
+          (λ i. ⊎_elim (λ f. own_at d m node at new step store deep cost k i f) (λ ne. other (λ i f. ne f)) (cases_eq n m))
+          (λ ne. other (λ i f. ne i)) (cases_eq c.0 d.0))
+
+-- ---- an event
+
+module _ (w : State) (c : ControllerId) (n : ℕ) (a : Asked) (left : ℕ) (s : IsSafeWorld w) (o : IsOpen w c n a left) where
+  stays : (e : Event) (x : Next) → steps_in c n e ≡ 0 → Stays w x.0 c n o.job → GoesOn w c n a left e x.0 x.1
+  stays e x none k = goes_on w x.0 c n a left e x.1 o none k
+
+  same : (e : Event) (x : Next) → steps_in c n e ≡ 0 → x.0.controllers ≡ w.controllers → GoesOn w c n a left e x.0 x.1
+  same e x none k = stays e x none (controllers_stay w x.0 c n o.job k)
+
+  by : (e : Event) (x z : Next) → steps_in c n e ≡ 0 → x ≡ z → z.0.controllers ≡ w.controllers → GoesOn w c n a left e x.0 x.1
+  by e x z none is k = same e x none (ap (λ (v : Next). v.0.controllers) is ∙ k)
+
+  pub event_goes : (e : Event) (y : State) (outcome : Outcome) → is_crash c e ≡ false → Steps w e y (Ok outcome) → GoesOn w c n a left e y outcome
+  event_goes (event.Produce p message) y outcome calm h = by (event.Produce p message) (y, outcome) _ refl h.2 refl
+  event_goes (event.Tick millis) y outcome calm h = by (event.Tick millis) (y, outcome) _ refl h.2 refl
+  event_goes (event.Lead d on) y outcome calm h =
+      stays (event.Lead d on) (y, outcome) refl
+      (controller_does_stays w c d n o.job (node_believing on) told.Noted h.0 (y, outcome) (λ old i. believing_stays old on n o.job) h.2)
+  event_goes (event.Consume i p q max) y outcome calm h = same (event.Consume i p q max) (y, outcome) refl (server_fetches_same w i _ h.0 (y, outcome) h.2)
+  event_goes (event.Force i p q) y outcome calm h = same (event.Force i p q) (y, outcome) refl (server_does_same w i _ h.0 (y, outcome) h.2)
+  event_goes (event.Stop i p q) y outcome calm h = same (event.Stop i p q) (y, outcome) refl (server_does_same w i _ h.0 (y, outcome) h.2)
+  event_goes (event.Build i p q) y outcome calm h = same (event.Build i p q) (y, outcome) refl (server_does_same w i _ h.0 (y, outcome) h.2)
+  event_goes (event.Report i p q) y outcome calm h = same (event.Report i p q) (y, outcome) refl (sends_same w i _ h.0 (y, outcome) h.2)
+  event_goes (event.Extend i p q millis) y outcome calm h = same (event.Extend i p q millis) (y, outcome) refl (sends_same w i _ h.0 (y, outcome) h.2)
+  event_goes (event.Deliver m d) y outcome calm h =
+      stays (event.Deliver m d) (y, outcome) refl (delivers_stay w c d m n o.job h.0 (y, outcome) s h.2)
+  event_goes (event.Job d m) y outcome calm h = job_goes w c n a left s o d m h.0 (y, outcome) h.2
+  event_goes (event.Reply m) y outcome calm h = same (event.Reply m) (y, outcome) refl (replies_same w m h.0 (y, outcome) h.2)
+  event_goes (event.CrashServer i) y outcome calm h = same (event.CrashServer i) (y, outcome) refl (server_does_same w i _ h.0 (y, outcome) h.2)
+  event_goes (event.CrashController d) y outcome calm h =
+      stays (event.CrashController d) (y, outcome) refl
+      (controller_does_stays w c d n o.job controller_crashed told.Down h.0 (y, outcome)
+      (λ old i. absurd (false≢true (sym calm ∙ eq-eqb d.0 c.0 (sym i)))) h.2)
+  event_goes (event.RestartServer i) y outcome calm h = same (event.RestartServer i) (y, outcome) refl (server_calls_same w i _ h.0 (y, outcome) h.2)
+  event_goes (event.RestartController d) y outcome calm h =
+      stays (event.RestartController d) (y, outcome) refl
+      (controller_does_stays w c d n o.job controller_restarted (told.Up None) h.0 (y, outcome) (λ old i e. e) h.2)
+  event_goes (event.See i) y outcome calm h = same (event.See i) (y, outcome) refl (server_calls_same w i _ h.0 (y, outcome) h.2)
+  event_goes (event.Transit i p q) y outcome calm h = same (event.Transit i p q) (y, outcome) refl (server_calls_same w i _ h.0 (y, outcome) h.2)
+  event_goes (event.Download i p q) y outcome calm h = same (event.Download i p q) (y, outcome) refl (server_gets_same w i _ h.0 (y, outcome) h.2)
+  event_goes (event.Repair d p) y outcome calm h = stays (event.Repair d p) (y, outcome) refl (repairs_stay w c d p n o.job h.0 (y, outcome) h.2)
+  event_goes (event.Retain d p) y outcome calm h = stays (event.Retain d p) (y, outcome) refl (retires_stay w c d p n o.job h.0 (y, outcome) h.2)
+  event_goes (event.FaultStore kept) y outcome calm h = by (event.FaultStore kept) (y, outcome) _ refl h.2 refl
+  event_goes (event.FaultDeep kept) y outcome calm h = by (event.FaultDeep kept) (y, outcome) _ refl h.2 refl
+  event_goes (event.Ask query) y outcome calm h = by (event.Ask query) (y, outcome) _ refl h.2 refl
+  event_goes (event.Route q p) y outcome calm h = same (event.Route q p) (y, outcome) refl (routes_same w q p h.0 (y, outcome) h.2)
+  event_goes (event.Piece q p t i) y outcome calm h = same (event.Piece q p t i) (y, outcome) refl (pieces_same w q p t i h.0 (y, outcome) h.2)
+  event_goes (event.Answer q) y outcome calm h = same (event.Answer q) (y, outcome) refl (answers_same w q h.0 (y, outcome) h.2)
+  event_goes (event.ShowMeta p q) y outcome calm h = by (event.ShowMeta p q) (y, outcome) _ refl h.2 refl
+  event_goes event.ShowIdeal y outcome calm h = by event.ShowIdeal (y, outcome) _ refl h.2 refl
+
+-- ---- events, one after the other
+
+pub commit_runs : (c : ControllerId) (n : ℕ) (a : Asked) (left : ℕ) (w : State) (es : List Event) (x : State) (r : GoesWithoutCrash c w es x) → IsSafeWorld w
+    → IsOpen w c n a left → GoesSo c n a left w es x r
+commit_runs c n a left w [] x r s o = o
+commit_runs c n a left w (e ∷ es) x (y, outcome, fits, calm, h, rest) s o =
+    ⊎_elim (λ ends. inl ends)
+    (λ g. inr (g.0, g.1, commit_runs c n a g.0 y es x rest (steps_keep w e y (Ok outcome) (λ f. cc) fits s h) g.2))
+    (event_goes w c n a left s o e y outcome calm h)

@@ -1,0 +1,17 @@
+pub mod Absent
+pub mod AbsentJobs
+pub mod AbsentNodes
+pub mod Adds
+pub mod AddsEvents
+pub mod AlwaysPresent
+pub mod Answering
+pub mod CommitOpens
+pub mod CommitRuns
+pub mod Committed
+pub mod JobsOn
+pub mod Later
+pub mod Marks
+pub mod OwnLimits
+pub mod Runs
+pub mod Unretired
+pub mod Worlds

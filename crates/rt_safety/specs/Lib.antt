@@ -1,0 +1,9 @@
+pub mod Absent
+pub mod CommitRun
+pub mod GoesOn
+pub mod IsAnswered
+pub mod IsRightReplica
+pub mod Later
+pub mod Limits
+pub mod Runs
+pub mod Unretired

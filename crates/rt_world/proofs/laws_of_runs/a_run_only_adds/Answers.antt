@@ -1,5 +1,0 @@
-use Rattle.rt_world.proofs.Later.{committed_stays}
-use Rattle.rt_world.proofs.laws_of_runs.a_run_only_adds.Goals as goal
-
-pub returns-clause-committed : goal.returns-clause-committed
-returns-clause-committed c = committed_stays
