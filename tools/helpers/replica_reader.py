@@ -65,7 +65,7 @@ class Replica:
         end = len(self.log) if self.target is None else min(len(self.log), self.target)
         last = min(end, self.cur + int(most))
         while self.cur < last and len(self.rows) < limit:
-            row = row_of(self.log[self.cur])
+            row = self.row_of(self.log[self.cur])
             self.cur += 1
             if row is not None:
                 self.rows.append(row)
@@ -201,8 +201,15 @@ class Replica:
     def upload(self):
         return str(len(self.file())) if self.stage == UPLOADING else "0"
 
+    def row_of(self, message):
+        return row_of(message)
+
+    def columns(self):
+        """The name, the kind and the flag of each column."""
+        return [("k", segment_reader.STRING, 0), ("v", segment_reader.LONG, 0)]
+
     def file(self):
         """The file of the rows that are held."""
-        columns = [segment_reader.Column(name, kind, 0, [row[place] for row in self.rows]) for place, (name, kind) in enumerate([("k", segment_reader.STRING), ("v", segment_reader.LONG)])]
+        columns = [segment_reader.Column(*column, [row[place] for row in self.rows]) for place, column in enumerate(self.columns())]
         file = segment_reader.File(self.version, [*self.segment, self.start, self.cur], len(self.rows), columns)
         return segment_reader.write(file, self.version)

@@ -48,6 +48,13 @@ def outputs(program, libraries, cases):
     return dict(zip(found[1::2], found[2::2]))
 
 
+def built(folder, program, libraries, kit_libraries=()):
+    """The path of such a program, once it is proved and built."""
+    home = make(folder, program, libraries, kit_libraries)
+    subprocess.run(["rt", "run"], cwd=home, stdin=subprocess.DEVNULL, stdout=subprocess.DEVNULL, check=True)
+    return os.path.join(home, "out", "throwaway")
+
+
 def run(usage, program, libraries, kit_libraries=(), command="run", modules=None):
     """Ends with the status of `rt COMMAND` on such a program. A script that takes no words shows its usage where there are some."""
     if len(sys.argv) != 1:

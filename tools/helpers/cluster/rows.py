@@ -1,0 +1,57 @@
+"""Columns of a schema's text, and the rows that messages have."""
+import json
+
+import random_queries
+
+
+class NoRow(Exception):
+    """A message is undecodable."""
+
+
+def columns_of(schema_text):
+    schema = json.loads(schema_text)
+    return [random_queries.Column(spec["name"], spec["dataType"], role) for role in random_queries.ROLES for spec in schema.get(role) or []]
+
+
+def whole(text):
+    """A whole number as it stands; one that is none here has another type."""
+    return float(text) if text == "-0" else int(text)
+
+
+def fraction(text):
+    """A number that isn't whole; serde_json reads none that is out of its range."""
+    if abs(float(text)) == float("inf"):
+        raise NoRow
+    return float(text)
+
+
+def refused(text):
+    raise NoRow
+
+
+def object_of(message):
+    """The object that a message is, or none."""
+    try:
+        message.encode()
+        value = json.loads(message, parse_int=whole, parse_float=fraction, parse_constant=refused)
+        json.dumps(value, ensure_ascii=False).encode()
+    except (ValueError, NoRow, RecursionError):
+        return None
+    return value if isinstance(value, dict) else None
+
+
+def row_of(columns, message):
+    """The values of a message's columns, or none where it is undecodable."""
+    found = object_of(message)
+    return None if found is None else row_in(columns, found)
+
+
+def row_in(columns, found):
+    """The values that an object gives columns, or none where one isn't of its kind."""
+    row = []
+    for column in columns:
+        value = found.get(column.name)
+        if value is not None and not random_queries.is_of(column.kind, value):
+            return None
+        row.append(column.missing if value is None else value)
+    return row

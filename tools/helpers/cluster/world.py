@@ -1,0 +1,206 @@
+"""A cluster that runs the lines of a script: `World.run` gives a line's report, or ends with its refusal."""
+import collections
+import dataclasses
+import json
+import re
+
+import completion
+import controllers
+import forms
+import further
+import lines
+import replica_reader as reader
+import rows
+import servers
+import storage
+import upsert_settings
+
+MOST_ROWS = 1_000_000
+
+
+@dataclasses.dataclass
+class Setup:
+    servers: int
+    controllers: int
+    partitions: int
+    start: int
+    grace: int
+    retention: int | None
+    version: int
+    replication: int
+    rows: int
+    millis: int
+    indexed: list
+    name: str
+    schema_text: str
+    table_text: str
+
+    def __post_init__(self):
+        self.columns = rows.columns_of(self.schema_text)
+
+    def row_of(self, message):
+        return rows.row_of(self.columns, message)
+
+    def replicas(self, partition):
+        return [(partition * self.replication + k) % self.servers for k in range(self.replication)]
+
+
+def millis_of(text):
+    """A time of the settings: digits, or parts as 1h30m."""
+    if text.isdigit():
+        return int(text)
+    units = {"d": 86_400_000, "h": 3_600_000, "m": 60_000, "s": 1_000}
+    return sum(int(count) * units[unit] for count, unit in re.findall(r"(\d+)([dhms])", text))
+
+
+def setup_of(lines):
+    """The setup of three header lines that are taken."""
+    schema, table, cluster = (line.split(" ", 1)[1] for line in lines)
+    settings = json.loads(table)
+    numbers = dict(part.split("=") for part in cluster.split(" "))
+    index = settings.get("tableIndexConfig") or {}
+    stream = index.get("streamConfigs") or {}
+    segments = settings["segmentsConfig"]
+    replication = segments.get("replicasPerPartition")
+    limit = int(stream.get("realtime.segment.flush.threshold.rows") or 0)
+    millis = stream.get("realtime.segment.flush.threshold.time")
+    return Setup(*(int(numbers[name]) for name in ("servers", "controllers", "partitions", "start", "grace")),
+                 int(numbers["retention"]) if "retention" in numbers else None, int(numbers.get("format", 2)),
+                 int(segments.get("replication") if replication is None else replication), min(limit or MOST_ROWS, MOST_ROWS),
+                 21_600_000 if millis is None else millis_of(str(millis)), index.get("invertedIndexColumns") or [],
+                 settings["tableName"].removesuffix("_REALTIME"), schema, table)
+
+
+@dataclasses.dataclass
+class Request:
+    number: tuple
+    instance: int
+    partition: int
+    sequence: int
+    ask: completion.Ask
+    path: str = ""
+    data: bytes = b""
+
+
+@dataclasses.dataclass
+class Reply:
+    number: tuple
+    partition: int
+    sequence: int
+    status: str
+    # What the status tells beside its text: a path, or an end.
+    more: str
+
+
+class World(further.Further):
+    def __init__(self, setup):
+        self.setup, self.now, self.cells = setup, setup.start, collections.Counter()
+        self.log = [[] for _ in range(setup.partitions)]
+        self.store, self.deep = storage.Store(), storage.DeepStore()
+        self.controllers = [controllers.Controller(number) for number in range(setup.controllers)]
+        self.servers = [servers.Server(number) for number in range(setup.servers)]
+        self.messages, self.queries, self.walks = [], [], {}
+        self.start_further()
+        for number in range(setup.servers):
+            self.store.put(("boot", number), "-")
+        segments = [(partition, 0) for partition in range(setup.partitions)]
+        for segment in segments:
+            self.store.put(("meta", *segment), storage.first(setup.name, *segment, 0, setup.start))
+        entries = {at: dict.fromkeys(setup.replicas(at[0]), storage.CONSUMING) for at in segments}
+        self.store.put(storage.IDEAL, storage.IdealState(entries))
+        for each in self.servers:
+            each.see(self.ideal())
+            for segment in each.targets:
+                each.table[segment] = servers.Replica(self, each, segment, self.meta(segment))
+
+    def ideal(self):
+        return self.store.values[storage.IDEAL]
+
+    def meta(self, segment):
+        return self.store.values.get(("meta", *segment))
+
+    def last(self, partition):
+        """The present node of a partition with the greatest sequence."""
+        return self.store.present(partition)[-1]
+
+    def end(self, partition):
+        """The end of the last Done node, or 0."""
+        ends = [meta.end for _, _, meta in self.store.present(partition) if meta.status == storage.DONE]
+        return ends[-1] if ends else 0
+
+    def leader(self):
+        """The controller that a settled round asks."""
+        up = [each for each in self.controllers if each.up]
+        return next((each for each in up if each.leads), up[0] if up else None)
+
+    def run(self, line):
+        """The report of a line; a line that is no event is not read here."""
+        word, _, rest = line.partition(" ")
+        text = getattr(self, "on_" + word)(rest)
+        self.cells["line", word] += 1
+        return text
+
+    def send(self, message):
+        self.messages.append(message)
+        return len(self.messages) - 1
+
+    def sends(self, server, replica, kind, millis=0):
+        """Draws a replica's request, and what is reported of it."""
+        text = replica.extend(millis) if kind == "extend" else replica.request()
+        word, offset, *more = text.split(" ")
+        kinds = {"consumed": completion.CONSUMED, "commitStart": completion.COMMIT_START, "commitEnd": completion.COMMIT_END,
+                 "stopped": completion.STOPPED, "extend": completion.EXTEND, "upload": "Upload"}
+        ask = completion.Ask(kinds[word], int(offset), more[0] if word == "consumed" else "", millis)
+        request = Request(replica.last, server.number, *replica.segment, ask)
+        if word in ("upload", "commitEnd"):
+            request.path = more[0]
+        if word == "upload":
+            request.data = replica.file()
+        return self.send(request), text
+
+    def answered(self, request, status):
+        """Sends the reply to a request; a success tells its path, a KEEP or a commit its end."""
+        more = request.path if status == "UPLOAD_SUCCESS" else ""
+        if status in ("KEEP", "COMMIT_SUCCESS"):
+            more = str(request.ask.offset)
+        return self.send(Reply(request.number, request.partition, request.sequence, status, more))
+
+    def takes(self, reply):
+        """Whether a replica takes a reply, and its state then."""
+        server = self.servers[reply.number[0]]
+        replica = server.replica((reply.partition, reply.sequence))
+        if replica is None:
+            self.cells["reply", "none", "no replica", "ignored"] += 1
+            return None
+        before, waited = (replica.state, replica.stage), replica.waited
+        word, _, rest = reply.status.partition(" ")
+        if replica.reply_to(f"s{reply.number[0]}", *reply.number[1:], word, reply.more or rest.split(" ")[0] or None) == reader.IGNORED:
+            self.cells["reply", "none", "another number", "ignored"] += 1
+            return None
+        shown = word if word != "FAILED" else reply.status[:8]
+        after = replica.state + (f" {replica.stage}" if replica.stage else "")
+        self.cells["reply", waited[1], shown, after + (" as before" if before == (replica.state, replica.stage) else "")] += 1
+        return replica.state
+
+
+def kept_lines(text):
+    """The lines that aren't skipped, with their numbers and without their endings."""
+    found = [(number, line.removesuffix("\r")) for number, line in enumerate(text.split("\n"), 1)]
+    return [(number, line) for number, line in found if line and not line.startswith("#")]
+
+
+def play(text):
+    """The report of a script whose header is taken, the world behind it, and the refusal that ended it, or none."""
+    kept = kept_lines(text)
+    try:
+        world, report = World(setup_of([line for _, line in kept[:3]])), []
+    except upsert_settings.Refused as refused:
+        return [], None, f"line {kept[1][0]}: upsert {refused}"
+    for number, line in kept[3:]:
+        try:
+            if not forms.is_line(line):
+                raise lines.Refused("BadLine")
+            report.append(world.run(line))
+        except lines.Refused as refused:
+            return report, world, f"line {number}: {refused}"
+    return report, world, None

@@ -1,0 +1,1 @@
+"""Pictures of scripts and their reports."""
