@@ -141,39 +141,44 @@ class Lines:
         self.cells["server", "restart", "up"] += 1
         return f"up {rest} {node.incarnation}"
 
+    def placed(self, rest, due):
+        """The server and the segment of a line, once the server's test of that name says that the line is due."""
+        at, where = rest.split(" ")
+        server, segment = self.server_at(at), self.segment_at(where)
+        self.needs(lambda: server is not None and segment is not None, lambda: True, lambda: server.up, lambda: getattr(server, due)(segment))
+        return server, segment
+
+    def failed(self, step, rest):
+        """What is reported of a server's step whose store met a fault."""
+        self.cells["server", step, "failed"] += 1
+        return f"failed {step} {rest}"
+
     def on_see(self, rest):
         server = self.server_at(rest)
         self.needs(lambda: server is not None, lambda: True, lambda: server.up)
         try:
             version, state = self.store.read(storage.IDEAL)
         except storage.Failed:
-            self.cells["server", "see", "failed"] += 1
-            return f"failed see {rest}"
+            return self.failed("see", rest)
         server.see(state)
         self.cells["server", "see", "seen"] += 1
         return f"seen {rest} {version}"
 
     def on_transit(self, rest):
-        at, where = rest.split(" ")
-        server, segment = self.server_at(at), self.segment_at(where)
-        self.needs(lambda: server is not None and segment is not None, lambda: True, lambda: server.up, lambda: server.transit_due(segment))
+        server, segment = self.placed(rest, "transit_due")
         try:
             state, case = server.transit(self, segment)
         except storage.Failed:
-            self.cells["server", "transit", "failed"] += 1
-            return f"failed transit {rest}"
+            return self.failed("transit", rest)
         self.cells[("transit", *case)] += 1
         return f"moved {rest} {state}"
 
     def on_download(self, rest):
-        at, where = rest.split(" ")
-        server, segment = self.server_at(at), self.segment_at(where)
-        self.needs(lambda: server is not None and segment is not None, lambda: True, lambda: server.up, lambda: server.wants(segment))
+        server, segment = self.placed(rest, "wants")
         try:
             self.deep.get(server.table[segment].meta.path)
         except storage.Failed:
-            self.cells["server", "download", "failed"] += 1
-            return f"failed download {rest}"
+            return self.failed("download", rest)
         self.cells["server", "download", "loaded"] += 1
         server.table[segment].wanted = False
         return f"loaded {rest} rows={server.table[segment].meta.rows}"
