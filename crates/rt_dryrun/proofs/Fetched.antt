@@ -1,12 +1,11 @@
 -- What a fetch from the servers of a world comes to, where the deep store is empty.
-use Rattle.std.proofs.Common.{◌≡◌, ℕ, zero, suc, ◌+◌, ◌<◌, ◌⊎◌, inl, inr, Bool, true, false, List, [], ◌∷◌, map, Option, Some, None, Result, Ok, Err, slice_get, refl, sym, ap, subst, ◌∙◌, arith}
+use Rattle.std.proofs.Common.{◌≡◌, ℕ, suc, ◌+◌, ◌<◌, ◌⊎◌, inl, inr, Bool, false, List, [], ◌∷◌, map, Option, Some, None, Result, Ok, Err, slice_get, refl, sym, ap, subst, ◌∙◌, arith}
 use Rattle.rt_base.specs.declared.header.Header.{Header}
 use Rattle.rt_base.specs.declared.numbers.Instance.{Instance}
 use Rattle.rt_base.specs.declared.numbers.Partition.{Partition}
 use Rattle.rt_base.specs.declared.numbers.Sequence.{Sequence}
 use Rattle.rt_events.specs.declared.refusal.Refusal.{Refusal}
 use Rattle.rt_model.specs.Metadata.{IsDoneStatus}
-use Rattle.rt_model.specs.declared.commit.Commit.{Commit}
 use Rattle.rt_model.specs.declared.seg_meta.SegMeta.{SegMeta}
 use Rattle.rt_model.specs.declared.status.Status.{Status}
 use Rattle.rt_model.specs.declared.status.Status.TheVariants.{InProgress, Done, Abandoned}
@@ -15,7 +14,7 @@ use Rattle.rt_deep.specs.declared.refused.DeepRefused.{DeepRefused}
 use Rattle.rt_deep.specs.declared.refused.DeepRefused.TheVariants as deep
 use Rattle.rt_deep.specs.Answers.{getting}
 use Rattle.rt_deep.specs.Calls.{IsExact}
-use Rattle.rt_deep.specs.Meaning.{Told, Meaning as DeepMeaning}
+use Rattle.rt_deep.specs.Meaning.{Told}
 use Rattle.rt_deep.specs.Memory.{means}
 use Rattle.rt_deep.proofs.Seeing.{told_exact}
 use Rattle.rt_peer.specs.declared.got.Got.{Got}

@@ -1,4 +1,5 @@
 pub mod Fetched
+pub mod Keeping
 pub mod Others
 pub mod Plans
 pub mod Steps

@@ -1,5 +1,5 @@
 -- What a plan comes to.
-use Rattle.std.proofs.Common.{◌≡◌, ℕ, ◌-◌, List, length, Option, Some, None, unwrap_or, Result, Ok, Err, refl, sym, ap, subst, ◌∙◌}
+use Rattle.std.proofs.Common.{◌≡◌, ℕ, List, Option, Some, unwrap_or, Result, Ok, Err, sym, ap, ◌∙◌}
 use Rattle.rt_model.specs.declared.ideal_state.IdealEntry.{IdealEntry}
 use Rattle.rt_model.specs.declared.ideal_state.IdealState.{IdealState}
 use Rattle.rt_rebalance.specs.Planned.{Plans, planned}
@@ -8,11 +8,9 @@ use Rattle.rt_rebalance.specs.Rehearsed.{entries_in}
 use Rattle.rt_rebalance.specs.Target.{target_of}
 use Rattle.rt_rebalance.specs.declared.rebalance_refused.RebalanceRefused.{RebalanceRefused}
 use Rattle.rt_rebalance.specs.declared.rebalance_refused.RebalanceRefused.TheVariants as refused
-use Rattle.rt_events.specs.declared.refusal.Refusal.{Refusal}
 use Rattle.rt_world.specs.Reading.{ideal_in}
 use Rattle.rt_world.specs.declared.state.State.{State}
 use Rattle.rt_dryrun.specs.Rehearsing.{Going, PlansBy, entries_now, goal_of, going_on, moves_of, plan_in, planned_as, started}
-use Rattle.rt_dryrun.specs.declared.planned.Planned.{Planned}
 use Rattle.rt_dryrun.specs.declared.planned.Planned.TheVariants as told
 
 abbrev Answer : Type 0

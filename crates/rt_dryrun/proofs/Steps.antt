@@ -1,13 +1,11 @@
 -- What a step of a rehearsal comes to.
-use Rattle.std.proofs.Common.{◌≡◌, ℕ, List, Option, Some, None, unwrap_or, Result, Ok, Err, refl, sym, ap, subst, ◌∙◌}
+use Rattle.std.proofs.Common.{◌≡◌, ℕ, Some, None, unwrap_or, Ok, Err, sym, ap, ◌∙◌}
 use Rattle.rt_rebalance.specs.Refused.{number_of}
 use Rattle.rt_rebalance.specs.Rehearsed.{Rehearsed, Steps, step}
 use Rattle.rt_rebalance.specs.declared.rebalance_refused.RebalanceRefused.{RebalanceRefused}
 use Rattle.rt_rebalance.specs.declared.rebalance_refused.RebalanceRefused.TheVariants as refused
-use Rattle.rt_events.specs.declared.refusal.Refusal.{Refusal}
 use Rattle.rt_events.specs.declared.refusal.Refusal.TheVariants.{Memory}
 use Rattle.rt_dryrun.specs.Rehearsing.{Going, StepsGoing, stepped_as, stepped_on}
-use Rattle.rt_dryrun.specs.declared.stepped.Stepped.{Stepped}
 use Rattle.rt_dryrun.specs.declared.stepped.Stepped.TheVariants as went
 
 abbrev with_rehearsed : Going → Rehearsed → Going

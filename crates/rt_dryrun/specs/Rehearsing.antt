@@ -1,5 +1,5 @@
 -- The rehearsal of a plan by which the segments of a world would move to a number of servers.
-use Rattle.std.specs.Prelude.{◌≡◌, ◌&&◌, ◌-◌, nat_le, nat_lt, min, ℕ, Bool, true, false, List, [], ◌∷◌, length, Option, Some, None, is_none, Result, Ok, Err, unwrap_or, if◌then◌else◌}
+use Rattle.std.specs.Prelude.{◌≡◌, ◌&&◌, ◌-◌, nat_le, nat_lt, min, ℕ, Bool, true, false, List, length, Option, Some, None, is_none, Result, Ok, Err, unwrap_or, if◌then◌else◌}
 use Rattle.std.specs.List.{count_by}
 use Rattle.rt_base.specs.declared.limits.TheConstants.{MOST_SERVERS}
 use Rattle.rt_base.specs.declared.numbers.Instance.{Instance}

@@ -5,6 +5,7 @@
 #![tactic(auto)]
 
 mod going;
+mod laws;
 mod nodes;
 mod peer_file;
 mod peering;
@@ -15,6 +16,7 @@ mod server_peer;
 mod stepped;
 mod told;
 
+pub use laws::what_is_rehearsed_keeps_enough;
 pub use peer_file::PeerFile;
 pub use peering::peer;
 pub use planned::Planned;

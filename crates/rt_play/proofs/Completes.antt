@@ -4,14 +4,14 @@ use Rattle.std.proofs.lemmas.List.{append-nil, length-append}
 use Rattle.rt_base.specs.declared.which.Which.TheVariants.{Input, Partitions, Servers, Controllers, Replication, Message, Events, Sent, Queries, Stored, Moment, Rows}
 use Rattle.rt_base.specs.Sink.{SinkMeaning}
 use Rattle.rt_base.specs.Source.{SourceMeaning, Rises, IsEnd, put_back}
-use Rattle.rt_lines.specs.Header.{header_of}
 use Rattle.rt_lines.specs.Lines.{script_lines}
 use Rattle.rt_lines.specs.declared.play_fault.PlayFault.{PlayFault}
 use Rattle.rt_lines.specs.declared.play_fault.PlayFault.TheVariants.{Usage, Refused, ReadFault, WriteFault, Memory, Limit}
 use Rattle.rt_play.specs.declared.play_end.PlayEnd.{PlayEnd}
 use Rattle.rt_play.specs.Plays.{Reads, TakesSome, IsTooLong, PlaysAll, PlaysInput, RunsOut, TellsAll, TellsInput, Meets, IsAnswer, answer_by, input_limit}
 use Rattle.rt_play.specs.Report.{IsReport}
-use Rattle.rt_play.proofs.Headers.{nothing_behind}
+use Rattle.rt_play.proofs.Beginnings.{nothing_behind}
+use Rattle.rt_play.specs.Beginning.{beginning_of}
 use Rattle.rt_play.proofs.Tellings.{nothing_put}
 
 -- what a source told begins with what was read of it
@@ -98,6 +98,6 @@ pub ran_out : (from to : SourceMeaning) (s : SinkMeaning) → TakesSome from to 
 ran_out from to s some = record {
   input = some.input;
   taken = some.taken;
-  lines = record { texts = []; is = nothing_behind (header_of (script_lines some.input)); puts = nothing_put s };
+  lines = record { texts = []; is = nothing_behind (beginning_of (script_lines some.input)); puts = nothing_put s };
   ended = λ h. absurd (omega (arith, h));
 }

@@ -1,58 +1,62 @@
 -- The lines of a script are a run of their cluster.
-use Rattle.std.proofs.Common.{◌≡◌, ℕ, List, [], ◌∷◌, Option, Some, None, Ok}
+use Rattle.std.proofs.Common.{◌≡◌, ℕ, Bool, List, [], ◌∷◌, ◌++◌, Option, Some, None, Ok, ap, subst}
 use Rattle.std.specs.Prelude.{IfSome}
-use Rattle.rt_lines.specs.Header.{NumberedLine, header_of}
+use Rattle.rt_lines.specs.Header.{NumberedLine}
 use Rattle.rt_lines.specs.Lines.{script_lines}
 use Rattle.rt_lines.proofs.Headers.{header_taken}
-use Rattle.rt_model.specs.declared.setup.Setup.{Setup}
-use Rattle.rt_play.specs.Doing.{Gives, Happens}
-use Rattle.rt_play.specs.Report.{FrontRuns, RunAll, Runs}
-use Rattle.rt_play.specs.Saying.{LineTold, MacroTold, PassesOver}
-use Rattle.rt_play.proofs.Reaching.{Goes, Reaches, event_goes, gives_goes, line_passes, reaches_then, stays, then_goes}
-use Rattle.rt_play.proofs.ReachingMacros.{exchange_goes, fill_goes, query_goes, settle_goes}
-use Rattle.rt_report.specs.BrokerTexts.{noquery_text}
-use Rattle.rt_report.specs.Outcome.{outcome_text}
-use Rattle.rt_script.specs.Line.{FitsLine, FitsMacro, line_in}
+use Rattle.rt_play.specs.Beginning.{beginning_of, going_from}
+use Rattle.rt_play.specs.Going.{Going}
+use Rattle.rt_play.specs.Report.{FrontRuns, RunAll, Runs, said_at}
+use Rattle.rt_play.specs.declared.beginning.Beginning.{Beginning}
+use Rattle.rt_play.proofs.Beginnings.{beginning_taken}
+use Rattle.rt_play.proofs.Reaching.{Reaches, leads_by}
+use Rattle.rt_play.proofs.ReachingLines.{line_goes}
+use Rattle.rt_safety.specs.Runs.{Turn, Leads}
+use Rattle.rt_safety.proofs.Later.{leads_on, runs_are_safe}
+use Rattle.rt_safety.proofs.Runs.{leads_safe}
+use Rattle.rt_script.specs.Line.{FitsLine}
 use Rattle.rt_script.specs.declared.line.Line.{Line}
-use Rattle.rt_script.specs.declared.line.Line.TheVariants as line
-use Rattle.rt_script.specs.declared.line.Macro.{Macro}
-use Rattle.rt_script.specs.declared.line.Macro.TheVariants as macro
 use Rattle.rt_script.proofs.LinesFit.{line_fits}
 use Rattle.rt_world.specs.IsSafeWorld.{IsSafeWorld}
-use Rattle.rt_safety.specs.Runs.{Turn, Leads}
 use Rattle.rt_world.specs.Start.{start}
 use Rattle.rt_world.specs.declared.state.State.{State}
-use Rattle.rt_safety.proofs.Later.{runs_are_safe}
 
--- ---- a line
+-- turns lead from one world to another
+abbrev Led : State → State → Type 0
+Led w v = (turns : List Turn) × Leads w turns v
 
-macro_goes : (said : Macro) (w : State) → FitsMacro w.setup.schema said → Goes w (MacroTold said w)
-macro_goes (macro.Fill partition count) w fits = fill_goes partition count w
-macro_goes (macro.Query query) w fits = query_goes query w fits
-macro_goes (macro.Exchange instance partition sequence controller) w fits = exchange_goes instance partition sequence controller w
-macro_goes (macro.Settle rounds) w fits = settle_goes rounds w
+leads_then : (turns more : List Turn) (w u v : State) → Leads w turns u → Leads u more v → Leads w (turns ++ more) v
+leads_then [] more w u v same rest = subst (λ x. Leads x more v) same rest
+leads_then (turn ∷ turns) more w u v (next, t, further) rest = (next, t, leads_then turns more next u v further rest)
 
-line_goes : (said : Line) (w : State) → FitsLine w.setup.schema said → Goes w (LineTold said w)
-line_goes (line.Event event) w fits =
-    then_goes (Happens event) (λ outcome. Gives (outcome_text event outcome)) w (event_goes event w fits) (λ outcome u. gives_goes (outcome_text event outcome) u)
-line_goes (line.Macro said) w fits = macro_goes said w fits
-line_goes (line.NoQuery number) w fits = then_goes PassesOver (λ done. Gives (noquery_text number)) w (line_passes w) (λ done u. gives_goes (noquery_text number) u)
+led_then : (w u v : State) → Led w u → Led u v → Led w v
+led_then w u v a b = (a.0 ++ b.0, leads_then a.0 b.0 w u v a.1 b.1)
 
-said_goes : (o : Option Line) (w v : State) (text : List ℕ) → IfSome o (FitsLine w.setup.schema) → Runs o w v text → Reaches w v
-said_goes None w v text fits h = absurd h
-said_goes (Some said) w v text fits h = line_goes said w fits v text h
+said_goes : (o : Option Line) (g h : Going) (text : List ℕ) → IfSome o (FitsLine g.world.setup.schema) → Runs o g h text → Reaches g.desk.pause g.world h.world
+said_goes None g h text fits run = absurd run
+said_goes (Some said) g h text fits run = line_goes said g.desk g.world fits h.world _ run
+
+line_leads : (line : NumberedLine) (g h : Going) (text : List ℕ) → Runs (said_at g line) g h text → Led g.world h.world
+line_leads line g h text run =
+    let reached = said_goes (said_at g line) g h text (line_fits g.world.setup.schema g.world.setup.table.name line.1) run in
+    (reached.0, leads_by g.desk.pause reached.0 g.world h.world reached.1)
+
+-- what a line keeps: the world is safe, and of the same cluster
+pub line_keeps : (line : NumberedLine) (g h : Going) (text : List ℕ) → IsSafeWorld g.world → Runs (said_at g line) g h text
+    → IsSafeWorld h.world × (h.world.setup ≡ g.world.setup)
+line_keeps line g h text safe run =
+    let led = line_leads line g h text run in
+    (leads_safe g.world led.0 h.world safe led.1, (leads_on g.world led.0 h.world safe led.1).setup)
 
 -- ---- all lines
 
-pub lines_go : (lines : List NumberedLine) (w v : State) (texts : List (List ℕ)) → RunAll lines w v texts → Reaches w v
-lines_go [] w v texts h = stays w v h.0
-lines_go (first ∷ lines) w v texts h =
-    reaches_then w h.between v
-    (said_goes (line_in w.setup first.1) w h.between h.text (line_fits w.setup.schema w.setup.table.name first.1) h.first)
-    (lines_go lines h.between v h.others h.then_others)
+pub lines_lead : (lines : List NumberedLine) (g h : Going) (texts : List (List ℕ)) → RunAll lines g h texts → Led g.world h.world
+lines_lead [] g h texts run = ([], ap (λ (x : Going). x.world) run.0)
+lines_lead (first ∷ lines) g h texts run =
+    led_then g.world run.between.world h.world (line_leads first g run.between run.text run.first) (lines_lead lines run.between h run.others run.then_others)
 
-pub front_goes : (input : List ℕ) (setup : Setup) (lines : List NumberedLine) (texts : List (List ℕ)) (front : FrontRuns lines (start setup) texts)
-    → header_of (script_lines input) ≡ Ok (setup, lines) → (turns : List Turn) × Leads (start setup) turns front.last × IsSafeWorld front.last
-front_goes input setup lines texts front header =
-    let reached = lines_go front.front (start setup) front.last texts front.run in
-    (reached.0, reached.1, runs_are_safe setup reached.0 front.last (header_taken (script_lines input) setup lines header) reached.1)
+pub front_leads : (input : List ℕ) (beginning : Beginning) (lines : List NumberedLine) (texts : List (List ℕ)) (front : FrontRuns lines (going_from beginning) texts)
+    → beginning_of (script_lines input) ≡ Ok (beginning, lines) → (turns : List Turn) × Leads (start beginning.setup) turns front.last.world × IsSafeWorld front.last.world
+front_leads input beginning lines texts front e =
+    let led = lines_lead front.front (going_from beginning) front.last texts front.run in
+    (led.0, led.1, runs_are_safe beginning.setup led.0 front.last.world (header_taken (script_lines input) beginning.setup lines (beginning_taken (script_lines input) beginning lines e)) led.1)

@@ -10,8 +10,9 @@ use Rattle.rt_lines.specs.declared.play_fault.PlayFault.TheVariants.{Usage, Refu
 use Rattle.rt_play.specs.declared.play_end.PlayEnd.{PlayEnd}
 use Rattle.rt_base.specs.declared.failed.Failed.{Failed}
 use Rattle.rt_world.specs.Kept.{Kept}
-use Rattle.rt_world.specs.declared.state.State.{State}
 use Rattle.rt_lines.specs.Header.{NumberedLine}
+use Rattle.rt_play.specs.Going.{Going}
+use Rattle.rt_play.specs.declared.desk.Desk.{Desk}
 use Rattle.rt_play.specs.declared.reading.ReadStop.{ReadStop}
 use Rattle.rt_play.specs.declared.reading.ReadStop.TheVariants as stop
 use Rattle.rt_play.specs.Report.{FrontRuns, IsFrontOfReport, IsReport, IsReportFrom, Report, Runs, Stops}
@@ -79,14 +80,17 @@ Tells IsAll IsFront old new (Err ReadFault) = ⊥
 abbrev pub TellsInput : List ℕ → SinkMeaning → SinkMeaning → Result PlayEnd PlayFault → Type 0
 TellsInput input old new result = Tells (IsReport input) (IsFrontOfReport input) old new result
 
-abbrev pub TellsFrom : List NumberedLine → State → SinkMeaning → SinkMeaning → Result PlayEnd PlayFault → Type 0
-TellsFrom lines w old new result = Tells (IsReportFrom lines w) (FrontRuns lines w) old new result
+abbrev pub TellsFrom : List NumberedLine → Going → SinkMeaning → SinkMeaning → Result PlayEnd PlayFault → Type 0
+TellsFrom lines g old new result = Tells (IsReportFrom lines g) (FrontRuns lines g) old new result
 
 -- the input was read to its end, and its report written
-pub record PlaysAll (from to : SourceMeaning) (old new : SinkMeaning) (result : Result PlayEnd PlayFault) : Type 0 where
+pub record PlaysAllBy (All : List ℕ → Report → Type 0) (Front : List ℕ → List (List ℕ) → Type 0) (from to : SourceMeaning) (old new : SinkMeaning) (result : Result PlayEnd PlayFault) : Type 0 where
   pub input : List ℕ
   pub reads : Reads from to input
-  pub tells : TellsInput input old new result
+  pub tells : Tells (All input) (Front input) old new result
+
+abbrev pub PlaysAll : SourceMeaning → SourceMeaning → SinkMeaning → SinkMeaning → Result PlayEnd PlayFault → Type 0
+PlaysAll from to old new result = PlaysAllBy IsReport IsFrontOfReport from to old new result
 
 -- the source failed
 pub record FailsToRead (from to : SourceMeaning) (old new : SinkMeaning) : Type 0 where
@@ -103,32 +107,39 @@ pub record IsTooLong (from to : SourceMeaning) (old new : SinkMeaning) : Type 0 
   pub nothing : new ≡ old
 
 -- memory ran out: nothing was written before the whole input was read, and else the first lines of its report
-pub record RunsOut (from to : SourceMeaning) (old new : SinkMeaning) : Type 0 where
+pub record RunsOutBy (Front : List ℕ → List (List ℕ) → Type 0) (from to : SourceMeaning) (old new : SinkMeaning) : Type 0 where
   pub input : List ℕ
   pub taken : Takes from to input
-  pub lines : TellsFront (IsFrontOfReport input) old new
+  pub lines : TellsFront (Front input) old new
   pub ended : 0 < length lines.texts → Reads from to input
+
+abbrev pub RunsOut : SourceMeaning → SourceMeaning → SinkMeaning → SinkMeaning → Type 0
+RunsOut from to old new = RunsOutBy IsFrontOfReport from to old new
+
+-- what a run does, by its answer, where this is meant by a report and by its first lines
+abbrev pub PlaysBy : (List ℕ → Report → Type 0) → (List ℕ → List (List ℕ) → Type 0) → SourceMeaning → SourceMeaning → SinkMeaning → SinkMeaning → Result PlayEnd PlayFault → Type 0
+PlaysBy All Front from to old new (Err Usage) = ⊥
+PlaysBy All Front from to old new (Err ReadFault) = FailsToRead from to old new
+PlaysBy All Front from to old new (Err Memory) = RunsOutBy Front from to old new
+PlaysBy All Front from to old new (Err (Limit Input)) = IsTooLong from to old new ⊎ PlaysAllBy All Front from to old new (Err (Limit Input))
+PlaysBy All Front from to old new (Err (Limit Partitions)) = PlaysAllBy All Front from to old new (Err (Limit Partitions))
+PlaysBy All Front from to old new (Err (Limit Servers)) = PlaysAllBy All Front from to old new (Err (Limit Servers))
+PlaysBy All Front from to old new (Err (Limit Controllers)) = PlaysAllBy All Front from to old new (Err (Limit Controllers))
+PlaysBy All Front from to old new (Err (Limit Replication)) = PlaysAllBy All Front from to old new (Err (Limit Replication))
+PlaysBy All Front from to old new (Err (Limit Message)) = PlaysAllBy All Front from to old new (Err (Limit Message))
+PlaysBy All Front from to old new (Err (Limit Events)) = PlaysAllBy All Front from to old new (Err (Limit Events))
+PlaysBy All Front from to old new (Err (Limit Sent)) = PlaysAllBy All Front from to old new (Err (Limit Sent))
+PlaysBy All Front from to old new (Err (Limit Queries)) = PlaysAllBy All Front from to old new (Err (Limit Queries))
+PlaysBy All Front from to old new (Err (Limit Stored)) = PlaysAllBy All Front from to old new (Err (Limit Stored))
+PlaysBy All Front from to old new (Err (Limit Moment)) = PlaysAllBy All Front from to old new (Err (Limit Moment))
+PlaysBy All Front from to old new (Err (Limit Rows)) = PlaysAllBy All Front from to old new (Err (Limit Rows))
+PlaysBy All Front from to old new (Err WriteFault) = PlaysAllBy All Front from to old new (Err WriteFault)
+PlaysBy All Front from to old new (Err (Refused line reason)) = PlaysAllBy All Front from to old new (Err (Refused line reason))
+PlaysBy All Front from to old new (Ok end) = PlaysAllBy All Front from to old new (Ok end)
 
 -- what a run does, by its answer
 abbrev pub PlaysInput : SourceMeaning → SourceMeaning → SinkMeaning → SinkMeaning → Result PlayEnd PlayFault → Type 0
-PlaysInput from to old new (Err Usage) = ⊥
-PlaysInput from to old new (Err ReadFault) = FailsToRead from to old new
-PlaysInput from to old new (Err Memory) = RunsOut from to old new
-PlaysInput from to old new (Err (Limit Input)) = IsTooLong from to old new ⊎ PlaysAll from to old new (Err (Limit Input))
-PlaysInput from to old new (Err (Limit Partitions)) = PlaysAll from to old new (Err (Limit Partitions))
-PlaysInput from to old new (Err (Limit Servers)) = PlaysAll from to old new (Err (Limit Servers))
-PlaysInput from to old new (Err (Limit Controllers)) = PlaysAll from to old new (Err (Limit Controllers))
-PlaysInput from to old new (Err (Limit Replication)) = PlaysAll from to old new (Err (Limit Replication))
-PlaysInput from to old new (Err (Limit Message)) = PlaysAll from to old new (Err (Limit Message))
-PlaysInput from to old new (Err (Limit Events)) = PlaysAll from to old new (Err (Limit Events))
-PlaysInput from to old new (Err (Limit Sent)) = PlaysAll from to old new (Err (Limit Sent))
-PlaysInput from to old new (Err (Limit Queries)) = PlaysAll from to old new (Err (Limit Queries))
-PlaysInput from to old new (Err (Limit Stored)) = PlaysAll from to old new (Err (Limit Stored))
-PlaysInput from to old new (Err (Limit Moment)) = PlaysAll from to old new (Err (Limit Moment))
-PlaysInput from to old new (Err (Limit Rows)) = PlaysAll from to old new (Err (Limit Rows))
-PlaysInput from to old new (Err WriteFault) = PlaysAll from to old new (Err WriteFault)
-PlaysInput from to old new (Err (Refused line reason)) = PlaysAll from to old new (Err (Refused line reason))
-PlaysInput from to old new (Ok end) = PlaysAll from to old new (Ok end)
+PlaysInput from to old new result = PlaysBy IsReport IsFrontOfReport from to old new result
 
 -- the answer of a report
 abbrev pub answer_by : Report → Option PlayFault → Result PlayEnd PlayFault
@@ -179,15 +190,19 @@ ReadsAll from to (Err stop.Failed) = TakesSome from to × Rises from.faults to.f
 ReadsAll from to (Err stop.TooLong) = (some : TakesSome from to) × (input_limit < length some.input)
 ReadsAll from to (Err stop.Memory) = TakesSome from to
 
--- what a line says was run, or it stops the run
-abbrev pub PlaysSaid : ℕ → Option Line → Kept → Kept → List ℕ → Result Unit PlayFault → Type 0
-PlaysSaid number said old new text (Ok done) = (new.spent ≡ false) × Runs said old.state new.state text
-PlaysSaid number said old new text (Err Memory) = Unit {0}
-PlaysSaid number said old new text (Err (Refused at reason)) = Stops number said old.state (Refused at reason)
-PlaysSaid number said old new text (Err (Limit which)) = Stops number said old.state (Limit which)
-PlaysSaid number said old new text (Err Usage) = ⊥
-PlaysSaid number said old new text (Err ReadFault) = ⊥
-PlaysSaid number said old new text (Err WriteFault) = ⊥
+-- a world that isn't spent, and the desk beside it
+abbrev pub going : Kept → Desk → Going
+going kept desk = record { world = kept.state; desk = desk }
 
-abbrev pub PlaysLine : ℕ → List ℕ → Kept → Kept → List ℕ → Result Unit PlayFault → Type 0
-PlaysLine number line old new text result = PlaysSaid number (line_in old.state.setup line) old new text result
+-- what a line says was run, or it stops the run
+abbrev pub PlaysSaid : ℕ → Option Line → Kept → Desk → Kept → Desk → List ℕ → Result Unit PlayFault → Type 0
+PlaysSaid number said old before new after text (Ok done) = (new.spent ≡ false) × Runs said (going old before) (going new after) text
+PlaysSaid number said old before new after text (Err Memory) = Unit {0}
+PlaysSaid number said old before new after text (Err (Refused at reason)) = Stops number said (going old before) (Refused at reason)
+PlaysSaid number said old before new after text (Err (Limit which)) = Stops number said (going old before) (Limit which)
+PlaysSaid number said old before new after text (Err Usage) = ⊥
+PlaysSaid number said old before new after text (Err ReadFault) = ⊥
+PlaysSaid number said old before new after text (Err WriteFault) = ⊥
+
+abbrev pub PlaysLine : ℕ → List ℕ → Kept → Desk → Kept → Desk → List ℕ → Result Unit PlayFault → Type 0
+PlaysLine number line old before new after text result = PlaysSaid number (line_in old.state.setup line) old before new after text result

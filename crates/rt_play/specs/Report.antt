@@ -2,16 +2,17 @@
 use Rattle.std.specs.Prelude.{◌≡◌, ℕ, List, [], ◌∷◌, ◌++◌, Option, None, Some, Result, Ok, Err}
 use Rattle.rt_events.specs.declared.refusal.Refusal.{Refusal}
 use Rattle.rt_events.specs.declared.refusal.Refusal.TheVariants.{NoSuchMessage, NoSuchNode, NodeDown, NothingToDo, Limit, Memory}
-use Rattle.rt_lines.specs.Header.{NumberedLine, header_of}
+use Rattle.rt_lines.specs.Header.{NumberedLine}
 use Rattle.rt_lines.specs.Lines.{script_lines}
 use Rattle.rt_lines.specs.declared.line_reason.LineReason.TheVariants as reason
 use Rattle.rt_lines.specs.declared.play_fault.PlayFault.{PlayFault}
 use Rattle.rt_lines.specs.declared.play_fault.PlayFault.TheVariants as fault
-use Rattle.rt_model.specs.declared.setup.Setup.{Setup}
+use Rattle.rt_play.specs.Beginning.{beginning_of, going_from}
+use Rattle.rt_play.specs.Going.{Going, told}
 use Rattle.rt_play.specs.Saying.{LineTold}
+use Rattle.rt_play.specs.declared.beginning.Beginning.{Beginning}
 use Rattle.rt_script.specs.Line.{line_in}
 use Rattle.rt_script.specs.declared.line.Line.{Line}
-use Rattle.rt_world.specs.Start.{start}
 use Rattle.rt_world.specs.declared.state.State.{State}
 
 pub record Report : Type 0 where
@@ -27,63 +28,66 @@ fault_at line NothingToDo = fault.Refused line reason.NothingToDo
 fault_at line (Limit which) = fault.Limit which
 fault_at line Memory = fault.Memory
 
--- what a line says runs from one world to another, and this is its text
-abbrev pub Runs : Option Line → State → State → List ℕ → Type 0
-Runs None w v text = ⊥
-Runs (Some said) w v text = LineTold said w v (Ok text)
+-- what a line says runs from one world and desk to others, and this is its text
+abbrev pub Runs : Option Line → Going → Going → List ℕ → Type 0
+Runs None g h text = ⊥
+Runs (Some said) g h text = LineTold said g.desk g.world h.world (Ok (told h.desk text))
 
 -- what a line says stops the run, for this reason
-abbrev pub Stops : ℕ → Option Line → State → PlayFault → Type 0
-Stops number None w why = why ≡ fault.Refused number reason.BadLine
-Stops number (Some said) w why = (v : State) × (refusal : Refusal) × LineTold said w v (Err refusal) × (why ≡ fault_at number refusal)
+abbrev pub Stops : ℕ → Option Line → Going → PlayFault → Type 0
+Stops number None g why = why ≡ fault.Refused number reason.BadLine
+Stops number (Some said) g why = (v : State) × (refusal : Refusal) × LineTold said g.desk g.world v (Err refusal) × (why ≡ fault_at number refusal)
+
+abbrev pub said_at : Going → NumberedLine → Option Line
+said_at g line = line_in g.world.setup line.1
 
 -- a line runs, and then others
-pub record RunsFirst (line : NumberedLine) (later : State → List (List ℕ) → Type 0) (w : State) (texts : List (List ℕ)) : Type 0 where
-  pub between : State
+pub record RunsFirst (line : NumberedLine) (later : Going → List (List ℕ) → Type 0) (g : Going) (texts : List (List ℕ)) : Type 0 where
+  pub between : Going
   pub text : List ℕ
   pub others : List (List ℕ)
-  pub first : Runs (line_in w.setup line.1) w between text
+  pub first : Runs (said_at g line) g between text
   pub then_others : later between others
   pub whole : texts ≡ text ∷ others
 
--- these lines run, one after the other, from one world to another, and these are their texts
-abbrev pub RunAll : List NumberedLine → State → State → List (List ℕ) → Type 0
-RunAll [] w v texts = (v ≡ w) × (texts ≡ [])
-RunAll (line ∷ lines) w v texts = RunsFirst line (λ x others. RunAll lines x v others) w texts
+-- these lines run, one after the other, and these are their texts
+abbrev pub RunAll : List NumberedLine → Going → Going → List (List ℕ) → Type 0
+RunAll [] g h texts = (h ≡ g) × (texts ≡ [])
+RunAll (line ∷ lines) g h texts = RunsFirst line (λ x others. RunAll lines x h others) g texts
 
 -- the run is at its end, or the next line stops it
-abbrev pub IsStop : List NumberedLine → State → Option PlayFault → Type 0
-IsStop [] w stop = stop ≡ None
-IsStop (line ∷ lines) w stop = (why : PlayFault) × Stops line.0 (line_in w.setup line.1) w why × (stop ≡ Some why)
+abbrev pub IsStop : List NumberedLine → Going → Option PlayFault → Type 0
+IsStop [] g stop = stop ≡ None
+IsStop (line ∷ lines) g stop = (why : PlayFault) × Stops line.0 (said_at g line) g why × (stop ≡ Some why)
 
--- the first of these lines that run, those that are left, and the world between
-pub record FrontRuns (lines : List NumberedLine) (w : State) (texts : List (List ℕ)) : Type 0 where
+-- the first of these lines that run, those that are left, and what stands between
+pub record FrontRuns (lines : List NumberedLine) (g : Going) (texts : List (List ℕ)) : Type 0 where
   pub front : List NumberedLine
   pub rest : List NumberedLine
-  pub last : State
+  pub last : Going
   pub whole : lines ≡ front ++ rest
-  pub run : RunAll front w last texts
+  pub run : RunAll front g last texts
 
--- the report of lines, from a world on
-pub record IsReportFrom (lines : List NumberedLine) (w : State) (report : Report) : Type 0 where
-  pub runs : FrontRuns lines w report.texts
+-- the report of lines, from a world and a desk on
+pub record IsReportFrom (lines : List NumberedLine) (g : Going) (report : Report) : Type 0 where
+  pub runs : FrontRuns lines g report.texts
   pub stops : IsStop runs.rest runs.last report.stop
 
 abbrev pub stopped : PlayFault → Report
 stopped why = record { texts = []; stop = Some why }
 
-abbrev pub IsReportBehind : Result (Setup × List NumberedLine) PlayFault → Report → Type 0
-IsReportBehind (Ok x) report = IsReportFrom x.1 (start x.0) report
+abbrev pub IsReportBehind : Result (Beginning × List NumberedLine) PlayFault → Report → Type 0
+IsReportBehind (Ok x) report = IsReportFrom x.1 (going_from x.0) report
 IsReportBehind (Err why) report = report ≡ stopped why
 
 -- the report of a script
 abbrev pub IsReport : List ℕ → Report → Type 0
-IsReport input report = IsReportBehind (header_of (script_lines input)) report
+IsReport input report = IsReportBehind (beginning_of (script_lines input)) report
 
 -- the first lines of a report, where memory ran out behind them
-abbrev pub IsFrontBehind : Result (Setup × List NumberedLine) PlayFault → List (List ℕ) → Type 0
-IsFrontBehind (Ok x) texts = FrontRuns x.1 (start x.0) texts
+abbrev pub IsFrontBehind : Result (Beginning × List NumberedLine) PlayFault → List (List ℕ) → Type 0
+IsFrontBehind (Ok x) texts = FrontRuns x.1 (going_from x.0) texts
 IsFrontBehind (Err why) texts = texts ≡ []
 
 abbrev pub IsFrontOfReport : List ℕ → List (List ℕ) → Type 0
-IsFrontOfReport input texts = IsFrontBehind (header_of (script_lines input)) texts
+IsFrontOfReport input texts = IsFrontBehind (beginning_of (script_lines input)) texts

@@ -1,19 +1,30 @@
-ghost use Rattle.std.specs.Prelude.{◌≡◌, [], false, Err, IfOk, OnOk, string_bytes};
+ghost use Rattle.std.specs.Prelude.{◌≡◌, ◌≤◌, [], false, Ok, Err, IfOk, IfSome, string_bytes};
+ghost use Rattle.rt_base.specs.declared.limits.TheConstants.{MOST_PARTITIONS};
+ghost use Rattle.rt_lines.specs.Header.{Says};
+ghost use Rattle.rt_macros.specs.Doing.{Does, DoesText};
+ghost use Rattle.rt_macros.specs.Settling.{Settles};
+ghost use Rattle.rt_macros.specs.declared.settling.TheConstants.{MOST_ROUNDS};
+ghost use Rattle.rt_model.specs.Checked.{IsQuery};
 ghost use Rattle.rt_model.specs.Setup.{IsSetup};
+ghost use Rattle.rt_play.specs.Generating.{Asks, AsksQuery, RunsGenerated, SettlesAndAsks, TellsGenerated, generated_setup, header_text, query_said, setup_read};
+ghost use Rattle.rt_lines.specs.Header.{header_of};
+ghost use Rattle.rt_lines.specs.Lines.{script_lines};
+ghost use Rattle.rt_script.specs.Line.{FitsLine};
+ghost use Rattle.rt_world.specs.Start.{start};
 
 use crate::PlayEnd;
-use crate::acting::happen;
-use crate::running::{fault, play_said};
-use crate::settling::{MOST_ROUNDS, settle};
-use crate::writing::write_all;
-use rt_base::limits::MOST_ROWS;
-use rt_base::{Partition, Sink, Which};
+use crate::generated_report::write_report;
+use crate::generated_rows::produce_rows;
+use crate::macros::play_query;
+use crate::running::fault;
+use rt_base::limits::{MOST_PARTITIONS, MOST_ROWS};
+use rt_base::{Sink, Which};
 use rt_lines::{Lines, PlayFault, read_header};
-use rt_lists::Bytes;
-use rt_model::Setup;
-use rt_report::write_end;
-use rt_script::read_line;
-use rt_world::{Event, Refusal, World};
+use rt_macros::{MOST_ROUNDS, settle};
+use rt_model::{Query, Setup};
+use rt_pause::Pause;
+use rt_script::{Line, Macro, read_line};
+use rt_world::{Refusal, World};
 use std::alloc::{AllocError, Global};
 
 /// What a generated run is asked for.
@@ -33,33 +44,79 @@ pub(crate) fn generate<K: Sink>(
     asked: Generated,
     sink: &mut K,
 ) -> Result<PlayEnd, PlayFault>
-    ensures { result ≡ Err PlayFault.Usage → ⊥ }
+    ensures tells { TellsGenerated asked (K.meaning sink.old) (K.meaning sink.new) result }
+    ensures used { result ≡ Err PlayFault.Usage → ⊥ }
 {
-    let setup = generated_setup(alloc, asked.partitions)?;
-    if asked.rows > u64::from(MOST_ROWS) {
-        return Err(PlayFault::Limit(Which::Rows));
-    }
-    let Ok(mut world) = World::make(alloc, setup) else {
-        return Err(PlayFault::Memory);
-    };
-    let mut answer = String::new(alloc);
-    match run(alloc, &mut world, asked, &mut answer) {
-        Ok(()) => write_ends(alloc, &world, answer.as_str(), sink),
-        Err(refusal) => Err(fault(0, refusal)),
+    match generated_setup(alloc, asked) {
+        Ok(setup) => generate_from(alloc, setup, asked, sink),
+        Err(fault) => Err(fault),
     }
 }
 
-// The cluster of a generated run.
-fn generated_setup(alloc: Global, partitions: u64) -> Result<Setup, PlayFault>
+// Runs from the first world of the cluster.
+fn generate_from<K: Sink>(
+    alloc: Global,
+    setup: Setup,
+    asked: Generated,
+    sink: &mut K,
+) -> Result<PlayEnd, PlayFault>
+    requires setup { IsSetup setup }
+    requires is { generated_setup asked ≡ Ok setup }
+    requires some { 1 ≤ asked.partitions }
+    requires few { asked.partitions ≤ MOST_PARTITIONS }
+    ensures { TellsGenerated asked (K.meaning sink.old) (K.meaning sink.new) result }
+{
+    let mut world = match World::make(alloc, setup) {
+        Ok(world) => world,
+        Err(_) => return Err(PlayFault::Memory),
+    };
+    let mut answer = String::new(alloc);
+    match run(alloc, &mut world, asked, &mut answer) {
+        Ok(()) => {}
+        Err(refusal) => return Err(fault(0, refusal)),
+    }
+    match write_report(
+        alloc,
+        &world,
+        asked.partitions as u32,
+        answer.as_str(),
+        sink,
+    ) {
+        Ok(()) => Ok(PlayEnd {
+            lines: asked.partitions + 1,
+        }),
+        Err(fault) => Err(fault),
+    }
+}
+
+// The cluster of a generated run, within the limits.
+fn generated_setup(alloc: Global, asked: Generated) -> Result<Setup, PlayFault>
     ensures setup { IfOk result IsSetup }
-    ensures used { result ≡ Err PlayFault.Usage → ⊥ }
+    ensures says { Says (generated_setup asked) result }
+    ensures some { IfOk result (λ setup. 1 ≤ asked.partitions) }
+    ensures few { IfOk result (λ setup. asked.partitions ≤ MOST_PARTITIONS) }
+{
+    if asked.partitions < 1 || asked.partitions > u64::from(MOST_PARTITIONS) {
+        return Err(PlayFault::Limit(Which::Partitions));
+    }
+    if asked.rows > u64::from(MOST_ROWS) {
+        return Err(PlayFault::Limit(Which::Rows));
+    }
+    read_setup(alloc, asked.partitions)
+}
+
+fn read_setup(alloc: Global, partitions: u64) -> Result<Setup, PlayFault>
+    ensures setup { IfOk result IsSetup }
+    ensures says { Says (setup_read (header_of (script_lines (header_text partitions)))) result }
 {
     let header = header_text(alloc, partitions)?;
     let mut lines = Lines::make(header.as_bytes());
     read_header(alloc, &mut lines)
 }
 
-fn header_text(alloc: Global, partitions: u64) -> Result<String, AllocError> {
+fn header_text(alloc: Global, partitions: u64) -> Result<String, AllocError>
+    ensures { IfOk result (λ text. string_bytes text ≡ header_text partitions) }
+{
     let mut text = String::new(alloc);
     text.push_str(
         "schema {\"schemaName\":\"t\",\"dimensionFieldSpecs\":[{\"name\":\"k\",\"dataType\":\"STRING\"}],\"metricFieldSpecs\":[{\"name\":\"v\",\"dataType\":\"LONG\"}]}\n",
@@ -75,6 +132,7 @@ fn header_text(alloc: Global, partitions: u64) -> Result<String, AllocError> {
 }
 
 // Produces the rows, settles and asks.
+#[tactic(auto, using(rt_macros::proofs::Doing::does_then, rt_macros::proofs::Doing::does_refused, rt_macros::proofs::Doing::does_told))]
 fn run(
     alloc: Global,
     world: &mut World,
@@ -83,75 +141,66 @@ fn run(
 ) -> Result<(), Refusal>
     requires unspent { world.old.spent ≡ false }
     requires empty { string_bytes answer.old ≡ [] }
+    requires some { 1 ≤ asked.partitions }
+    requires few { asked.partitions ≤ MOST_PARTITIONS }
+    ensures { DoesText (RunsGenerated asked world.old.state) world.new (string_bytes answer.new) result }
 {
-    produce_rows(alloc, world, asked)?;
-    settle(alloc, world, MOST_ROUNDS)?;
+    let _last = produce_rows(alloc, world, asked)?;
+    settle_and_ask(alloc, world, answer)
+}
+
+#[tactic(auto, using(rt_macros::proofs::Doing::does_then, rt_macros::proofs::Doing::does_refused, rt_macros::proofs::Doing::does_told))]
+fn settle_and_ask(alloc: Global, world: &mut World, answer: &mut String) -> Result<(), Refusal>
+    requires unspent { world.old.spent ≡ false }
+    requires empty { string_bytes answer.old ≡ [] }
+    ensures { DoesText (SettlesAndAsks world.old.state) world.new (string_bytes answer.new) result }
+{
+    let _quiet = settle_unpaused(alloc, world)?;
+    ask(alloc, world, answer)
+}
+
+// Settles the cluster; no line pauses a generated run.
+fn settle_unpaused(alloc: Global, world: &mut World) -> Result<bool, Refusal>
+    requires { world.old.spent ≡ false }
+    ensures { Does (Settles false MOST_ROUNDS world.old.state) world.new result }
+{
+    let pause = Pause::make();
+    settle(alloc, world, &pause, MOST_ROUNDS)
+}
+
+fn ask(alloc: Global, world: &mut World, answer: &mut String) -> Result<(), Refusal>
+    requires unspent { world.old.spent ≡ false }
+    requires empty { string_bytes answer.old ≡ [] }
+    ensures { DoesText (Asks world.old.state) world.new (string_bytes answer.new) result }
+{
     let setup = world.setup();
-    match read_line(alloc, &setup.schema, &setup.table.name, QUERY.as_bytes())? {
-        Some(said) => play_said(alloc, world, said, answer),
+    let said = read_line(alloc, &setup.schema, &setup.table.name, QUERY.as_bytes())?;
+    ask_said(alloc, world, query_said(said), answer)
+}
+
+fn ask_said(
+    alloc: Global,
+    world: &mut World,
+    said: Option<Query>,
+    answer: &mut String,
+) -> Result<(), Refusal>
+    requires unspent { world.old.spent ≡ false }
+    requires fits { IfSome said (IsQuery world.old.state.setup.schema) }
+    requires empty { string_bytes answer.old ≡ [] }
+    ensures { DoesText (AsksQuery said world.old.state) world.new (string_bytes answer.new) result }
+{
+    match said {
+        Some(query) => play_query(alloc, world, query, answer),
         None => Err(Refusal::NothingToDo),
     }
 }
 
-fn produce_rows(alloc: Global, world: &mut World, asked: Generated) -> Result<(), Refusal>
-    requires { world.old.spent ≡ false }
-    ensures { OnOk result (world.new.spent ≡ false) }
+// The query that a line says.
+fn query_said(said: Option<Line>) -> Option<Query>
+    ensures { result ≡ query_said said }
 {
-    let partitions = u64::from(world.setup().partitions);
-    let mut x = asked.seed;
-    let mut at = 0;
-    while at < asked.rows {
-        x = next_number(x);
-        let produce = Event::Produce {
-            partition: Partition((at % partitions) as u32),
-            message: row_text(alloc, x)?,
-        };
-        happen(alloc, world, produce)?;
-        at += 1;
+    match said {
+        Some(Line::Macro(Macro::Query { query })) => Some(query),
+        _ => None,
     }
-    Ok(())
-}
-
-// The next number of the generator.
-fn next_number(x: u64) -> u64 {
-    x.wrapping_mul(6_364_136_223_846_793_005)
-        .wrapping_add(1_442_695_040_888_963_407)
-}
-
-// The row of a number of the generator: of its upper bits, the last four choose the key, and the next the value.
-fn row_text(alloc: Global, x: u64) -> Result<Bytes, AllocError> {
-    let top = x / 8_589_934_592;
-    let key = top % 16;
-    let value = top / 16 % 1000;
-    let text = format!(in alloc; "{{\"k\":\"k{key}\",\"v\":{value}}}")?;
-    Bytes::copied_from(alloc, text.as_bytes())
-}
-
-// Writes how far each partition is committed, and the answer.
-fn write_ends<K: Sink>(
-    alloc: Global,
-    world: &World,
-    answer: &str,
-    sink: &mut K,
-) -> Result<PlayEnd, PlayFault>
-    ensures { result ≡ Err PlayFault.Usage → ⊥ }
-{
-    let partitions = world.setup().partitions;
-    let mut text = String::new(alloc);
-    let mut at = 0;
-    while at < partitions {
-        text.clear();
-        let end = world.end(alloc, Partition(at))?;
-        write_end(&mut text, Partition(at), end)?;
-        if write_all(sink, text.as_bytes()).is_err() {
-            return Err(PlayFault::WriteFault);
-        }
-        at += 1;
-    }
-    if write_all(sink, answer.as_bytes()).is_err() {
-        return Err(PlayFault::WriteFault);
-    }
-    Ok(PlayEnd {
-        lines: u64::from(partitions) + 1,
-    })
 }

@@ -5,22 +5,29 @@
 //! line. A generated run makes its events by itself.
 #![tactic(auto)]
 
-mod acting;
-mod exchanging;
-mod filling;
+mod beginning;
+mod counting;
+mod desk;
+mod forcing;
+mod generated_report;
+mod generated_rows;
 mod generating;
+mod hybrid_lines;
+mod latest;
 mod laws;
 mod macros;
-mod outcomes;
+mod one_report;
+mod passing;
 mod play_end;
 mod player;
-mod querying;
 mod reading;
+mod rehearsal_lines;
 mod running;
-mod settling;
+mod saying;
 mod words;
 mod writing;
 
-pub use laws::a_script_is_a_run;
+pub use laws::{a_script_is_a_run, while_paused_no_replica_begins};
+pub use one_report::a_script_has_one_report;
 pub use play_end::PlayEnd;
 pub use player::play;

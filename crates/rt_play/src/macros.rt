@@ -1,19 +1,17 @@
 ghost use Rattle.std.specs.Prelude.{◌≡◌, [], false, string_bytes};
 ghost use Rattle.rt_model.specs.Checked.{IsQuery};
-ghost use Rattle.rt_play.specs.Doing.{DoesText};
-ghost use Rattle.rt_play.specs.Exchanging.{ExchangeTold};
-ghost use Rattle.rt_play.specs.Filling.{FillTold};
-ghost use Rattle.rt_play.specs.Querying.{QueryTold};
+ghost use Rattle.rt_macros.specs.Doing.{DoesText};
+ghost use Rattle.rt_macros.specs.Exchanging.{ExchangeTold};
+ghost use Rattle.rt_macros.specs.Filling.{FillTold};
+ghost use Rattle.rt_macros.specs.Querying.{QueryTold};
 ghost use Rattle.rt_play.specs.Saying.{MacroTold};
-ghost use Rattle.rt_play.specs.Settling.{SettleTold};
+ghost use Rattle.rt_macros.specs.Settling.{SettleTold};
 ghost use Rattle.rt_script.specs.Line.{FitsMacro};
 
-use crate::exchanging::exchange;
-use crate::filling::fill;
-use crate::querying::query;
-use crate::settling::settle;
 use rt_base::{ControllerId, Instance, Partition, Sequence};
+use rt_macros::{exchange, fill, query, settle};
 use rt_model::Query;
+use rt_pause::Pause;
 use rt_report::{write_answer, write_exchanged, write_filled, write_settled};
 use rt_script::Macro;
 use rt_world::{Refusal, World};
@@ -23,13 +21,14 @@ use std::alloc::Global;
 pub(crate) fn play_macro(
     alloc: Global,
     world: &mut World,
+    pause: &Pause,
     said: Macro,
     text: &mut String,
 ) -> Result<(), Refusal>
     requires unspent { world.old.spent ≡ false }
     requires fits { FitsMacro world.old.state.setup.schema said }
     requires empty { string_bytes text.old ≡ [] }
-    ensures { DoesText (MacroTold said world.old.state) world.new (string_bytes text.new) result }
+    ensures { DoesText (MacroTold pause.now said world.old.state) world.new (string_bytes text.new) result }
 {
     match said {
         Macro::Fill { partition, count } => play_fill(alloc, world, partition, count, text),
@@ -42,11 +41,11 @@ pub(crate) fn play_macro(
         } => play_exchange(
             alloc, world, instance, partition, sequence, controller, text,
         ),
-        Macro::Settle { rounds } => play_settle(alloc, world, rounds, text),
+        Macro::Settle { rounds } => play_settle(alloc, world, pause, rounds, text),
     }
 }
 
-#[tactic(auto, using(crate::proofs::Doing::does_then, crate::proofs::Doing::does_refused, crate::proofs::Doing::does_told))]
+#[tactic(auto, using(rt_macros::proofs::Doing::does_then, rt_macros::proofs::Doing::does_refused, rt_macros::proofs::Doing::does_told))]
 fn play_fill(
     alloc: Global,
     world: &mut World,
@@ -63,8 +62,8 @@ fn play_fill(
     Ok(())
 }
 
-#[tactic(auto, using(crate::proofs::Doing::does_then, crate::proofs::Doing::does_refused, crate::proofs::Doing::does_told))]
-fn play_query(
+#[tactic(auto, using(rt_macros::proofs::Doing::does_then, rt_macros::proofs::Doing::does_refused, rt_macros::proofs::Doing::does_told))]
+pub(crate) fn play_query(
     alloc: Global,
     world: &mut World,
     asked: Query,
@@ -80,7 +79,7 @@ fn play_query(
     Ok(())
 }
 
-#[tactic(auto, using(crate::proofs::Doing::does_then, crate::proofs::Doing::does_refused, crate::proofs::Doing::does_told))]
+#[tactic(auto, using(rt_macros::proofs::Doing::does_then, rt_macros::proofs::Doing::does_refused, rt_macros::proofs::Doing::does_told))]
 fn play_exchange(
     alloc: Global,
     world: &mut World,
@@ -106,18 +105,19 @@ fn play_exchange(
     Ok(())
 }
 
-#[tactic(auto, using(crate::proofs::Doing::does_then, crate::proofs::Doing::does_refused, crate::proofs::Doing::does_told))]
+#[tactic(auto, using(rt_macros::proofs::Doing::does_then, rt_macros::proofs::Doing::does_refused, rt_macros::proofs::Doing::does_told))]
 fn play_settle(
     alloc: Global,
     world: &mut World,
+    pause: &Pause,
     rounds: u64,
     text: &mut String,
 ) -> Result<(), Refusal>
     requires unspent { world.old.spent ≡ false }
     requires empty { string_bytes text.old ≡ [] }
-    ensures { DoesText (SettleTold rounds world.old.state) world.new (string_bytes text.new) result }
+    ensures { DoesText (SettleTold pause.now rounds world.old.state) world.new (string_bytes text.new) result }
 {
-    let quiet = settle(alloc, world, rounds)?;
+    let quiet = settle(alloc, world, pause, rounds)?;
     write_settled(text, quiet)?;
     Ok(())
 }

@@ -1,23 +1,20 @@
-ghost use Rattle.std.specs.Prelude.{◌≡◌, ◌<◌, ◌^◌, [], false, length, string_bytes};
+ghost use Rattle.std.specs.Prelude.{◌≡◌, ◌<◌, ◌^◌, [], false, length, string_bytes, OnOk};
 ghost use Rattle.rt_model.specs.Setup.{IsSetup};
-ghost use Rattle.rt_play.specs.Doing.{DoesText};
-ghost use Rattle.rt_play.specs.Plays.{PlaysLine, TellsFrom, TellsInput};
+ghost use Rattle.rt_play.specs.Beginning.{going_from};
+ghost use Rattle.rt_play.specs.Going.{IsDesk};
+ghost use Rattle.rt_play.specs.Plays.{PlaysLine, TellsFrom, TellsInput, going};
 ghost use Rattle.rt_play.specs.Report.{fault_at};
-ghost use Rattle.rt_play.specs.Saying.{EventTold, LineTold, PassTold};
-ghost use Rattle.rt_events.specs.Fits.{Fits};
-ghost use Rattle.rt_script.specs.Line.{FitsLine};
-ghost use Rattle.rt_world.specs.Start.{start};
+ghost use Rattle.rt_world.specs.IsSafeWorld.{IsSafeWorld};
 
 use crate::PlayEnd;
-use crate::acting::{apply, pass};
-use crate::macros::play_macro;
+use crate::beginning::{Beginning, read_beginning};
+use crate::desk::Desk;
+use crate::saying::play_said;
 use crate::writing::write_all;
 use rt_base::Sink;
-use rt_lines::{LineReason, Lines, PlayFault, read_header};
-use rt_model::Setup;
-use rt_report::{write_noquery, write_outcome};
-use rt_script::{Line, read_line};
-use rt_world::{Event, Refusal, World};
+use rt_lines::{LineReason, Lines, PlayFault};
+use rt_script::read_line;
+use rt_world::{Refusal, World};
 use std::alloc::Global;
 
 /// Runs a script, and writes its report.
@@ -29,26 +26,28 @@ pub(crate) fn play_input<K: Sink>(
     ensures { TellsInput input.now (K.meaning sink.old) (K.meaning sink.new) result }
 {
     let mut lines = Lines::make(input);
-    match read_header(alloc, &mut lines) {
-        Ok(setup) => play_from_start(alloc, setup, &mut lines, sink),
+    match read_beginning(alloc, &mut lines) {
+        Ok(beginning) => play_from_start(alloc, beginning, &mut lines, sink),
         Err(fault) => Err(fault),
     }
 }
 
 // Runs the lines behind a header.
-#[tactic(auto, using(crate::proofs::Headers::none_told))]
+#[tactic(auto, using(crate::proofs::Beginnings::none_told, rt_world::proofs::StartSafe::start_safe))]
 fn play_from_start<K: Sink>(
     alloc: Global,
-    setup: Setup,
+    beginning: Beginning,
     lines: &mut Lines<'_>,
     sink: &mut K,
 ) -> Result<PlayEnd, PlayFault>
-    requires setup { IsSetup setup }
+    requires setup { IsSetup beginning.setup }
+    requires desk { IsDesk beginning.setup.schema beginning.desk }
     requires few { length lines.old.lines < 2 ^ 64 }
-    ensures { TellsFrom lines.old.lines (start setup) (K.meaning sink.old) (K.meaning sink.new) result }
+    ensures { TellsFrom lines.old.lines (going_from beginning) (K.meaning sink.old) (K.meaning sink.new) result }
 {
+    let Beginning { setup, mut desk } = beginning;
     match World::make(alloc, setup) {
-        Ok(mut world) => play_lines(alloc, &mut world, lines, sink),
+        Ok(mut world) => play_lines(alloc, &mut world, &mut desk, lines, sink),
         Err(_) => Err(PlayFault::Memory),
     }
 }
@@ -57,17 +56,20 @@ fn play_from_start<K: Sink>(
 fn play_lines<K: Sink>(
     alloc: Global,
     world: &mut World,
+    desk: &mut Desk,
     lines: &mut Lines<'_>,
     sink: &mut K,
 ) -> Result<PlayEnd, PlayFault>
     requires unspent { world.old.spent ≡ false }
+    requires safe { IsSafeWorld world.old.state }
+    requires desk { IsDesk world.old.state.setup.schema desk.old }
     requires few { length lines.old.lines < 2 ^ 64 }
-    ensures { TellsFrom lines.old.lines world.old.state (K.meaning sink.old) (K.meaning sink.new) result }
+    ensures { TellsFrom lines.old.lines (going world.old desk.old) (K.meaning sink.old) (K.meaning sink.new) result }
 {
     let mut text = String::new(alloc);
     let mut count = 0;
     while let Some((number, line)) = lines.next() {
-        match play_line(alloc, world, number, line, &mut text) {
+        match play_line(alloc, world, desk, number, line, &mut text) {
             Ok(()) => {}
             Err(fault) => return Err(fault),
         }
@@ -84,71 +86,25 @@ fn play_lines<K: Sink>(
 fn play_line(
     alloc: Global,
     world: &mut World,
+    desk: &mut Desk,
     number: u64,
     line: &[u8],
     text: &mut String,
 ) -> Result<(), PlayFault>
-    requires { world.old.spent ≡ false }
-    ensures { PlaysLine number line.now world.old world.new (string_bytes text.new) result }
+    requires unspent { world.old.spent ≡ false }
+    requires desk { IsDesk world.old.state.setup.schema desk.old }
+    ensures plays { PlaysLine number line.now world.old desk.old world.new desk.new (string_bytes text.new) result }
+    ensures desk { OnOk result (IsDesk world.old.state.setup.schema desk.new) }
 {
     text.clear();
     let setup = world.setup();
     let Some(said) = read_line(alloc, &setup.schema, &setup.table.name, line)? else {
         return Err(refused(number, LineReason::BadLine));
     };
-    match play_said(alloc, world, said, text) {
+    match play_said(alloc, world, desk, said, text) {
         Ok(()) => Ok(()),
         Err(refusal) => Err(fault(number, refusal)),
     }
-}
-
-/// Has the events of what a line says happen, and makes the text that is reported of it.
-pub(crate) fn play_said(
-    alloc: Global,
-    world: &mut World,
-    said: Line,
-    text: &mut String,
-) -> Result<(), Refusal>
-    requires unspent { world.old.spent ≡ false }
-    requires fits { FitsLine world.old.state.setup.schema said }
-    requires empty { string_bytes text.old ≡ [] }
-    ensures { DoesText (LineTold said world.old.state) world.new (string_bytes text.new) result }
-{
-    match said {
-        Line::Event(event) => play_event(alloc, world, &event, text),
-        Line::Macro(said) => play_macro(alloc, world, said, text),
-        Line::NoQuery(number) => pass_line(world, number, text),
-    }
-}
-
-// Has an event happen, and makes the text that is reported of it.
-#[tactic(auto, using(crate::proofs::Doing::does_then, crate::proofs::Doing::does_refused, crate::proofs::Doing::does_told))]
-fn play_event(
-    alloc: Global,
-    world: &mut World,
-    event: &Event,
-    text: &mut String,
-) -> Result<(), Refusal>
-    requires unspent { world.old.spent ≡ false }
-    requires fits { Fits world.old.state.setup.schema event.now }
-    requires empty { string_bytes text.old ≡ [] }
-    ensures { DoesText (EventTold event.now world.old.state) world.new (string_bytes text.new) result }
-{
-    let outcome = apply(alloc, world, event)?;
-    write_outcome(alloc, text, event, &outcome)?;
-    Ok(())
-}
-
-// Passes over a text that is no query, and makes the text that is reported of it.
-#[tactic(auto, using(crate::proofs::Doing::does_then, crate::proofs::Doing::does_refused, crate::proofs::Doing::does_told))]
-fn pass_line(world: &mut World, number: u32, text: &mut String) -> Result<(), Refusal>
-    requires unspent { world.old.spent ≡ false }
-    requires empty { string_bytes text.old ≡ [] }
-    ensures { DoesText (PassTold number world.old.state) world.new (string_bytes text.new) result }
-{
-    pass(world)?;
-    write_noquery(text, number)?;
-    Ok(())
 }
 
 /// Why a refused event stops the run at its line.

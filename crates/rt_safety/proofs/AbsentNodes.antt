@@ -24,8 +24,6 @@ use Rattle.rt_lists.proofs.Lists.{All-found}
 use Rattle.rt_model.specs.History.{value_of}
 use Rattle.rt_model.specs.Metadata.{life_of}
 use Rattle.rt_model.specs.declared.job_step.JobStep.{JobStep}
-use Rattle.rt_model.specs.declared.node.Key.TheVariants as key
-use Rattle.rt_model.specs.declared.reply.FailCause.TheVariants as cause
 use Rattle.rt_model.specs.declared.reply.Reply.{Reply}
 use Rattle.rt_model.specs.declared.request.Request.{Request}
 use Rattle.rt_model.specs.declared.sent.Sent.TheVariants as sent
@@ -36,7 +34,7 @@ use Rattle.rt_world.specs.Finding.{request_at}
 use Rattle.rt_world.specs.IsSafe.{past_of}
 use Rattle.rt_world.specs.IsSafeWorld.{IsSafeWorld}
 use Rattle.rt_world.specs.Jobs.{JobStepsAt, noted_set, stepped_by}
-use Rattle.rt_world.specs.Messages.{DeliversAt, after_step, handed, tells}
+use Rattle.rt_world.specs.Messages.{DeliversAt, after_step, tells}
 use Rattle.rt_world.specs.Step.{Steps}
 use Rattle.rt_world.specs.declared.controller_node.ControllerNode.{ControllerNode}
 use Rattle.rt_world.specs.declared.cost.Cost.{Cost}

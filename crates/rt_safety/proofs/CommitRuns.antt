@@ -19,7 +19,6 @@ use Rattle.rt_events.specs.declared.outcome.Outcome.TheVariants as told
 use Rattle.rt_model.specs.declared.asked.Asked.{Asked}
 use Rattle.rt_model.specs.declared.job_step.JobStep.{JobStep}
 use Rattle.rt_model.specs.declared.reply.Reply.{Reply}
-use Rattle.rt_model.specs.declared.sent.Sent.TheVariants as sent
 use Rattle.rt_deep.specs.Meaning.{Told as ToldDeep}
 use Rattle.rt_store.specs.Meaning.{Told}
 use Rattle.rt_controller.specs.Controller.{Controlling}

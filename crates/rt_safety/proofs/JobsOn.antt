@@ -1,5 +1,5 @@
 -- An open job stays as it is through each event that isn't its own step.
-use Rattle.std.proofs.Common.{◌≡◌, ℕ, Bool, true, false, List, Option, Some, None, refl, sym, ◌∙◌, ap, slice_get, length, arith, ⊎_elim}
+use Rattle.std.proofs.Common.{◌≡◌, ℕ, Bool, true, false, List, Option, Some, None, refl, sym, ◌∙◌, ap, slice_get, arith, ⊎_elim}
 use Rattle.std.specs.Prelude.{slice_set}
 use Rattle.std.proofs.lemmas.Bool.{cases_eq}
 use Rattle.std.proofs.lemmas.List.{get_or-set_same, get_or-set_other, length-set}
@@ -20,7 +20,6 @@ use Rattle.rt_controller.specs.Right.{job_of}
 use Rattle.rt_controller.proofs.CallsOver.{handles_over}
 use Rattle.rt_model.specs.declared.reply.Reply.{Reply}
 use Rattle.rt_model.specs.declared.request.Request.{Request}
-use Rattle.rt_model.specs.declared.sent.Sent.TheVariants as sent
 use Rattle.rt_deep.specs.Meaning.{Told as ToldDeep}
 use Rattle.rt_store.specs.Meaning.{Told}
 use Rattle.rt_world.specs.Applying.{Next}

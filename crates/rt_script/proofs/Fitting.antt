@@ -1,22 +1,26 @@
 -- Lines whose words have a grammar of their own ask for no query, so that they fit any table.
 use Rattle.std.proofs.Common.{◌≡◌, ℕ, List, Bool, true, false, Option, Some, None, sym, subst}
 use Rattle.std.specs.Prelude.{IfSome, option_map, codes, bytes_eq, cond}
+use Rattle.std.specs.Str.{is_utf8}
 use Rattle.rt_base.specs.declared.gate.NodeId.{NodeId}
 use Rattle.rt_base.specs.declared.gate.NodeId.TheVariants.{Server, Controller, Repairer, Broker, Producer}
 use Rattle.rt_events.specs.declared.event.Event.{Event}
 use Rattle.rt_events.specs.declared.event.Event.TheVariants.{FaultStore, FaultDeep, ShowIdeal}
 use Rattle.rt_events.specs.Fits.{Fits}
-use Rattle.rt_lines.specs.Words.{then_some, parted_at, number_of}
+use Rattle.rt_lines.specs.Words.{field_of, then_some, parted_at, number_of}
 use Rattle.rt_schema.specs.declared.schema.Schema.{Schema}
 use Rattle.rt_script.specs.BrokerLines.{route_of, piece_of, answer_of}
-use Rattle.rt_script.specs.Line.{FitsLine, FitsMacro, plain_of}
+use Rattle.rt_script.specs.FurtherLines.{bare_of, offline_of, plan_by}
+use Rattle.rt_script.specs.Line.{FitsFurther, FitsLine, FitsMacro, plain_of}
 use Rattle.rt_script.specs.MacroLines.{fill_of, exchange_of, settle_of}
 use Rattle.rt_script.specs.NodeLines.{crash_at, restart_at, led_partition_of}
 use Rattle.rt_script.specs.OutsideLines.{fault_by, kept_of, meta_of, on_of}
 use Rattle.rt_script.specs.ReplicaLines.{numbered_replica_of}
-use Rattle.rt_script.specs.Words.{controller_of, index_of, instance_of, job_of, message_of, node_of, partition_of, query_of, replica_of, segment_of}
+use Rattle.rt_script.specs.Words.{controller_of, force_job_of, index_of, instance_of, job_of, message_of, node_of, partition_of, query_of, replica_of, segment_of}
 use Rattle.rt_script.specs.declared.command.Command.{Command}
 use Rattle.rt_script.specs.declared.command.Command.TheVariants as command
+use Rattle.rt_script.specs.declared.further.Further.{Further}
+use Rattle.rt_script.specs.declared.further.Further.TheVariants.{Offline, Pause, Resume, ForceCommit, Step}
 use Rattle.rt_script.specs.declared.line.Line.{Line}
 use Rattle.rt_script.specs.declared.line.Line.TheVariants as line
 use Rattle.rt_script.specs.declared.line.Macro.{Macro}
@@ -32,6 +36,10 @@ events_fit schema None fits = tt
 macros_fit : (schema : Schema) (o : Option Macro) → IfSome o (FitsMacro schema) → IfSome (option_map line.Macro o) (FitsLine schema)
 macros_fit schema (Some macro) fits = fits
 macros_fit schema None fits = tt
+
+pub furthers_fit : (schema : Schema) (o : Option Further) → IfSome o (FitsFurther schema) → IfSome (option_map line.Further o) (FitsLine schema)
+furthers_fit schema (Some further) fits = fits
+furthers_fit schema None fits = tt
 
 pub either_fits : {A : Type 0} (P : A → Type 0) (b : Bool) (x y : Option A) → IfSome x P → IfSome y P → IfSome (cond b x y) P
 either_fits P true x y a b = a
@@ -58,6 +66,19 @@ restart_fits schema (Controller controller) = tt
 restart_fits schema Repairer = tt
 restart_fits schema Broker = tt
 restart_fits schema Producer = tt
+
+pub bare_fits : (schema : Schema) (text : List ℕ) → IfSome (bare_of text) (FitsFurther schema)
+bare_fits schema text =
+    either_fits (FitsFurther schema) (bytes_eq text (codes "pause")) (Some Pause) _ tt
+    (either_fits (FitsFurther schema) (bytes_eq text (codes "resume")) (Some Resume) _ tt
+    (either_fits (FitsFurther schema) (bytes_eq text (codes "forceCommit")) (Some ForceCommit) None tt tt))
+
+pub offline_fits : (schema : Schema) (text : List ℕ) → IfSome (offline_of text) (FitsFurther schema)
+offline_fits schema text = either_fits (FitsFurther schema) (is_utf8 text) (Some (Offline text)) None tt tt
+
+plan_fits : (schema : Schema) (first second : List ℕ) → IfSome (plan_by first second) (FitsFurther schema)
+plan_fits schema first second =
+    all_some (FitsFurther schema) (field_of (codes "servers=") first) _ (λ servers. all_some (FitsFurther schema) (field_of (codes "keep=") second) _ (λ keep. tt))
 
 pub plain_fits : (schema : Schema) (command : Command) (text : List ℕ) → IfSome (plain_of command text) (FitsLine schema)
 plain_fits schema command.Tick text = events_fit schema _ (all_some (Fits schema) (number_of text) _ (λ n. tt))
@@ -98,6 +119,12 @@ plain_fits schema command.Exchange text =
     macros_fit schema _ (all_some (FitsMacro schema) (parted_at 32 text) _ (λ a. all_some (FitsMacro schema) (instance_of a.0) _ (λ i.
     all_some (FitsMacro schema) (parted_at 32 a.1) _ (λ b. all_some (FitsMacro schema) (segment_of b.0) _ (λ s. all_some (FitsMacro schema) (controller_of b.1) _ (λ c. tt))))))
 plain_fits schema command.Settle text = macros_fit schema _ (all_some (FitsMacro schema) (number_of text) _ (λ n. tt))
+plain_fits schema command.ForceStatus text = furthers_fit schema _ (all_some (FitsFurther schema) (force_job_of text) _ (λ job. tt))
+plain_fits schema command.Peer text = furthers_fit schema _ (all_some (FitsFurther schema) (replica_of text) _ (λ at. tt))
+plain_fits schema command.Rehearse text =
+    furthers_fit schema _ (either_fits (FitsFurther schema) (bytes_eq text (codes "step")) (Some Step) _ tt
+    (all_some (FitsFurther schema) (parted_at 32 text) _ (λ parts. either_fits (FitsFurther schema) (bytes_eq parts.0 (codes "loaded")) _ _
+    (all_some (FitsFurther schema) (replica_of parts.1) _ (λ at. tt)) (plan_fits schema parts.0 parts.1))))
 
 pub fits_by : (schema : Schema) (command : Command) (text : List ℕ) (said : Option Line) → said ≡ plain_of command text → IfSome said (FitsLine schema)
 fits_by schema command text said e = subst (λ o. IfSome o (FitsLine schema)) (sym e) (plain_fits schema command text)

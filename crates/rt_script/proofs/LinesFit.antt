@@ -5,15 +5,16 @@ use Rattle.rt_events.specs.Fits.{Fits}
 use Rattle.rt_lines.specs.Words.{then_some, parted_at}
 use Rattle.rt_model.specs.declared.query.Query.{Query}
 use Rattle.rt_schema.specs.declared.schema.Schema.{Schema}
-use Rattle.rt_script.specs.BrokerLines.{FitsText, text_of, text_read}
 use Rattle.rt_script.specs.Command.{command_of}
-use Rattle.rt_script.specs.Line.{FitsLine, ask_line, line_by, line_of, plain_of, query_line}
+use Rattle.rt_script.specs.FurtherLines.{bare_of}
+use Rattle.rt_script.specs.Line.{FitsLine, ask_line, hybrid_line, latest_line, line_by, line_from, line_of, plain_of, query_line}
 use Rattle.rt_script.specs.OutsideLines.{produce_of}
+use Rattle.rt_script.specs.QueryTexts.{FitsText, text_of, text_read}
 use Rattle.rt_script.specs.Words.{partition_of}
-use Rattle.rt_script.specs.declared.broker_lines.QueryText.{QueryText}
-use Rattle.rt_script.specs.declared.broker_lines.QueryText.TheVariants as text
+use Rattle.rt_script.specs.declared.query_text.QueryText.{QueryText}
+use Rattle.rt_script.specs.declared.query_text.QueryText.TheVariants as text
 use Rattle.rt_script.specs.declared.line.Line.{Line}
-use Rattle.rt_script.proofs.Fitting.{all_some, either_fits, events_fit, plain_fits}
+use Rattle.rt_script.proofs.Fitting.{all_some, bare_fits, either_fits, events_fit, furthers_fit, offline_fits, plain_fits}
 use Rattle.rt_sql.specs.Parsing.{query_of as query_in}
 use Rattle.rt_grammar.specs.declared.sql_refused.SqlRefused.{SqlRefused}
 use Rattle.rt_sql.proofs.Fitting.{answered_fits}
@@ -39,13 +40,28 @@ asked_fits schema None fits = tt
 asked_fits schema (Some (text.Query query)) fits = fits
 asked_fits schema (Some (text.Refused number)) fits = tt
 
+latest_fits : (schema : Schema) (o : Option QueryText) → IfSome o (FitsText schema) → IfSome (option_map latest_line o) (FitsLine schema)
+latest_fits schema None fits = tt
+latest_fits schema (Some asked) fits = fits
+
+hybrid_fits : (schema : Schema) (o : Option QueryText) → IfSome o (FitsText schema) → IfSome (option_map hybrid_line o) (FitsLine schema)
+hybrid_fits schema None fits = tt
+hybrid_fits schema (Some asked) fits = fits
+
 word_fits : (schema : Schema) (table word text : List ℕ) → IfSome (line_by schema table word text) (FitsLine schema)
 word_fits schema table word text =
     either_fits (FitsLine schema) (bytes_eq word (codes "produce")) _ _
     (events_fit schema _ (produce_fits schema text))
     (either_fits (FitsLine schema) (bytes_eq word (codes "ask")) _ _ (ask_fits schema _ (text_fits schema table text))
     (either_fits (FitsLine schema) (bytes_eq word (codes "query")) _ _ (asked_fits schema _ (text_fits schema table text))
-    (all_some (FitsLine schema) (command_of word) _ (λ command. plain_fits schema command text))))
+    (either_fits (FitsLine schema) (bytes_eq word (codes "latest")) _ _ (latest_fits schema _ (text_fits schema table text))
+    (either_fits (FitsLine schema) (bytes_eq word (codes "hybrid")) _ _ (hybrid_fits schema _ (text_fits schema table text))
+    (either_fits (FitsLine schema) (bytes_eq word (codes "offline")) _ _ (furthers_fit schema _ (offline_fits schema text))
+    (all_some (FitsLine schema) (command_of word) _ (λ command. plain_fits schema command text)))))))
+
+from_fits : (schema : Schema) (table text : List ℕ) (o : Option (List ℕ × List ℕ)) → IfSome (line_from schema table text o) (FitsLine schema)
+from_fits schema table text None = furthers_fit schema _ (bare_fits schema text)
+from_fits schema table text (Some parts) = word_fits schema table parts.0 parts.1
 
 pub line_fits : (schema : Schema) (table line : List ℕ) → IfSome (line_of schema table line) (FitsLine schema)
-line_fits schema table line = all_some (FitsLine schema) (parted_at 32 line) _ (λ parts. word_fits schema table parts.0 parts.1)
+line_fits schema table line = from_fits schema table line (parted_at 32 line)

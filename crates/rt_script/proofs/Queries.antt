@@ -4,8 +4,8 @@ use Rattle.std.specs.Str.{IsUtf8, is_utf8}
 use Rattle.std.proofs.lemmas.Str.{IsUtf8-from_is_utf8, is_utf8-from_IsUtf8}
 use Rattle.rt_model.specs.declared.query.Query.{Query}
 use Rattle.rt_schema.specs.declared.schema.Schema.{Schema}
-use Rattle.rt_script.specs.BrokerLines.{text_of, text_read}
-use Rattle.rt_script.specs.declared.broker_lines.QueryText.{QueryText}
+use Rattle.rt_script.specs.QueryTexts.{text_of, text_read}
+use Rattle.rt_script.specs.declared.query_text.QueryText.{QueryText}
 use Rattle.rt_sql.specs.Parsing.{query_of as query_in}
 use Rattle.rt_grammar.specs.declared.sql_refused.SqlRefused.{SqlRefused}
 

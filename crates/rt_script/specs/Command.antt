@@ -28,6 +28,9 @@ use Rattle.rt_script.specs.declared.command.Command.TheVariants.{
   Fill,
   Exchange,
   Settle,
+  ForceStatus,
+  Peer,
+  Rehearse,
 }
 
 -- what lies outside the nodes
@@ -72,9 +75,16 @@ asking_of word =
     (if bytes_eq word (codes "piece") then Some Piece else
     (if bytes_eq word (codes "answer") then Some Answer else None))
 
+-- what stands beside the events
+abbrev pub further_of : List ℕ → Option Command
+further_of word =
+    if bytes_eq word (codes "forceStatus") then Some ForceStatus else
+    (if bytes_eq word (codes "peer") then Some Peer else
+    (if bytes_eq word (codes "rehearse") then Some Rehearse else None))
+
 abbrev pub or_else : {A : Type 0} → Option A → Option A → Option A
 or_else (Some x) other = Some x
 or_else None other = other
 
 abbrev pub command_of : List ℕ → Option Command
-command_of word = or_else (outside_of word) (or_else (replica_of word) (or_else (node_of word) (asking_of word)))
+command_of word = or_else (outside_of word) (or_else (replica_of word) (or_else (node_of word) (or_else (asking_of word) (further_of word))))

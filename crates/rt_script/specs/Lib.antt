@@ -1,9 +1,11 @@
 pub mod BrokerLines
 pub mod Command
+pub mod FurtherLines
 pub mod Line
 pub mod MacroLines
 pub mod MessageLines
 pub mod NodeLines
 pub mod OutsideLines
+pub mod QueryTexts
 pub mod ReplicaLines
 pub mod Words

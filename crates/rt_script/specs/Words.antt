@@ -55,6 +55,10 @@ message_of word = then_some (behind_letter 109 word) number_of
 abbrev pub job_of : List ℕ → Option ℕ
 job_of word = then_some (behind_letter 106 word) number_of
 
+-- `fN`
+abbrev pub force_job_of : List ℕ → Option ℕ
+force_job_of word = then_some (behind_letter 102 word) number_of
+
 -- `qN`
 abbrev pub query_of : List ℕ → Option ℕ
 query_of word = then_some (behind_letter 113 word) index_of

@@ -1,5 +1,5 @@
 ghost use Rattle.std.specs.Prelude.{◌≡◌};
-ghost use Rattle.rt_script.specs.Command.{asking_of, command_of, node_of, outside_of, replica_of};
+ghost use Rattle.rt_script.specs.Command.{asking_of, command_of, further_of, node_of, outside_of, replica_of};
 
 /// The first word of a line whose further words have a grammar of their own.
 #[derive(Clone, Copy, Debug, PartialEq, Eq)]
@@ -30,6 +30,9 @@ pub enum Command {
     Fill,
     Exchange,
     Settle,
+    ForceStatus,
+    Peer,
+    Rehearse,
 }
 
 impl Command {
@@ -46,7 +49,10 @@ impl Command {
         if let Some(command) = node(word) {
             return Some(command);
         }
-        asking(word)
+        if let Some(command) = asking(word) {
+            return Some(command);
+        }
+        further(word)
     }
 }
 
@@ -133,6 +139,21 @@ fn asking(word: &[u8]) -> Option<Command>
         Some(Command::Piece)
     } else if word == b"answer".as_slice() {
         Some(Command::Answer)
+    } else {
+        None
+    }
+}
+
+// What stands beside the events.
+fn further(word: &[u8]) -> Option<Command>
+    ensures { result ≡ further_of word.now }
+{
+    if word == b"forceStatus".as_slice() {
+        Some(Command::ForceStatus)
+    } else if word == b"peer".as_slice() {
+        Some(Command::Peer)
+    } else if word == b"rehearse".as_slice() {
+        Some(Command::Rehearse)
     } else {
         None
     }

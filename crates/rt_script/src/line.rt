@@ -1,15 +1,18 @@
 ghost use Rattle.std.specs.Prelude.{◌≡◌, IfOk, IfSome, option_map};
 ghost use Rattle.rt_schema.specs.Schema.{IsSchema};
-ghost use Rattle.rt_script.specs.BrokerLines.{text_of};
-ghost use Rattle.rt_script.specs.Line.{FitsLine, ask_line, line_of, plain_of, query_line};
+ghost use Rattle.rt_script.specs.Line.{FitsLine, ask_line, hybrid_line, latest_line, line_by, line_of, plain_of, query_line};
+ghost use Rattle.rt_script.specs.QueryTexts.{text_of};
 
-use crate::broker_lines::{QueryText, answer, piece, query_text, route};
+use crate::broker_lines::{answer, piece, route};
 use crate::command::Command;
+use crate::further_lines::{bare, force_status, offline, peer, rehearse};
 use crate::macro_lines::{exchange, fill, settle};
 use crate::message_lines::{deliver, job_line, reply};
 use crate::node_lines::{crash, repair, restart, retain, see};
 use crate::outside_lines::{fault, lead, produce, show, tick};
+use crate::query_text::query_text;
 use crate::replica_lines::{build, consume, download, extend, force, report, stop, transit};
+use crate::{Further, QueryText};
 use rt_base::{ControllerId, Instance, Partition, Sequence};
 use rt_events::Event;
 use rt_lines::part_at;
@@ -27,6 +30,8 @@ pub enum Line {
     Macro(Macro),
     /// It asks for a query by a text that is none, which is refused by this number.
     NoQuery(u32),
+    /// It stands beside the events.
+    Further(Further),
 }
 
 /// A line that stands for several events, by the worlds that they go through.
@@ -65,9 +70,24 @@ pub fn read_line(
     ensures line { IfOk result (λ said. said ≡ line_of schema.now table.now line.now) }
     ensures fits { IfOk result (λ said. IfSome said (FitsLine schema.now)) }
 {
-    let Some((word, text)) = part_at(line, b' ') else {
-        return Ok(None);
-    };
+    match part_at(line, b' ') {
+        Some((word, text)) => read_words(alloc, schema, table, word, text),
+        None => Ok(bare(line).map(Line::Further)),
+    }
+}
+
+// What a line says by its first word and what follows the space behind it.
+fn read_words(
+    alloc: Global,
+    schema: &Schema,
+    table: &Text,
+    word: &[u8],
+    text: &[u8],
+) -> Result<Option<Line>, AllocError>
+    requires { IsSchema schema.now }
+    ensures line { IfOk result (λ said. said ≡ line_by schema.now table.now word.now text.now) }
+    ensures fits { IfOk result (λ said. IfSome said (FitsLine schema.now)) }
+{
     if word == b"produce".as_slice() {
         return Ok(produce(alloc, text)?.map(Line::Event));
     }
@@ -76,6 +96,15 @@ pub fn read_line(
     }
     if word == b"query".as_slice() {
         return query(alloc, schema, table, text);
+    }
+    if word == b"latest".as_slice() {
+        return latest(alloc, schema, table, text);
+    }
+    if word == b"hybrid".as_slice() {
+        return hybrid(alloc, schema, table, text);
+    }
+    if word == b"offline".as_slice() {
+        return Ok(offline(alloc, text)?.map(Line::Further));
     }
     match Command::of(word) {
         Some(command) => Ok(plain(command, text)),
@@ -119,6 +148,40 @@ fn query(
     }
 }
 
+// What is asked of the latest row of each key.
+fn latest(
+    alloc: Global,
+    schema: &Schema,
+    table: &Text,
+    text: &[u8],
+) -> Result<Option<Line>, AllocError>
+    requires { IsSchema schema.now }
+    ensures line { IfOk result (λ line. line ≡ option_map latest_line (text_of schema.now table.now text.now)) }
+    ensures fits { IfOk result (λ line. IfSome line (FitsLine schema.now)) }
+{
+    match query_text(alloc, schema, table, text)? {
+        Some(asked) => Ok(Some(Line::Further(Further::Latest { asked }))),
+        None => Ok(None),
+    }
+}
+
+// What is asked of offline and realtime rows.
+fn hybrid(
+    alloc: Global,
+    schema: &Schema,
+    table: &Text,
+    text: &[u8],
+) -> Result<Option<Line>, AllocError>
+    requires { IsSchema schema.now }
+    ensures line { IfOk result (λ line. line ≡ option_map hybrid_line (text_of schema.now table.now text.now)) }
+    ensures fits { IfOk result (λ line. IfSome line (FitsLine schema.now)) }
+{
+    match query_text(alloc, schema, table, text)? {
+        Some(asked) => Ok(Some(Line::Further(Further::Hybrid { asked }))),
+        None => Ok(None),
+    }
+}
+
 // What a line says whose words have a grammar of their own.
 fn plain(command: Command, text: &[u8]) -> Option<Line>
     ensures { result ≡ plain_of command text.now }
@@ -150,5 +213,8 @@ fn plain(command: Command, text: &[u8]) -> Option<Line>
         Command::Fill => fill(text).map(Line::Macro),
         Command::Exchange => exchange(text).map(Line::Macro),
         Command::Settle => settle(text).map(Line::Macro),
+        Command::ForceStatus => force_status(text).map(Line::Further),
+        Command::Peer => peer(text).map(Line::Further),
+        Command::Rehearse => rehearse(text).map(Line::Further),
     }
 }

@@ -2,6 +2,7 @@ ghost use Rattle.std.specs.Prelude.{◌≡◌, Some, None, IfSome, IfNone};
 ghost use Rattle.rt_script.specs.Words.{
   behind_letter,
   controller_of,
+  force_job_of,
   index_of,
   instance_of,
   job_of,
@@ -104,6 +105,14 @@ pub(crate) fn job(word: &[u8]) -> Option<u64>
     ensures { result ≡ job_of word.now }
 {
     let number = behind(b'j', word)?;
+    number_up_to(u64::MAX, number)
+}
+
+/// `fN`
+pub(crate) fn force_job(word: &[u8]) -> Option<u64>
+    ensures { result ≡ force_job_of word.now }
+{
+    let number = behind(b'f', word)?;
     number_up_to(u64::MAX, number)
 }
 

@@ -1,18 +1,22 @@
 use Rattle.std.proofs.Common.{◌≡◌, ℕ, ◌+◌, ◌^◌, ◌<◌, ◌++◌, false, List, length}
 use Rattle.std.specs.List.{concat}
 use Rattle.rt_lines.specs.Header.{NumberedLine}
-use Rattle.rt_play.specs.Plays.{Puts}
+use Rattle.rt_play.specs.Going.{IsDesk}
+use Rattle.rt_play.specs.Plays.{Puts, going}
 use Rattle.rt_play.specs.Report.{RunAll}
 use Rattle.rt_play.proofs.running.play_lines.Given as goal
+use Rattle.rt_world.specs.IsSafeWorld.{IsSafeWorld}
 
 abbrev pub invariant-loop-number : goal.invariant-loop-number
 invariant-loop-number g l = record {
   unspent : l.world.spent ≡ false;
+  safe : IsSafeWorld l.world.state;
+  desk : IsDesk l.world.state.setup.schema l.desk;
   written : List (List ℕ);
   done : List NumberedLine;
   puts : Puts (g.K.Sink.meaning l.initial.sink) (g.K.Sink.meaning l.sink) (concat written);
   whole : l.initial.lines.lines ≡ done ++ l.lines.lines;
-  run : RunAll done l.initial.world.state l.world.state written;
+  run : RunAll done (going l.initial.world l.initial.desk) (going l.world l.desk) written;
   count : l.count ≡ length written;
   few : l.count + length l.lines.lines < 2 ^ 64;
 }

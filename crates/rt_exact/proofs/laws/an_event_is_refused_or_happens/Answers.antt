@@ -1,0 +1,8 @@
+use Rattle.rt_exact.proofs.Refusals.{kept_never, refused_never}
+use Rattle.rt_exact.proofs.laws.an_event_is_refused_or_happens.Goals as goal
+
+pub returns-clause-never : goal.returns-clause-never
+returns-clause-never c = refused_never
+
+pub returns-clause-calls : goal.returns-clause-calls
+returns-clause-calls c = kept_never

@@ -1,0 +1,16 @@
+pub mod Lists
+pub mod ObjectRows
+pub mod Arrays
+pub mod Columns
+pub mod ValueKinds
+pub mod FileRows
+pub mod ConsumedRows
+pub mod Pushed
+pub mod OneSide
+pub mod Greatest
+pub mod Merged
+pub mod TimedRows
+pub mod Gaining
+pub mod Places
+pub mod Starting
+pub mod Offline

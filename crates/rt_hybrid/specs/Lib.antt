@@ -1,0 +1,11 @@
+pub mod Cells
+pub mod Batch
+pub mod Files
+pub mod Sealing
+pub mod Adding
+pub mod Table
+pub mod Reads
+pub mod Pushes
+pub mod Sides
+pub mod Timed
+pub mod Refused

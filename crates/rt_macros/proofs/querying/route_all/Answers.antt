@@ -1,0 +1,14 @@
+use Rattle.std.proofs.Common.{◌+◌, ◌-◌, arith}
+use Rattle.rt_macros.proofs.Doing.{count_goes_on, count_stops}
+use Rattle.rt_macros.specs.Querying.{RoutesAll, RoutesOne}
+use Rattle.rt_macros.proofs.querying.route_all.Goals as goal
+
+pub loop-at-preserved : goal.loop-at-preserved
+loop-at-preserved c = record {
+  unspent = c.in-Ok.ensures.0;
+  within = omega (arith, c.loop-at-test.true);
+  same = count_goes_on (RoutesOne c.args.number) c.loop-at.at (c.setup.result.now.partitions - c.loop-at.at) (c.setup.result.now.partitions - (c.loop-at.at + 1)) tt tt c.loop-at.world.state c.happen.new.world (RoutesAll c.args.number c.args.world.now.state) c.loop-at.invariant.same (omega (arith, c.loop-at-test.true)) c.in-Ok.ensures;
+}
+
+pub returns-in-Err : goal.returns-in-Err
+returns-in-Err c = count_stops (RoutesOne c.args.number) c.loop-at.at (c.setup.result.now.partitions - c.loop-at.at) (c.setup.result.now.partitions - (c.loop-at.at + 1)) tt c.loop-at.world.state c.happen.new.world c.in-Err.refusal (RoutesAll c.args.number c.args.world.now.state) c.loop-at.invariant.same (omega (arith, c.loop-at-test.true)) c.in-Err.ensures

@@ -1,0 +1,15 @@
+use Rattle.std.proofs.Common.{◌≡◌, ◌-◌, ◌≤◌, false}
+use Rattle.rt_macros.specs.Doing.{EachFrom}
+use Rattle.rt_macros.proofs.Doing.{Leads}
+use Rattle.rt_macros.specs.Settling.{ServersTurn, ServerTurn}
+use Rattle.rt_macros.proofs.settling.serve_all.Given as goal
+
+abbrev pub invariant-loop-at : goal.invariant-loop-at
+invariant-loop-at l = record {
+  unspent : l.world.spent ≡ false;
+  within : l.at ≤ l.servers;
+  same : Leads (EachFrom (ServerTurn) l.at (l.servers - l.at) l.busy l.world.state) (ServersTurn false l.initial.world.state);
+}
+
+abbrev pub decreases-loop-at : goal.decreases-loop-at
+decreases-loop-at l = l.servers - l.at

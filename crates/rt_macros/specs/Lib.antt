@@ -1,0 +1,6 @@
+pub mod Doing
+pub mod Exchanging
+pub mod Filling
+pub mod Outcomes
+pub mod Querying
+pub mod Settling
