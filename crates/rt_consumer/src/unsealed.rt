@@ -15,7 +15,7 @@ use rt_base::limits::MOST_ROWS;
 use rt_base::{Moment, Offset};
 use rt_model::Reason;
 use rt_mutable::MutableSegment;
-use rt_schema::{Schema, read_row};
+use rt_schema::{RowReader, Schema};
 use rt_stream::Message;
 use std::alloc::{AllocError, Global};
 use std::mem;
@@ -176,8 +176,9 @@ fn fill(
         return Ok(());
     }
     let before = rows.end();
+    let mut reader = RowReader::new(alloc);
     for message in messages {
-        match add(alloc, settings, rows, message) {
+        match add(alloc, settings, &mut reader, rows, message) {
             Ok(()) => {}
             Err(refused) => {
                 rows.take_back(before);
@@ -196,6 +197,7 @@ fn fill(
 fn add(
     alloc: Global,
     settings: &Settings,
+    reader: &mut RowReader,
     rows: &mut MutableSegment,
     message: &Message,
 ) -> Result<(), AllocError>
@@ -209,7 +211,7 @@ fn add(
         // No memory holds as many messages.
         return Err(AllocError);
     }
-    match read_row(alloc, &settings.schema, message.as_slice())? {
+    match reader.read(alloc, &settings.schema, message.as_slice())? {
         Some(row) => rows.index(alloc, Some(&row)),
         None => rows.index(alloc, None),
     }

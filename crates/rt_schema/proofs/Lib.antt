@@ -1,6 +1,7 @@
 pub mod Decoding
 pub mod Digits
 pub mod Fields
+pub mod Flat
 pub mod JsonTexts
 pub mod Lists
 pub mod Members

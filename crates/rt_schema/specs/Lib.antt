@@ -1,4 +1,5 @@
 pub mod Field
+pub mod Flat
 pub mod Json
 pub mod Refused
 pub mod Row

@@ -1,0 +1,16 @@
+use Rattle.std.proofs.Common.{◌≡◌, Option, Some, IfSome, option_and_then, subst}
+use Rattle.serde_json.specs.Read.{read}
+use Rattle.rt_schema.specs.Row.{row_in}
+use Rattle.rt_schema.specs.declared.row.Row.{Row}
+use Rattle.rt_schema.proofs.Decoding.{no_row, row_of_flat}
+use Rattle.rt_schema.proofs.row_reader.read_message.Goals as goal
+
+pub returns-in_default : goal.returns-in_default
+returns-in_default c = no_row c.args.schema.now c.args.message.now (λ utf8. absurd (c.in_default.ensures.cases.0 utf8))
+
+pub returns-in-Some : goal.returns-in-Some
+returns-in-Some c =
+    let columns = c.as_slice-columns.result.now in
+    let text = c.in-Ok.text.now in
+    let found = subst (λ (o : Option Row). IfSome o (λ row. option_and_then (row_in columns) (read text) ≡ Some row)) c.in-Some.is (c.in_ok-row.ensures {u = tt}) in
+    row_of_flat c.args.schema.now columns text c.args.message.now c.in-Some.row c.as_slice-columns.ensures c.in-Ok.ensures.cases.0 c.in-Ok.ensures.cases.1 found
