@@ -27,7 +27,7 @@ use Rattle.rt_peer.specs.Fetching.{After, AsksDeep, AsksPeer, AsksPeers, Fetches
 use Rattle.rt_peer.specs.Files.{Comes, file_in, header_by}
 use Rattle.rt_peer.specs.Meaning.{Meaning}
 use Rattle.rt_world.specs.Reading.{copy_in}
-use Rattle.rt_world.specs.declared.state.State.{State}
+use Rattle.rt_state.specs.declared.state.State.{State}
 use Rattle.rt_dryrun.specs.declared.peer_file.PeerFile.{PeerFile}
 use Rattle.rt_dryrun.specs.Peers.{ServerCopy, file_among, file_by, file_of_copy, first_of, got_from, named_by, peer_meaning, placed_at, server_copy}
 

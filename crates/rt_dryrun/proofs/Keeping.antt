@@ -18,9 +18,9 @@ use Rattle.rt_rebalance.specs.Target.{IsTarget}
 use Rattle.rt_rebalance.proofs.Placing.{is_target}
 use Rattle.rt_rebalance.proofs.Plans.{plans_are}
 use Rattle.rt_rebalance.proofs.Rehearsals.{enough_available}
-use Rattle.rt_world.specs.IsSafeWorld.{IsSafeWorld}
+use Rattle.rt_state.specs.IsSafeWorld.{IsSafeWorld}
 use Rattle.rt_world.specs.Reading.{ideal_by, ideal_in, ideal_seen}
-use Rattle.rt_world.specs.declared.state.State.{State}
+use Rattle.rt_state.specs.declared.state.State.{State}
 use Rattle.rt_dryrun.specs.Rehearsing.{entries_now, goal_of, is_fit, plan_in}
 
 -- the entries of a world's ideal state ascend

@@ -2,7 +2,7 @@
 use Rattle.std.proofs.Common.{◌≡◌, ℕ, ◌+◌, Bool, true, false, cond, List, [], ◌∷◌, ◌++◌, add-one, sym, ap, ◌∙◌}
 use Rattle.std.proofs.lemmas.List.{append-nil}
 use Rattle.rt_base.specs.declared.numbers.Instance.{Instance}
-use Rattle.rt_world.specs.declared.state.State.{State}
+use Rattle.rt_state.specs.declared.state.State.{State}
 use Rattle.rt_dryrun.specs.Peers.{is_other, numbered, others_below}
 
 abbrev with_one : State → Instance → ℕ → Bool → List Instance

@@ -9,7 +9,7 @@ use Rattle.rt_rebalance.specs.Target.{target_of}
 use Rattle.rt_rebalance.specs.declared.rebalance_refused.RebalanceRefused.{RebalanceRefused}
 use Rattle.rt_rebalance.specs.declared.rebalance_refused.RebalanceRefused.TheVariants as refused
 use Rattle.rt_world.specs.Reading.{ideal_in}
-use Rattle.rt_world.specs.declared.state.State.{State}
+use Rattle.rt_state.specs.declared.state.State.{State}
 use Rattle.rt_dryrun.specs.Rehearsing.{Going, PlansBy, entries_now, goal_of, going_on, moves_of, plan_in, planned_as, started}
 use Rattle.rt_dryrun.specs.declared.planned.Planned.TheVariants as told
 

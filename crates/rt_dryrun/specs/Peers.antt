@@ -15,10 +15,10 @@ use Rattle.rt_segment.specs.Segment.{SealedSegment}
 use Rattle.rt_peer.specs.Files.{file_in, header_by}
 use Rattle.rt_peer.specs.Meaning.{Meaning}
 use Rattle.rt_peer.specs.declared.got.Got.{Got}
-use Rattle.rt_world.specs.Finding.{has_partition, is_server_up}
+use Rattle.rt_state.specs.Finding.{has_partition, is_server_up}
 use Rattle.rt_world.specs.Reading.{copy_in}
-use Rattle.rt_world.specs.Room.{only_if}
-use Rattle.rt_world.specs.declared.state.State.{State}
+use Rattle.rt_state.specs.Room.{only_if}
+use Rattle.rt_state.specs.declared.state.State.{State}
 use Rattle.rt_dryrun.specs.declared.peer_file.PeerFile.{PeerFile}
 
 -- ---- a server as a peer

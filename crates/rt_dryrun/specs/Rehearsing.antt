@@ -15,10 +15,10 @@ use Rattle.rt_rebalance.specs.Refused.{number_of}
 use Rattle.rt_rebalance.specs.Rehearsed.{Rehearsed, entries_in, is_online_at, loaded, start_of, step}
 use Rattle.rt_rebalance.specs.Target.{target_of}
 use Rattle.rt_rebalance.specs.declared.rebalance_refused.RebalanceRefused.{RebalanceRefused}
-use Rattle.rt_world.specs.Finding.{has_partition}
+use Rattle.rt_state.specs.Finding.{has_partition}
 use Rattle.rt_world.specs.Reading.{ideal_in}
-use Rattle.rt_world.specs.Room.{only_if}
-use Rattle.rt_world.specs.declared.state.State.{State}
+use Rattle.rt_state.specs.Room.{only_if}
+use Rattle.rt_state.specs.declared.state.State.{State}
 use Rattle.rt_dryrun.specs.declared.planned.Planned.{Planned}
 use Rattle.rt_dryrun.specs.declared.planned.Planned.TheVariants as told
 use Rattle.rt_dryrun.specs.declared.stepped.Stepped.{Stepped}

@@ -3,8 +3,8 @@ ghost use Rattle.std.specs.Prelude.{◌≡◌, ℕ, List, true, Ok};
 ghost use Rattle.rt_model.specs.declared.ideal_state.IdealState.{IdealState};
 ghost use Rattle.rt_rebalance.specs.Plan.{IsRebalancePlan};
 ghost use Rattle.rt_rebalance.specs.Rehearsed.{Call, IsAvailable, after, start_of};
-ghost use Rattle.rt_world.specs.IsSafeWorld.{IsSafeWorld};
-ghost use Rattle.rt_world.specs.declared.state.State.{State};
+ghost use Rattle.rt_state.specs.IsSafeWorld.{IsSafeWorld};
+ghost use Rattle.rt_state.specs.declared.state.State.{State};
 ghost use Rattle.rt_dryrun.specs.Rehearsing.{entries_now, goal_of, is_fit, plan_in};
 
 /// What is planned from the ideal state of a world that is safe is a rebalance plan; and however it is rehearsed, each

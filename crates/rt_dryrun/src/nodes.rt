@@ -1,7 +1,7 @@
 //! Which nodes of a world a line names.
 ghost use Rattle.std.specs.Prelude.{◌≡◌, ◌≤◌, IfOk, option_map, length};
 ghost use Rattle.rt_dryrun.specs.Peers.{has_server, is_other, meta_in, others_of};
-ghost use Rattle.rt_world.specs.Finding.{has_partition};
+ghost use Rattle.rt_state.specs.Finding.{has_partition};
 
 use rt_base::{Instance, NodeId, Partition, Sequence};
 use rt_model::{Listed, SegMeta};

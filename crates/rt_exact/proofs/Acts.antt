@@ -6,9 +6,9 @@ use Rattle.rt_events.specs.declared.outcome.Outcome.{Outcome}
 use Rattle.rt_events.specs.declared.refusal.Refusal.{Refusal}
 use Rattle.rt_events.specs.declared.refusal.Refusal.TheVariants.{NoSuchMessage, NoSuchNode, NodeDown, NothingToDo, Limit, Memory}
 use Rattle.rt_macros.specs.Doing.{Attempted, AttemptedBy, Choose, Each, EachFrom, Further, Gives, Happens, HappensBy, Passed, PassesBy, PassesOver, Refuses, Then}
-use Rattle.rt_world.specs.Clock.{Passes, pass_due}
-use Rattle.rt_world.specs.Room.{Found, counted, dropped}
-use Rattle.rt_world.specs.declared.state.State.{State}
+use Rattle.rt_state.specs.Clock.{Passes, pass_due}
+use Rattle.rt_state.specs.Room.{Found, counted, dropped}
+use Rattle.rt_state.specs.declared.state.State.{State}
 use Rattle.rt_safety.proofs.Runs.{leads_safe}
 use Rattle.rt_safety.specs.Runs.{passes}
 use Rattle.rt_exact.specs.Acts.{AreOne}

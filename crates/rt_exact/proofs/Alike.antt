@@ -7,7 +7,7 @@ use Rattle.rt_events.specs.declared.refusal.Refusal.{Refusal}
 use Rattle.rt_events.specs.declared.refusal.Refusal.TheVariants.{Memory}
 use Rattle.rt_model.specs.declared.setup.Setup.{Setup}
 use Rattle.rt_world.specs.Step.{Steps}
-use Rattle.rt_world.specs.declared.state.State.{State}
+use Rattle.rt_state.specs.declared.state.State.{State}
 use Rattle.rt_world.proofs.Few.{refused}
 use Rattle.rt_world.proofs.SafeSteps.{steps_keep}
 use Rattle.rt_exact.specs.Alike.{AreAlike}

@@ -10,14 +10,14 @@ use Rattle.rt_events.specs.declared.outcome.Outcome.TheVariants as told
 use Rattle.rt_model.specs.Aggregate.{result_rows}
 use Rattle.rt_model.specs.RightAnswer.{missing_of, named_ranges}
 use Rattle.rt_model.specs.declared.answer.Answer.{Answer}
-use Rattle.rt_world.specs.Applying.{Next}
-use Rattle.rt_world.specs.Finding.{query_at, query_in}
-use Rattle.rt_world.specs.IsSafe.{IsQueryAt, past_of}
-use Rattle.rt_world.specs.IsSafeWorld.{IsSafeWorld}
-use Rattle.rt_world.specs.Queries.{Answers, AnswersAt, IsAnswerOf, closed}
-use Rattle.rt_world.specs.Room.{counted, with_query_closed}
-use Rattle.rt_world.specs.declared.cost.Cost.{Cost}
-use Rattle.rt_world.specs.declared.state.State.{State}
+use Rattle.rt_state.specs.Applying.{Next}
+use Rattle.rt_state.specs.Finding.{query_at, query_in}
+use Rattle.rt_state.specs.IsSafe.{IsQueryAt, past_of}
+use Rattle.rt_state.specs.IsSafeWorld.{IsSafeWorld}
+use Rattle.rt_state.specs.Queries.{Answers, AnswersAt, IsAnswerOf, closed}
+use Rattle.rt_state.specs.Room.{counted, with_query_closed}
+use Rattle.rt_state.specs.declared.cost.Cost.{Cost}
+use Rattle.rt_state.specs.declared.state.State.{State}
 use Rattle.rt_exact.specs.Alike.{AreAlike}
 use Rattle.rt_exact.specs.Answered.{answer_by, answer_of, answer_to}
 use Rattle.rt_exact.specs.Rows.{HoldTheSame}

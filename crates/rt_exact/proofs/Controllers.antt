@@ -15,13 +15,13 @@ use Rattle.rt_repair.specs.RepairSteps as of_repair
 use Rattle.rt_repair.specs.RetireSteps as of_retire
 use Rattle.rt_repair.specs.Retirement.{Retirement}
 use Rattle.rt_repair.proofs.Telling.{told_repair, told_retire}
-use Rattle.rt_world.specs.Finding.{request_at}
-use Rattle.rt_world.specs.Jobs.{JobSteps, JobStepsAt, noted_set, stepped}
-use Rattle.rt_world.specs.Messages.{Delivers, DeliversAt, after_step, handed}
-use Rattle.rt_world.specs.Repairs.{Repairs, RepairsAt, Retires, RetiresAt, after_upkeep, begun, going_on, retiring, retiring_on, upkeep_at}
-use Rattle.rt_world.specs.declared.controller_node.ControllerNode.{ControllerNode}
-use Rattle.rt_world.specs.declared.state.State.{State}
-use Rattle.rt_world.specs.declared.upkeep.Upkeep.{Upkeep}
+use Rattle.rt_state.specs.Finding.{request_at}
+use Rattle.rt_state.specs.Jobs.{JobSteps, JobStepsAt, noted_set, stepped}
+use Rattle.rt_state.specs.Messages.{Delivers, DeliversAt, after_step, handed}
+use Rattle.rt_state.specs.Repairs.{Repairs, RepairsAt, Retires, RetiresAt, after_upkeep, begun, going_on, retiring, retiring_on, upkeep_at}
+use Rattle.rt_nodes.specs.declared.controller_node.ControllerNode.{ControllerNode}
+use Rattle.rt_state.specs.declared.state.State.{State}
+use Rattle.rt_nodes.specs.declared.upkeep.Upkeep.{Upkeep}
 use Rattle.rt_exact.proofs.Ones.{IsOne}
 
 -- ---- a request

@@ -8,11 +8,11 @@ use Rattle.rt_broker.specs.Asking.{Asking}
 use Rattle.rt_events.specs.declared.event.Event.{Event}
 use Rattle.rt_events.specs.declared.event.Event.TheVariants as event
 use Rattle.rt_events.specs.declared.refusal.Refusal.TheVariants.{NoSuchNode, NothingToDo}
-use Rattle.rt_world.specs.Finding.{has_partition, has_server, query_at, query_in}
-use Rattle.rt_world.specs.Queries.{answer_by, answer_due, piece_by, piece_due, route_by, route_due}
-use Rattle.rt_world.specs.Room.{dropped, no_cost, only_if, priced}
+use Rattle.rt_state.specs.Finding.{has_partition, has_server, query_at, query_in}
+use Rattle.rt_state.specs.Queries.{answer_by, answer_due, piece_by, piece_due, route_by, route_due}
+use Rattle.rt_state.specs.Room.{dropped, no_cost, only_if, priced}
 use Rattle.rt_world.specs.Step.{due_of}
-use Rattle.rt_world.specs.declared.state.State.{State}
+use Rattle.rt_state.specs.declared.state.State.{State}
 use Rattle.rt_exact.specs.Shown.{query_shown, shown}
 use Rattle.rt_exact.proofs.Queries.{answer_due_shown, piece_due_shown, tried_shown}
 

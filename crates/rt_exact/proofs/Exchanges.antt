@@ -19,9 +19,9 @@ use Rattle.rt_macros.specs.declared.outcomes.Delivered.{Delivered}
 use Rattle.rt_macros.specs.declared.outcomes.Delivered.TheVariants as delivered
 use Rattle.rt_macros.specs.declared.outcomes.Replied.{Replied}
 use Rattle.rt_world.specs.Reading.{events_left_in, up_in}
-use Rattle.rt_world.specs.Room.{Found}
+use Rattle.rt_state.specs.Room.{Found}
 use Rattle.rt_world.specs.Step.{due_of}
-use Rattle.rt_world.specs.declared.state.State.{State}
+use Rattle.rt_state.specs.declared.state.State.{State}
 use Rattle.rt_exact.specs.Acts.{AreOne}
 use Rattle.rt_exact.specs.Alike.{AreAlike}
 use Rattle.rt_exact.proofs.Acts.{Act, gives_one, happens_one, refuses_one, then_one}

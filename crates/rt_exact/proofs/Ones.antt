@@ -10,14 +10,14 @@ use Rattle.rt_events.specs.declared.refusal.Refusal.{Refusal}
 use Rattle.rt_model.specs.declared.request.Request.{Request}
 use Rattle.rt_store.specs.Meaning.{Told}
 use Rattle.rt_stream.specs.Log.{Log}
-use Rattle.rt_world.specs.Applying.{Next, comes, Applies}
-use Rattle.rt_world.specs.Nodes.{ControllerDoes, ControllerDoesAt, ServerCalls, ServerCallsAt, ServerDoes, ServerDoesAt, ServerFetches, ServerFetchesAt, ServerGets, ServerGetsAt, ServerStep, with_server}
-use Rattle.rt_world.specs.Requests.{AskStep, SendsAt, SendsRequest, sends}
-use Rattle.rt_world.specs.Room.{Due, counted}
-use Rattle.rt_world.specs.declared.controller_node.ControllerNode.{ControllerNode}
-use Rattle.rt_world.specs.declared.cost.Cost.{Cost}
-use Rattle.rt_world.specs.declared.server_node.ServerNode.{ServerNode}
-use Rattle.rt_world.specs.declared.state.State.{State}
+use Rattle.rt_state.specs.Applying.{Next, comes, Applies}
+use Rattle.rt_state.specs.Nodes.{ControllerDoes, ControllerDoesAt, ServerCalls, ServerCallsAt, ServerDoes, ServerDoesAt, ServerFetches, ServerFetchesAt, ServerGets, ServerGetsAt, ServerStep, with_server}
+use Rattle.rt_state.specs.Requests.{AskStep, SendsAt, SendsRequest, sends}
+use Rattle.rt_state.specs.Room.{Due, counted}
+use Rattle.rt_nodes.specs.declared.controller_node.ControllerNode.{ControllerNode}
+use Rattle.rt_state.specs.declared.cost.Cost.{Cost}
+use Rattle.rt_nodes.specs.declared.server_node.ServerNode.{ServerNode}
+use Rattle.rt_state.specs.declared.state.State.{State}
 
 -- ---- an event
 

@@ -14,13 +14,13 @@ use Rattle.rt_entry.specs.declared.served_rows.ServedRows.{ServedRows}
 use Rattle.rt_model.specs.declared.piece.Piece.{Piece}
 use Rattle.rt_model.specs.declared.query.Query.{Query}
 use Rattle.rt_server.specs.Serving.{serve}
-use Rattle.rt_world.specs.Applying.{Next}
-use Rattle.rt_world.specs.Finding.{query_at}
-use Rattle.rt_world.specs.Queries.{Gives, GivesIf, GivesUp, Pieces, PiecesAt, PiecesOf, piece_outcome, with_query}
-use Rattle.rt_world.specs.Room.{counted}
-use Rattle.rt_world.specs.declared.cost.Cost.{Cost}
-use Rattle.rt_world.specs.declared.server_node.ServerNode.{ServerNode}
-use Rattle.rt_world.specs.declared.state.State.{State}
+use Rattle.rt_state.specs.Applying.{Next}
+use Rattle.rt_state.specs.Finding.{query_at}
+use Rattle.rt_state.specs.Queries.{Gives, GivesIf, GivesUp, Pieces, PiecesAt, PiecesOf, piece_outcome, with_query}
+use Rattle.rt_state.specs.Room.{counted}
+use Rattle.rt_state.specs.declared.cost.Cost.{Cost}
+use Rattle.rt_nodes.specs.declared.server_node.ServerNode.{ServerNode}
+use Rattle.rt_state.specs.declared.state.State.{State}
 use Rattle.rt_exact.specs.Shown.{asking_shown, got_shown, no_groups, query_shown, shown}
 use Rattle.rt_exact.proofs.Dues.{query_at_shown}
 use Rattle.rt_exact.proofs.Ones.{IsOne}

@@ -3,9 +3,9 @@ use Rattle.std.proofs.Common.{◌≡◌, ℕ, zero, suc, List, [], ◌∷◌, ma
 use Rattle.std.proofs.lemmas.Option.{none-some}
 use Rattle.rt_base.specs.declared.numbers.Partition.{Partition}
 use Rattle.rt_broker.specs.Asking.{Asking}
-use Rattle.rt_world.specs.Finding.{query_at, query_in}
+use Rattle.rt_state.specs.Finding.{query_at, query_in}
 use Rattle.rt_world.specs.Reading.{copy_in, due_transits_of, end_in, events_left_in, held_in, ideal_in, is_ready_at, leader_in, length_of, pieces_by, pieces_of, replicas_seen, rows_of_node, stage_at, up_in, wanted_in}
-use Rattle.rt_world.specs.declared.state.State.{State}
+use Rattle.rt_state.specs.declared.state.State.{State}
 use Rattle.rt_exact.specs.Reads.{ReadAlike}
 use Rattle.rt_exact.specs.Shown.{asking_shown, query_shown, shown}
 use Rattle.rt_exact.proofs.Dues.{query_at_shown}

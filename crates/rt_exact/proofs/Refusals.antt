@@ -6,10 +6,10 @@ use Rattle.rt_events.specs.declared.outcome.Outcome.{Outcome}
 use Rattle.rt_events.specs.declared.refusal.Refusal.{Refusal}
 use Rattle.rt_events.specs.declared.refusal.Refusal.TheVariants.{NoSuchMessage, NoSuchNode, NodeDown, NothingToDo, Limit, Memory}
 use Rattle.rt_world.specs.Kept.{Kept}
-use Rattle.rt_world.specs.Room.{Due, Found, dropped}
+use Rattle.rt_state.specs.Room.{Due, Found, dropped}
 use Rattle.rt_world.specs.Step.{Steps, StepsKept, due_of}
-use Rattle.rt_world.specs.declared.cost.Cost.{Cost}
-use Rattle.rt_world.specs.declared.state.State.{State}
+use Rattle.rt_state.specs.declared.cost.Cost.{Cost}
+use Rattle.rt_state.specs.declared.state.State.{State}
 
 abbrev found : Found
 found = Ok tt

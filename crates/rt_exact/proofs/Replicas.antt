@@ -26,9 +26,9 @@ use Rattle.rt_server.specs.Calls.{InTable, Through, ThroughAt}
 use Rattle.rt_server.specs.Table.{Segments, ServerState, put_back, replica_of}
 use Rattle.rt_stream.specs.Feed.{log_meaning}
 use Rattle.rt_stream.specs.Log.{Log}
-use Rattle.rt_world.specs.Replicas.{NodeBuilds, NodeConsumes, NodeForces, NodeStops, built_in, consumed_in, standing_in}
-use Rattle.rt_world.specs.Requests.{NodeAsks, NodeAsksFor}
-use Rattle.rt_world.specs.declared.server_node.ServerNode.{ServerNode}
+use Rattle.rt_state.specs.Replicas.{NodeBuilds, NodeConsumes, NodeForces, NodeStops, built_in, consumed_in, standing_in}
+use Rattle.rt_state.specs.Requests.{NodeAsks, NodeAsksFor}
+use Rattle.rt_nodes.specs.declared.server_node.ServerNode.{ServerNode}
 use Rattle.rt_exact.proofs.Ones.{IsOneAsk, IsOneCall, IsOneStep}
 use Rattle.rt_exact.proofs.Sealed.{one_built}
 

@@ -20,10 +20,10 @@ use Rattle.rt_store.specs.Calls.{Lists, IsExact, answer_on, told_on}
 use Rattle.rt_store.specs.Meaning.{Told}
 use Rattle.rt_store.specs.Memory.{means}
 use Rattle.rt_store.proofs.Seeing.{told_exact}
-use Rattle.rt_world.specs.Finding.{query_at}
-use Rattle.rt_world.specs.Queries.{Routes, RoutesAt, routed_by}
-use Rattle.rt_world.specs.Room.{counted}
-use Rattle.rt_world.specs.declared.state.State.{State}
+use Rattle.rt_state.specs.Finding.{query_at}
+use Rattle.rt_state.specs.Queries.{Routes, RoutesAt, routed_by}
+use Rattle.rt_state.specs.Room.{counted}
+use Rattle.rt_state.specs.declared.state.State.{State}
 use Rattle.rt_exact.specs.Shown.{asking_shown, query_shown, shown}
 use Rattle.rt_exact.proofs.Dues.{query_at_shown}
 use Rattle.rt_exact.proofs.Ones.{IsOne, both}

@@ -4,9 +4,9 @@ use Rattle.std.proofs.lemmas.Option.{none-some, same_Some}
 use Rattle.rt_events.specs.declared.event.Event.{Event}
 use Rattle.rt_model.specs.Setup.{IsSetup}
 use Rattle.rt_model.specs.declared.setup.Setup.{Setup}
-use Rattle.rt_world.specs.Start.{start}
+use Rattle.rt_state.specs.Start.{start}
 use Rattle.rt_world.specs.Step.{Steps}
-use Rattle.rt_world.specs.declared.state.State.{State}
+use Rattle.rt_state.specs.declared.state.State.{State}
 use Rattle.rt_world.proofs.StartSafe.{start_safe}
 use Rattle.rt_safety.specs.Runs.{Turn, happens, passes, TurnsTo, Leads, Runs}
 use Rattle.rt_exact.specs.Alike.{AreAlike}

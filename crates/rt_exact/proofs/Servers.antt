@@ -32,13 +32,13 @@ use Rattle.rt_store.specs.declared.refused.StoreRefused.{StoreRefused}
 use Rattle.rt_store.specs.Answers.{after_call, answer_of, reading}
 use Rattle.rt_store.specs.Meaning.{Told}
 use Rattle.rt_store.specs.Memory.{means}
-use Rattle.rt_world.specs.Lives.{NodeCrashes, NodeRestarts, is_answered, up_in_incarnation}
-use Rattle.rt_world.specs.Finding.{reply_at}
-use Rattle.rt_world.specs.Messages.{Replies, RepliesAt, node_took}
-use Rattle.rt_world.specs.Refused.{outcome_by}
-use Rattle.rt_world.specs.Servers.{NodeLoads, NodeMoves, NodeSees}
-use Rattle.rt_world.specs.declared.server_node.ServerNode.{ServerNode}
-use Rattle.rt_world.specs.declared.state.State.{State}
+use Rattle.rt_state.specs.Lives.{NodeCrashes, NodeRestarts, is_answered, up_in_incarnation}
+use Rattle.rt_state.specs.Finding.{reply_at}
+use Rattle.rt_state.specs.Messages.{Replies, RepliesAt, node_took}
+use Rattle.rt_nodes.specs.Refused.{outcome_by}
+use Rattle.rt_state.specs.Servers.{NodeLoads, NodeMoves, NodeSees}
+use Rattle.rt_nodes.specs.declared.server_node.ServerNode.{ServerNode}
+use Rattle.rt_state.specs.declared.state.State.{State}
 use Rattle.rt_exact.proofs.Ones.{IsOne, IsOneCall, IsOneStep, server_does_one}
 use Rattle.rt_exact.proofs.Replicas.{node_by_table, same_node}
 use Rattle.rt_exact.proofs.Told.{AreOne, HasRoom, deep_left, deep_ones, has_room, told_left, told_ones}

@@ -15,7 +15,7 @@ use Rattle.rt_macros.specs.Settling.{AfterRequest, AfterRound, BuildAndExchange,
 use Rattle.rt_macros.specs.declared.settling.TheConstants.{MOST_ROUNDS}
 use Rattle.rt_report.specs.MacroTexts.{settled_text}
 use Rattle.rt_world.specs.Reading.{due_transits_of, held_in, leader_in, up_in, wanted_in}
-use Rattle.rt_world.specs.declared.state.State.{State}
+use Rattle.rt_state.specs.declared.state.State.{State}
 use Rattle.rt_exact.specs.Acts.{AreOne}
 use Rattle.rt_exact.specs.Alike.{AreAlike}
 use Rattle.rt_exact.proofs.Acts.{Act, attempted_one, choose_one, each_from_one, each_one, gives_one, happens_one, passed_one, refuses_one, then_one}

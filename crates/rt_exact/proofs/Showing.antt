@@ -16,20 +16,20 @@ use Rattle.rt_model.specs.declared.reply.Reply.{Reply}
 use Rattle.rt_model.specs.declared.request.Request.{Request}
 use Rattle.rt_store.specs.Meaning.{Told}
 use Rattle.rt_stream.specs.Log.{Log}
-use Rattle.rt_world.specs.Applying.{Next, comes, Applies}
-use Rattle.rt_world.specs.Finding.{request_at, reply_at}
-use Rattle.rt_world.specs.Jobs.{JobSteps, JobStepsAt, noted_set, stepped_by}
-use Rattle.rt_world.specs.Messages.{Delivers, DeliversAt, Replies, RepliesAt, after_step, handed, node_took}
-use Rattle.rt_world.specs.Nodes.{ControllerDoes, ControllerDoesAt, ServerCalls, ServerCallsAt, ServerDoes, ServerDoesAt, ServerFetches, ServerFetchesAt, ServerGets, ServerGetsAt, ServerStep}
-use Rattle.rt_world.specs.Queries.{asked}
-use Rattle.rt_world.specs.Repairs.{Repairs, RepairsAt, Retires, RetiresAt, upkeep_at}
-use Rattle.rt_world.specs.Requests.{AskStep, SendsAt, SendsRequest}
-use Rattle.rt_world.specs.Room.{Due, counted}
-use Rattle.rt_world.specs.declared.controller_node.ControllerNode.{ControllerNode}
-use Rattle.rt_world.specs.declared.cost.Cost.{Cost}
-use Rattle.rt_world.specs.declared.server_node.ServerNode.{ServerNode}
-use Rattle.rt_world.specs.declared.state.State.{State}
-use Rattle.rt_world.specs.declared.upkeep.Upkeep.{Upkeep}
+use Rattle.rt_state.specs.Applying.{Next, comes, Applies}
+use Rattle.rt_state.specs.Finding.{request_at, reply_at}
+use Rattle.rt_state.specs.Jobs.{JobSteps, JobStepsAt, noted_set, stepped_by}
+use Rattle.rt_state.specs.Messages.{Delivers, DeliversAt, Replies, RepliesAt, after_step, handed, node_took}
+use Rattle.rt_state.specs.Nodes.{ControllerDoes, ControllerDoesAt, ServerCalls, ServerCallsAt, ServerDoes, ServerDoesAt, ServerFetches, ServerFetchesAt, ServerGets, ServerGetsAt, ServerStep}
+use Rattle.rt_state.specs.Queries.{asked}
+use Rattle.rt_state.specs.Repairs.{Repairs, RepairsAt, Retires, RetiresAt, upkeep_at}
+use Rattle.rt_state.specs.Requests.{AskStep, SendsAt, SendsRequest}
+use Rattle.rt_state.specs.Room.{Due, counted}
+use Rattle.rt_nodes.specs.declared.controller_node.ControllerNode.{ControllerNode}
+use Rattle.rt_state.specs.declared.cost.Cost.{Cost}
+use Rattle.rt_nodes.specs.declared.server_node.ServerNode.{ServerNode}
+use Rattle.rt_state.specs.declared.state.State.{State}
+use Rattle.rt_nodes.specs.declared.upkeep.Upkeep.{Upkeep}
 use Rattle.rt_exact.specs.Shown.{query_shown, shown}
 use Rattle.rt_exact.proofs.Queries.{asking_is_shown}
 

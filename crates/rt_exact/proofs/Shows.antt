@@ -4,20 +4,20 @@ use Rattle.rt_events.specs.declared.event.Event.{Event}
 use Rattle.rt_events.specs.declared.event.Event.TheVariants as event
 use Rattle.rt_events.specs.declared.outcome.Outcome.{Outcome}
 use Rattle.rt_events.specs.declared.outcome.Outcome.TheVariants as told
-use Rattle.rt_world.specs.Applying.{comes, Applies}
-use Rattle.rt_world.specs.Clock.{tick_due, ticked, lead_due, Believes, node_believing, fault_due, store_faulted, deep_faulted}
-use Rattle.rt_world.specs.Jobs.{job_due, JobSteps}
-use Rattle.rt_world.specs.Lives.{crash_server_due, ServerCrashes, NodeCrashes, crash_controller_due, ControllerCrashes, controller_crashed, restart_server_due, ServerRestarts, NodeRestarts, restart_controller_due, ControllerRestarts, controller_restarted}
-use Rattle.rt_world.specs.Messages.{deliver_due, Delivers, reply_due, Replies}
-use Rattle.rt_world.specs.Queries.{ask_due, asked, route_due, Routes, piece_due, answer_due}
-use Rattle.rt_world.specs.Repairs.{repair_due, Repairs, retain_due, Retires}
-use Rattle.rt_world.specs.Replicas.{consume_due, Consumes, NodeConsumes, force_due, Forces, NodeForces, stop_due, Stops, NodeStops, build_due, Builds, NodeBuilds}
-use Rattle.rt_world.specs.Requests.{report_due, Reports, NodeAsks, extend_due, Extends, NodeAsksFor}
-use Rattle.rt_world.specs.Servers.{see_due, Sees, NodeSees, transit_due, Moves, NodeMoves, download_due, Loads, NodeLoads}
-use Rattle.rt_world.specs.Shows.{show_meta_due, meta_shown, show_ideal_due, ideal_shown}
+use Rattle.rt_state.specs.Applying.{comes, Applies}
+use Rattle.rt_state.specs.Clock.{tick_due, ticked, lead_due, Believes, node_believing, fault_due, store_faulted, deep_faulted}
+use Rattle.rt_state.specs.Jobs.{job_due, JobSteps}
+use Rattle.rt_state.specs.Lives.{crash_server_due, ServerCrashes, NodeCrashes, crash_controller_due, ControllerCrashes, controller_crashed, restart_server_due, ServerRestarts, NodeRestarts, restart_controller_due, ControllerRestarts, controller_restarted}
+use Rattle.rt_state.specs.Messages.{deliver_due, Delivers, reply_due, Replies}
+use Rattle.rt_state.specs.Queries.{ask_due, asked, route_due, Routes, piece_due, answer_due}
+use Rattle.rt_state.specs.Repairs.{repair_due, Repairs, retain_due, Retires}
+use Rattle.rt_state.specs.Replicas.{consume_due, Consumes, NodeConsumes, force_due, Forces, NodeForces, stop_due, Stops, NodeStops, build_due, Builds, NodeBuilds}
+use Rattle.rt_state.specs.Requests.{report_due, Reports, NodeAsks, extend_due, Extends, NodeAsksFor}
+use Rattle.rt_state.specs.Servers.{see_due, Sees, NodeSees, transit_due, Moves, NodeMoves, download_due, Loads, NodeLoads}
+use Rattle.rt_state.specs.Shows.{show_meta_due, meta_shown, show_ideal_due, ideal_shown}
 use Rattle.rt_world.specs.Step.{Steps}
-use Rattle.rt_world.specs.Stream.{produce_due, produced}
-use Rattle.rt_world.specs.declared.state.State.{State}
+use Rattle.rt_state.specs.Stream.{produce_due, produced}
+use Rattle.rt_state.specs.declared.state.State.{State}
 use Rattle.rt_exact.proofs.Answers.{AnswerShows, answer_shows_one}
 use Rattle.rt_exact.proofs.Controllers.{delivers_one, jobs_one, repairs_one, retires_one}
 use Rattle.rt_exact.proofs.Ones.{applied_one, comes_one, controller_does_one, server_asks_one, server_calls_one, server_does_one, server_fetches_one, server_gets_one}

@@ -19,7 +19,7 @@ use Rattle.rt_store.specs.Calls as of_store
 use Rattle.rt_store.specs.Meaning.{Told}
 use Rattle.rt_store.specs.Memory.{means}
 use Rattle.rt_store.proofs.Seeing.{told_exact}
-use Rattle.rt_world.specs.Refused.{outcome_by}
+use Rattle.rt_nodes.specs.Refused.{outcome_by}
 
 -- a call that didn't run out of memory
 abbrev pub HasRoom : {X : Type 0} → Result X ServerRefused → Type 0

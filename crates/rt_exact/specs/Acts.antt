@@ -2,7 +2,7 @@
 use Rattle.std.specs.Prelude.{◌≡◌, Result}
 use Rattle.rt_events.specs.declared.refusal.Refusal.{Refusal}
 use Rattle.rt_exact.specs.Alike.{AreAlike}
-use Rattle.rt_world.specs.declared.state.State.{State}
+use Rattle.rt_state.specs.declared.state.State.{State}
 
 -- two things tell the same, or are refused for the same reason, and lead to alike worlds
 abbrev pub AreOne : {A : Type 0} → (State → Result A Refusal → Type 0) → (State → Result A Refusal → Type 0) → Type 0

@@ -5,8 +5,8 @@ use Rattle.rt_broker.specs.Asking.{Asking}
 use Rattle.rt_model.specs.declared.answer.Answer.{Answer}
 use Rattle.rt_model.specs.Aggregate.{result_rows}
 use Rattle.rt_model.specs.RightAnswer.{missing_of, named_ranges}
-use Rattle.rt_world.specs.Finding.{query_at}
-use Rattle.rt_world.specs.declared.state.State.{State}
+use Rattle.rt_state.specs.Finding.{query_at}
+use Rattle.rt_state.specs.declared.state.State.{State}
 
 -- the ranges that were served and what is missing, by the plan of each partition; and the result rows of the stream's rows in the
 -- ranges that were served

@@ -7,7 +7,7 @@ use Rattle.rt_base.specs.declared.numbers.Sequence.{Sequence}
 use Rattle.rt_entry.specs.declared.served_rows.ServedRows.{ServedRows}
 use Rattle.rt_model.specs.declared.piece.Piece.{Piece}
 use Rattle.rt_world.specs.Reading.{copy_in, due_transits_of, end_in, events_left_in, held_in, ideal_in, is_ready_at, leader_in, length_of, pieces_of, replicas_seen, ServesRows, stage_at, up_in, wanted_in}
-use Rattle.rt_world.specs.declared.state.State.{State}
+use Rattle.rt_state.specs.declared.state.State.{State}
 
 -- each reading of two worlds gives the same
 pub record ReadAlike (w v : State) : Type 0 where

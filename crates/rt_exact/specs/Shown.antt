@@ -9,7 +9,7 @@ use Rattle.rt_broker.specs.declared.piece_got.PieceGot.{PieceGot}
 use Rattle.rt_broker.specs.declared.piece_got.PieceGot.TheVariants as got
 use Rattle.rt_broker.specs.declared.route.Route.{Route}
 use Rattle.rt_broker.specs.declared.route.Route.TheVariants.{Untried, Failed, Planned}
-use Rattle.rt_world.specs.declared.state.State.{State}
+use Rattle.rt_state.specs.declared.state.State.{State}
 
 -- the same in the place of any groups
 abbrev pub no_groups : Grouped

@@ -28,11 +28,11 @@ ghost use Rattle.rt_model.specs.declared.answer.Answer.{Answer};
 ghost use Rattle.rt_model.specs.declared.query.Query.{Query};
 ghost use Rattle.rt_model.specs.declared.setup.Setup.{Setup};
 ghost use Rattle.rt_safety.specs.Runs.{Turn, Runs};
-ghost use Rattle.rt_world.specs.Finding.{query_at};
-ghost use Rattle.rt_world.specs.IsSafeWorld.{IsSafeWorld};
+ghost use Rattle.rt_state.specs.Finding.{query_at};
+ghost use Rattle.rt_state.specs.IsSafeWorld.{IsSafeWorld};
 ghost use Rattle.rt_world.specs.Kept.{Kept};
 ghost use Rattle.rt_world.specs.Step.{Steps, StepsKept, due_of};
-ghost use Rattle.rt_world.specs.declared.state.State.{State};
+ghost use Rattle.rt_state.specs.declared.state.State.{State};
 
 /// An event that happens in a safe world tells one outcome, and the worlds to which it may lead show the same; unless a piece
 /// is served by it, there is one such world.

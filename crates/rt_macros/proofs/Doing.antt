@@ -5,7 +5,7 @@ use Rattle.rt_events.specs.declared.refusal.Refusal.{Refusal}
 use Rattle.rt_events.specs.declared.refusal.Refusal.TheVariants.{NoSuchMessage, NoSuchNode, NodeDown, NothingToDo, Limit, Memory}
 use Rattle.rt_macros.specs.Doing.{Does, Each, EachFrom, Gives, Then}
 use Rattle.rt_world.specs.Kept.{Kept}
-use Rattle.rt_world.specs.declared.state.State.{State}
+use Rattle.rt_state.specs.declared.state.State.{State}
 
 -- what comes of something, from one world to another
 abbrev pub Act : Type 0 → Type 1

@@ -8,7 +8,7 @@ use Rattle.rt_macros.specs.Exchanging.{AfterStep, EndsJob, MakesStep}
 use Rattle.rt_macros.specs.Settling.{AfterRound, Round, SettlesIn}
 use Rattle.rt_macros.specs.declared.outcomes.Replied.{Replied}
 use Rattle.rt_world.specs.Kept.{Kept}
-use Rattle.rt_world.specs.declared.state.State.{State}
+use Rattle.rt_state.specs.declared.state.State.{State}
 
 pub job_goes_on : (c : ControllerId) (j left next : ℕ) (w : State) (mid : Kept) (all : Coming Replied)
     → Leads (EndsJob c j left w) all → left ≡ suc next → Does (MakesStep c j w) mid (Ok None) → Leads (EndsJob c j next mid.state) all

@@ -5,11 +5,11 @@ use Rattle.rt_events.specs.declared.event.Event.{Event}
 use Rattle.rt_events.specs.declared.outcome.Outcome.{Outcome}
 use Rattle.rt_events.specs.declared.refusal.Refusal.{Refusal}
 use Rattle.rt_events.specs.declared.refusal.Refusal.TheVariants.{NoSuchMessage, NoSuchNode, NodeDown, NothingToDo, Limit, Memory}
-use Rattle.rt_world.specs.Clock.{Passes, pass_due}
+use Rattle.rt_state.specs.Clock.{Passes, pass_due}
 use Rattle.rt_world.specs.Kept.{Kept}
-use Rattle.rt_world.specs.Room.{dropped}
+use Rattle.rt_state.specs.Room.{dropped}
 use Rattle.rt_world.specs.Step.{Steps, due_of}
-use Rattle.rt_world.specs.declared.state.State.{State}
+use Rattle.rt_state.specs.declared.state.State.{State}
 
 -- nothing happens, and this is told
 abbrev pub Gives : {A : Type 0} → A → State → State → Result A Refusal → Type 0

@@ -21,9 +21,9 @@ use Rattle.rt_macros.specs.declared.outcomes.Delivered.TheVariants as delivered
 use Rattle.rt_macros.specs.declared.outcomes.Replied.{Replied}
 use Rattle.rt_report.specs.MacroTexts.{exchanged_text}
 use Rattle.rt_world.specs.Reading.{events_left_in, up_in}
-use Rattle.rt_world.specs.Room.{Found}
+use Rattle.rt_state.specs.Room.{Found}
 use Rattle.rt_world.specs.Step.{due_of}
-use Rattle.rt_world.specs.declared.state.State.{State}
+use Rattle.rt_state.specs.declared.state.State.{State}
 
 -- a controller that is down comes behind a node that isn't there, and before all else
 abbrev pub down_due : Found → Found

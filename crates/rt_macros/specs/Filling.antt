@@ -8,7 +8,7 @@ use Rattle.rt_events.specs.declared.refusal.Refusal.TheVariants.{NoSuchNode, Not
 use Rattle.rt_macros.specs.Doing.{Choose, EachFrom, Gives, Passed, Refuses, Then}
 use Rattle.rt_report.specs.MacroTexts.{filled_text}
 use Rattle.rt_world.specs.Reading.{length_of}
-use Rattle.rt_world.specs.declared.state.State.{State}
+use Rattle.rt_state.specs.declared.state.State.{State}
 
 abbrev pub numbered_text : Offset → List ℕ
 numbered_text offset = codes "{\"k\":\"a\",\"v\":" ++ (decimal offset.0 ++ codes "}")

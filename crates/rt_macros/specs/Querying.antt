@@ -13,7 +13,7 @@ use Rattle.rt_macros.specs.Doing.{Each, EachFrom, Gives, Happens, Passed, Refuse
 use Rattle.rt_macros.specs.Outcomes.{answer_in, asked_in, is_served}
 use Rattle.rt_report.specs.BrokerTexts.{answer_line}
 use Rattle.rt_world.specs.Reading.{pieces_of}
-use Rattle.rt_world.specs.declared.state.State.{State}
+use Rattle.rt_state.specs.declared.state.State.{State}
 
 abbrev pub RoutesOne : ℕ → ℕ → Unit {0} → State → State → Result (Unit {0}) Refusal → Type 0
 RoutesOne number at done w = Passed (Route number (record { 0 = at })) w

@@ -20,7 +20,7 @@ use Rattle.rt_model.specs.declared.replica_state.ReplicaState.{ReplicaState}
 use Rattle.rt_pause.specs.Paused.{allows}
 use Rattle.rt_report.specs.MacroTexts.{settled_text}
 use Rattle.rt_world.specs.Reading.{due_transits_of, held_in, is_ready_at, leader_in, stage_at, up_in, wanted_in}
-use Rattle.rt_world.specs.declared.state.State.{State}
+use Rattle.rt_state.specs.declared.state.State.{State}
 
 abbrev pub SegmentAt : Type 0
 SegmentAt = Partition × Sequence

@@ -20,7 +20,7 @@ use Rattle.rt_play.specs.declared.play_end.PlayEnd.{PlayEnd}
 use Rattle.rt_schema.specs.declared.schema.Schema.{Schema}
 use Rattle.rt_schema.specs.declared.table.Table.{Table}
 use Rattle.rt_world.specs.Kept.{Kept}
-use Rattle.rt_world.specs.Start.{start}
+use Rattle.rt_state.specs.Start.{start}
 
 abbrev Read : Type 0
 Read = Result (Beginning × List NumberedLine) PlayFault

@@ -11,7 +11,7 @@ use Rattle.rt_play.specs.declared.desk.Desk.{Desk}
 use Rattle.rt_script.specs.declared.further.Further.{Further}
 use Rattle.rt_script.specs.declared.line.Line.{Line}
 use Rattle.rt_world.specs.Kept.{Kept}
-use Rattle.rt_world.specs.declared.state.State.{State}
+use Rattle.rt_state.specs.declared.state.State.{State}
 
 pub beside_does : (act : State → State → Result (List ℕ) Refusal → Type 0) (desk : Desk) (w : State) (new : Kept) (text : List ℕ) (result : Result (Unit {0}) Refusal)
     → DoesText (act w) new text result → DoesTold (Beside desk act w) new text desk result

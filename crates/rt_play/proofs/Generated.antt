@@ -21,8 +21,8 @@ use Rattle.rt_play.specs.declared.play_end.PlayEnd.{PlayEnd}
 use Rattle.rt_report.specs.MacroTexts.{end_text}
 use Rattle.rt_world.specs.Kept.{Kept}
 use Rattle.rt_world.specs.Reading.{end_in}
-use Rattle.rt_world.specs.Start.{start}
-use Rattle.rt_world.specs.declared.state.State.{State}
+use Rattle.rt_state.specs.Start.{start}
+use Rattle.rt_state.specs.declared.state.State.{State}
 
 -- ---- texts
 

@@ -1,5 +1,5 @@
 -- A hybrid table is one of the schema that it was made of.
-use Rattle.std.proofs.Common.{◌≡◌, ℕ, List, Option, Some, None, refl, ap, subst}
+use Rattle.std.proofs.Common.{◌≡◌, ℕ, List, Option, Some, None, refl, subst}
 use Rattle.std.specs.Prelude.{IfSome, option_map}
 use Rattle.rt_hybrid.specs.Table.{OfflineTable, place_of, start_at, start_of}
 use Rattle.rt_schema.specs.declared.schema.Schema.{Schema}

@@ -16,7 +16,7 @@ use Rattle.rt_play.specs.Going.{changed}
 use Rattle.rt_play.proofs.OneTelling.{Equal, OneBy, counts_as_by, gives_by, then_by}
 use Rattle.rt_report.specs.FurtherTexts.{forced_text, paused_text, pending_text, resumed_text}
 use Rattle.rt_world.specs.Reading.{replicas_seen}
-use Rattle.rt_world.specs.declared.state.State.{State}
+use Rattle.rt_state.specs.declared.state.State.{State}
 
 force_one : (replica : ReplicaSeen) (noted : Noted) (w v : State) → AreAlike w v → AreOne (ForcesOne replica noted w) (ForcesOne replica noted v)
 force_one replica noted w v k x y r s h g = by_told h.told h.further (subst (λ t. AfterForce replica noted t g.between y s) (sym z.0) g.further)

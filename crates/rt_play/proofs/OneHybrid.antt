@@ -29,7 +29,7 @@ use Rattle.rt_segment.specs.Segment.{SealedSegment}
 use Rattle.rt_upconf.specs.declared.upsert_config.UpsertConfig.{UpsertConfig}
 use Rattle.rt_views.specs.Answers.{answer_with, hybrid_answer, latest_answer}
 use Rattle.rt_views.specs.Views.{rows_viewed, views_each}
-use Rattle.rt_world.specs.declared.state.State.{State}
+use Rattle.rt_state.specs.declared.state.State.{State}
 
 -- ---- tables
 

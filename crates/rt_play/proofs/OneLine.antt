@@ -40,8 +40,8 @@ use Rattle.rt_script.specs.declared.line.Line.TheVariants as line
 use Rattle.rt_script.specs.declared.line.Macro.{Macro}
 use Rattle.rt_script.specs.declared.line.Macro.TheVariants as macro
 use Rattle.rt_upconf.specs.declared.upsert_config.UpsertConfig.{UpsertConfig}
-use Rattle.rt_world.specs.Room.{Found}
-use Rattle.rt_world.specs.declared.state.State.{State}
+use Rattle.rt_state.specs.Room.{Found}
+use Rattle.rt_state.specs.declared.state.State.{State}
 
 -- ---- macros
 

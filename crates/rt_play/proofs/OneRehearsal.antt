@@ -24,10 +24,10 @@ use Rattle.rt_play.specs.Rehearsing.{IsNamed, LoadedTold, PeerBy, PeerTold, Plan
 use Rattle.rt_play.proofs.OneTelling.{Agree, Equal, OneBy, counts_as_by, counts_one, refuses_by}
 use Rattle.rt_report.specs.FurtherTexts.{rehearsed_text}
 use Rattle.rt_rebalance.specs.Rehearsed.{step}
-use Rattle.rt_world.specs.Finding.{has_partition, is_server_up}
+use Rattle.rt_state.specs.Finding.{has_partition, is_server_up}
 use Rattle.rt_world.specs.Reading.{copy_in}
-use Rattle.rt_world.specs.Room.{only_if}
-use Rattle.rt_world.specs.declared.state.State.{State}
+use Rattle.rt_state.specs.Room.{only_if}
+use Rattle.rt_state.specs.declared.state.State.{State}
 
 -- ---- a peer's file
 

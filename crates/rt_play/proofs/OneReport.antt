@@ -17,7 +17,7 @@ use Rattle.rt_play.proofs.OneTelling.{GoAlike, same_desk}
 use Rattle.rt_script.specs.Line.{FitsLine, line_in}
 use Rattle.rt_script.specs.declared.line.Line.{Line}
 use Rattle.rt_script.proofs.LinesFit.{line_fits}
-use Rattle.rt_world.specs.declared.state.State.{State}
+use Rattle.rt_state.specs.declared.state.State.{State}
 use Rattle.rt_world.proofs.StartSafe.{start_safe}
 
 -- ---- what comes of the first of some lines, and then of the others

@@ -9,7 +9,7 @@ use Rattle.rt_macros.specs.Doing.{Choose, Further, Gives, PassesOver, Refuses, T
 use Rattle.rt_play.specs.Going.{Beside, Changed, Counts, CountsAs, Going, Puts, changed, told}
 use Rattle.rt_play.specs.declared.desk.Desk.{Desk}
 use Rattle.rt_scan.specs.Filled.{rows_as}
-use Rattle.rt_world.specs.declared.state.State.{State}
+use Rattle.rt_state.specs.declared.state.State.{State}
 
 -- ---- desks
 

@@ -7,7 +7,7 @@ use Rattle.rt_schema.specs.declared.schema.Schema.{Schema}
 use Rattle.rt_upconf.specs.Upsert.{IsUpsertConfig}
 use Rattle.rt_upconf.specs.declared.upsert_config.UpsertConfig.{UpsertConfig}
 use Rattle.rt_world.specs.Kept.{Kept}
-use Rattle.rt_world.specs.declared.state.State.{State}
+use Rattle.rt_state.specs.declared.state.State.{State}
 
 same_schema : (w : State) (new : Kept) → Does (PassesOver w) new (Ok tt) → w.setup.schema ≡ new.state.setup.schema
 same_schema w new d = sym (ap (λ (s : State). s.setup.schema) d.1.by.2)

@@ -3,7 +3,7 @@ use Rattle.std.proofs.Common.{◌≡◌, ℕ, ◌+◌, suc, List, [], ◌∷◌,
 use Rattle.rt_model.specs.Metadata.{metadata_of}
 use Rattle.rt_model.specs.declared.node.Listed.{Listed}
 use Rattle.rt_play.specs.Forcing.{nodes_from}
-use Rattle.rt_world.specs.declared.state.State.{State}
+use Rattle.rt_state.specs.declared.state.State.{State}
 
 -- those of a partition more
 pub nodes_more : (w : State) (at left next : ℕ) (all nodes longer : List (List Listed)) (more : List Listed) → all ≡ nodes ++ nodes_from w at left → left ≡ suc next

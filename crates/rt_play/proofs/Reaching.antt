@@ -9,7 +9,7 @@ use Rattle.rt_macros.specs.Doing.{Attempted, AttemptedBy, Choose, Each, EachFrom
 use Rattle.rt_macros.proofs.Doing.{Act}
 use Rattle.rt_play.specs.Paused.{Allowed, LeadsBy}
 use Rattle.rt_safety.specs.Runs.{Turn, happens, passes, Leads}
-use Rattle.rt_world.specs.declared.state.State.{State}
+use Rattle.rt_state.specs.declared.state.State.{State}
 
 -- such turns lead from one world to another
 abbrev pub Reaches : Bool → State → State → Type 0

@@ -47,7 +47,7 @@ use Rattle.rt_script.specs.declared.query_text.QueryText.TheVariants as asked
 use Rattle.rt_upconf.specs.declared.upsert_config.UpsertConfig.{UpsertConfig}
 use Rattle.rt_world.specs.Reading.{replicas_seen, stage_at}
 use Rattle.rt_world.specs.Step.{due_of}
-use Rattle.rt_world.specs.declared.state.State.{State}
+use Rattle.rt_state.specs.declared.state.State.{State}
 use Rattle.std.specs.Prelude.{slice_get, nat_lt, length}
 use Rattle.rt_base.specs.declared.limits.TheConstants.{MOST_EVENTS}
 

@@ -32,8 +32,8 @@ use Rattle.rt_macros.specs.declared.settling.TheConstants.{MOST_ROUNDS}
 use Rattle.rt_report.specs.BrokerTexts.{answer_line}
 use Rattle.rt_report.specs.MacroTexts.{filled_text, settled_text}
 use Rattle.rt_world.specs.Reading.{due_transits_of, events_left_in, held_in, is_ready_at, leader_in, length_of, pieces_of, stage_at, up_in, wanted_in}
-use Rattle.rt_world.specs.Room.{Found}
-use Rattle.rt_world.specs.declared.state.State.{State}
+use Rattle.rt_state.specs.Room.{Found}
+use Rattle.rt_state.specs.declared.state.State.{State}
 use Rattle.rt_macros.proofs.Doing.{Act}
 use Rattle.rt_play.proofs.Reaching.{Goes, Reaches, attempted_goes, choose_goes, choose_goes_if, each_from_goes, each_goes, event_goes, gives_goes, not_refused, passed_goes, reaches_then, refuses_goes, stays, then_goes}
 

@@ -14,7 +14,7 @@ use Rattle.rt_play.specs.Going.{Changed, Counts, CountsAs, DoesChange, changed, 
 use Rattle.rt_play.specs.Rehearsing.{LoadedTold, PlanTold, RehearseTold, StepTold, planned_text, stepped_text}
 use Rattle.rt_report.specs.FurtherTexts.{rehearsed_text}
 use Rattle.rt_world.specs.Kept.{Kept}
-use Rattle.rt_world.specs.declared.state.State.{State}
+use Rattle.rt_state.specs.declared.state.State.{State}
 
 abbrev with_part : {Part : Type 0} → Part → Result (List ℕ) Refusal → Result (Changed Part) Refusal
 with_part part (Ok text) = Ok (changed part text)

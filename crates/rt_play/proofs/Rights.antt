@@ -4,8 +4,8 @@ use Rattle.rt_safety.proofs.Answering.{answers_right}
 use Rattle.rt_safety.proofs.CommitOpens.{commit_opens}
 use Rattle.rt_safety.proofs.CommitRuns.{commit_runs}
 use Rattle.rt_safety.proofs.Worlds.{commit_is_right, is_tiled}
-use Rattle.rt_world.specs.IsSafeWorld.{IsSafeWorld}
-use Rattle.rt_world.specs.declared.state.State.{State}
+use Rattle.rt_state.specs.IsSafeWorld.{IsSafeWorld}
+use Rattle.rt_state.specs.declared.state.State.{State}
 
 pub world_is_right : (w : State) → IsSafeWorld w → IsRight w
 world_is_right w safe = record {

@@ -1,5 +1,5 @@
 -- The lines of a script are a run of their cluster.
-use Rattle.std.proofs.Common.{◌≡◌, ℕ, Bool, List, [], ◌∷◌, ◌++◌, Option, Some, None, Ok, ap, subst}
+use Rattle.std.proofs.Common.{◌≡◌, ℕ, List, [], ◌∷◌, ◌++◌, Option, Some, None, Ok, ap, subst}
 use Rattle.std.specs.Prelude.{IfSome}
 use Rattle.rt_lines.specs.Header.{NumberedLine}
 use Rattle.rt_lines.specs.Lines.{script_lines}
@@ -17,9 +17,9 @@ use Rattle.rt_safety.proofs.Runs.{leads_safe}
 use Rattle.rt_script.specs.Line.{FitsLine}
 use Rattle.rt_script.specs.declared.line.Line.{Line}
 use Rattle.rt_script.proofs.LinesFit.{line_fits}
-use Rattle.rt_world.specs.IsSafeWorld.{IsSafeWorld}
-use Rattle.rt_world.specs.Start.{start}
-use Rattle.rt_world.specs.declared.state.State.{State}
+use Rattle.rt_state.specs.IsSafeWorld.{IsSafeWorld}
+use Rattle.rt_state.specs.Start.{start}
+use Rattle.rt_state.specs.declared.state.State.{State}
 
 -- turns lead from one world to another
 abbrev Led : State → State → Type 0

@@ -1,5 +1,5 @@
 -- How a script begins: its cluster and its desk, by its header.
-use Rattle.std.specs.Prelude.{◌≡◌, ℕ, List, [], false, Option, None, Some, Result, Ok, Err}
+use Rattle.std.specs.Prelude.{ℕ, List, [], false, Option, None, Some, Result, Ok, Err}
 use Rattle.rt_hybrid.specs.Table.{OfflineTable, start_of}
 use Rattle.rt_lines.specs.Header.{NumberedLine, TableSaid, numbered_fault, setup_in, tables_of, then_ok}
 use Rattle.rt_lines.specs.Lines.{ScriptLines}
@@ -14,7 +14,7 @@ use Rattle.rt_upconf.specs.Refused.{number_of}
 use Rattle.rt_upconf.specs.Upsert.{time_column_of, upsert_of}
 use Rattle.rt_upconf.specs.declared.upsert_config.UpsertConfig.{UpsertConfig}
 use Rattle.rt_upconf.specs.declared.upsert_refused.UpsertRefused.{UpsertRefused}
-use Rattle.rt_world.specs.Start.{start}
+use Rattle.rt_state.specs.Start.{start}
 
 -- the hybrid table of the settings' time column, where it fits
 abbrev pub hybrid_by : Schema → Option (List ℕ) → Option OfflineTable

@@ -1,6 +1,6 @@
 -- `pause`, `resume`, `forceCommit` and `forceStatus fN`: replicas that consume are told to end their segments where they stand,
 -- and while a run is paused no replica begins to consume.
-use Rattle.std.specs.Prelude.{◌≡◌, ℕ, zero, suc, ◌+◌, Bool, true, false, List, [], ◌∷◌, ◌++◌, length, Option, None, Some, Result, Ok, Err, slice_get}
+use Rattle.std.specs.Prelude.{ℕ, zero, suc, ◌+◌, Bool, true, false, List, [], ◌∷◌, ◌++◌, length, Option, None, Some, Result, Ok, Err, slice_get}
 use Rattle.rt_events.specs.declared.event.Event.TheVariants.{Force}
 use Rattle.rt_events.specs.declared.outcome.Outcome.{Outcome}
 use Rattle.rt_events.specs.declared.refusal.Refusal.{Refusal}
@@ -13,7 +13,7 @@ use Rattle.rt_pause.specs.declared.replica_seen.ReplicaSeen.{ReplicaSeen}
 use Rattle.rt_play.specs.Going.{Changed, CountsAs, changed}
 use Rattle.rt_report.specs.FurtherTexts.{forced_text, paused_text, pending_text, resumed_text}
 use Rattle.rt_world.specs.Reading.{replicas_seen}
-use Rattle.rt_world.specs.declared.state.State.{State}
+use Rattle.rt_state.specs.declared.state.State.{State}
 
 -- ---- the forces
 

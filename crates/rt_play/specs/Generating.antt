@@ -27,8 +27,8 @@ use Rattle.rt_script.specs.declared.line.Line.{Line}
 use Rattle.rt_script.specs.declared.line.Line.TheVariants as line
 use Rattle.rt_script.specs.declared.line.Macro.TheVariants as macro
 use Rattle.rt_world.specs.Reading.{end_in}
-use Rattle.rt_world.specs.Start.{start}
-use Rattle.rt_world.specs.declared.state.State.{State}
+use Rattle.rt_state.specs.Start.{start}
+use Rattle.rt_state.specs.declared.state.State.{State}
 
 -- ---- the cluster
 

@@ -6,7 +6,7 @@ use Rattle.rt_play.specs.declared.desk.Desk.{Desk}
 use Rattle.rt_schema.specs.declared.schema.Schema.{Schema}
 use Rattle.rt_upconf.specs.Upsert.{IsUpsertConfig}
 use Rattle.rt_world.specs.Kept.{Kept}
-use Rattle.rt_world.specs.declared.state.State.{State}
+use Rattle.rt_state.specs.declared.state.State.{State}
 
 pub record Going : Type 0 where
   pub world : State

@@ -32,12 +32,12 @@ use Rattle.rt_safety.specs.IsAnswered.{IsAnswered}
 use Rattle.rt_safety.specs.Runs.{Turn, Runs}
 use Rattle.rt_server.specs.LastingRows.{CommittedRows, IsRightCommitted, committed_rows}
 use Rattle.rt_server.specs.Table.{entry_of}
-use Rattle.rt_world.specs.Finding.{request_at}
-use Rattle.rt_world.specs.IsSafe.{past_of}
+use Rattle.rt_state.specs.Finding.{request_at}
+use Rattle.rt_state.specs.IsSafe.{past_of}
 use Rattle.rt_world.specs.Step.{Steps}
-use Rattle.rt_world.specs.declared.controller_node.ControllerNode.{ControllerNode}
-use Rattle.rt_world.specs.declared.server_node.ServerNode.{ServerNode}
-use Rattle.rt_world.specs.declared.state.State.{State}
+use Rattle.rt_nodes.specs.declared.controller_node.ControllerNode.{ControllerNode}
+use Rattle.rt_nodes.specs.declared.server_node.ServerNode.{ServerNode}
+use Rattle.rt_state.specs.declared.state.State.{State}
 
 -- what is right of a world
 pub record IsRight (w : State) : Type 0 where

@@ -16,7 +16,7 @@ use Rattle.rt_report.specs.FurtherTexts.{hybrid_text, nooffline_text, offline_te
 use Rattle.rt_script.specs.declared.query_text.QueryText.{QueryText}
 use Rattle.rt_script.specs.declared.query_text.QueryText.TheVariants as asked
 use Rattle.rt_views.specs.Answers.{hybrid_answer}
-use Rattle.rt_world.specs.declared.state.State.{State}
+use Rattle.rt_state.specs.declared.state.State.{State}
 
 -- ---- offline
 

@@ -11,7 +11,7 @@ use Rattle.rt_script.specs.declared.query_text.QueryText.{QueryText}
 use Rattle.rt_script.specs.declared.query_text.QueryText.TheVariants as asked
 use Rattle.rt_upconf.specs.declared.upsert_config.UpsertConfig.{UpsertConfig}
 use Rattle.rt_views.specs.Answers.{latest_answer}
-use Rattle.rt_world.specs.declared.state.State.{State}
+use Rattle.rt_state.specs.declared.state.State.{State}
 
 abbrev pub GivesLatest : UpsertConfig → Query → Unit {0} → State → State → Result (List ℕ) Refusal → Type 0
 GivesLatest config query done w = Gives (latest_text (latest_answer w config query)) w

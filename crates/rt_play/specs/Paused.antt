@@ -4,7 +4,7 @@ use Rattle.rt_events.specs.declared.event.Event.TheVariants.{Consume}
 use Rattle.rt_model.specs.declared.replica_state.ReplicaState.TheVariants.{InitialConsuming}
 use Rattle.rt_safety.specs.Runs.{Turn, happens, passes, TurnsTo}
 use Rattle.rt_world.specs.Reading.{stage_at}
-use Rattle.rt_world.specs.declared.state.State.{State}
+use Rattle.rt_state.specs.declared.state.State.{State}
 
 -- a turn by which a replica begins to consume
 abbrev pub Begins : State → Turn → Type 0

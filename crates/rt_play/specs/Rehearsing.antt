@@ -1,6 +1,6 @@
 -- `peer sK P/Q` and `rehearse ..`: what would come of a server fetching a file from the others, and of a rebalance. Both look at
 -- the present world, and change nothing of it.
-use Rattle.std.specs.Prelude.{ℕ, Bool, List, Option, None, Some, Result, Ok, Err}
+use Rattle.std.specs.Prelude.{ℕ, List, Option, None, Some, Result, Ok, Err}
 use Rattle.rt_base.specs.declared.numbers.Instance.{Instance}
 use Rattle.rt_base.specs.declared.numbers.Partition.{Partition}
 use Rattle.rt_base.specs.declared.numbers.Sequence.{Sequence}
@@ -16,7 +16,7 @@ use Rattle.rt_events.specs.declared.refusal.Refusal.TheVariants.{NoSuchMessage, 
 use Rattle.rt_macros.specs.Doing.{Refuses}
 use Rattle.rt_play.specs.Going.{Changed, Counts, CountsAs}
 use Rattle.rt_report.specs.FurtherTexts.{at_text, nopeer_text, noplan_text, peer_text, plan_text, rehearsed_text}
-use Rattle.rt_world.specs.declared.state.State.{State}
+use Rattle.rt_state.specs.declared.state.State.{State}
 
 -- ---- peer
 

@@ -13,7 +13,7 @@ use Rattle.rt_play.specs.Saying.{LineTold}
 use Rattle.rt_play.specs.declared.beginning.Beginning.{Beginning}
 use Rattle.rt_script.specs.Line.{line_in}
 use Rattle.rt_script.specs.declared.line.Line.{Line}
-use Rattle.rt_world.specs.declared.state.State.{State}
+use Rattle.rt_state.specs.declared.state.State.{State}
 
 pub record Report : Type 0 where
   pub texts : List (List ℕ)

@@ -10,7 +10,7 @@ ghost use Rattle.rt_play.specs.Generating.{Asks, AsksQuery, RunsGenerated, Settl
 ghost use Rattle.rt_lines.specs.Header.{header_of};
 ghost use Rattle.rt_lines.specs.Lines.{script_lines};
 ghost use Rattle.rt_script.specs.Line.{FitsLine};
-ghost use Rattle.rt_world.specs.Start.{start};
+ghost use Rattle.rt_state.specs.Start.{start};
 
 use crate::PlayEnd;
 use crate::generated_report::write_report;

@@ -12,8 +12,8 @@ ghost use Rattle.rt_play.specs.declared.desk.Desk.{Desk};
 ghost use Rattle.rt_safety.specs.Runs.{Turn, Runs};
 ghost use Rattle.rt_script.specs.Line.{FitsLine};
 ghost use Rattle.rt_script.specs.declared.line.Line.{Line};
-ghost use Rattle.rt_world.specs.IsSafeWorld.{IsSafeWorld};
-ghost use Rattle.rt_world.specs.declared.state.State.{State};
+ghost use Rattle.rt_state.specs.IsSafeWorld.{IsSafeWorld};
+ghost use Rattle.rt_state.specs.declared.state.State.{State};
 
 /// The lines of a script of which a report tells are a run of the script's cluster: turns lead from the cluster's first world to
 /// the one behind these lines, which is safe. So is each world on the way, and each answer in it is right, by the laws of

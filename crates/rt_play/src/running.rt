@@ -4,7 +4,7 @@ ghost use Rattle.rt_play.specs.Beginning.{going_from};
 ghost use Rattle.rt_play.specs.Going.{IsDesk};
 ghost use Rattle.rt_play.specs.Plays.{PlaysLine, TellsFrom, TellsInput, going};
 ghost use Rattle.rt_play.specs.Report.{fault_at};
-ghost use Rattle.rt_world.specs.IsSafeWorld.{IsSafeWorld};
+ghost use Rattle.rt_state.specs.IsSafeWorld.{IsSafeWorld};
 
 use crate::PlayEnd;
 use crate::beginning::{Beginning, read_beginning};

@@ -29,16 +29,16 @@ use Rattle.rt_model.specs.declared.request.Request.{Request}
 use Rattle.rt_model.specs.declared.sent.Sent.TheVariants as sent
 use Rattle.rt_model.proofs.Lawful.{nodes_are_in_order}
 use Rattle.rt_store.specs.Contents.{starting_of}
-use Rattle.rt_world.specs.Applying.{Next}
-use Rattle.rt_world.specs.Finding.{request_at}
-use Rattle.rt_world.specs.IsSafe.{past_of}
-use Rattle.rt_world.specs.IsSafeWorld.{IsSafeWorld}
-use Rattle.rt_world.specs.Jobs.{JobStepsAt, noted_set, stepped_by}
-use Rattle.rt_world.specs.Messages.{DeliversAt, after_step, tells}
+use Rattle.rt_state.specs.Applying.{Next}
+use Rattle.rt_state.specs.Finding.{request_at}
+use Rattle.rt_state.specs.IsSafe.{past_of}
+use Rattle.rt_state.specs.IsSafeWorld.{IsSafeWorld}
+use Rattle.rt_state.specs.Jobs.{JobStepsAt, noted_set, stepped_by}
+use Rattle.rt_state.specs.Messages.{DeliversAt, after_step, tells}
 use Rattle.rt_world.specs.Step.{Steps}
-use Rattle.rt_world.specs.declared.controller_node.ControllerNode.{ControllerNode}
-use Rattle.rt_world.specs.declared.cost.Cost.{Cost}
-use Rattle.rt_world.specs.declared.state.State.{State}
+use Rattle.rt_nodes.specs.declared.controller_node.ControllerNode.{ControllerNode}
+use Rattle.rt_state.specs.declared.cost.Cost.{Cost}
+use Rattle.rt_state.specs.declared.state.State.{State}
 use Rattle.rt_world.proofs.KeepsMessages.{request_sent}
 use Rattle.rt_safety.specs.Absent.{EndsNoSegment, FindsNone, ReadsNode, RepliesNoSegment, SetsDone}
 use Rattle.rt_safety.proofs.Absent.{HasMeta, IsNone, handled_none, life_is_meta, none_handled}

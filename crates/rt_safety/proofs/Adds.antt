@@ -19,16 +19,16 @@ use Rattle.rt_past.proofs.Growth.{grows_same}
 use Rattle.rt_past.proofs.Ways.{no_reply, one_reply}
 use Rattle.rt_store.specs.Meaning.{Told}
 use Rattle.rt_stream.specs.Log.{Log}
-use Rattle.rt_world.specs.Applying.{Next}
+use Rattle.rt_state.specs.Applying.{Next}
 use Rattle.rt_safety.specs.GoesOn.{GoesOn}
-use Rattle.rt_world.specs.IsSafe.{past_of}
-use Rattle.rt_world.specs.Nodes.{with_server, with_controller, ServerStep, ServerDoesAt, ServerDoes, ServerCallsAt, ServerCalls, ServerGetsAt, ServerGets, ServerFetchesAt, ServerFetches, ControllerDoesAt, ControllerDoes}
-use Rattle.rt_world.specs.Requests.{AskStep, SendsAt, SendsRequest, sends}
-use Rattle.rt_world.specs.Room.{counted}
-use Rattle.rt_world.specs.declared.controller_node.ControllerNode.{ControllerNode}
-use Rattle.rt_world.specs.declared.cost.Cost.{Cost}
-use Rattle.rt_world.specs.declared.server_node.ServerNode.{ServerNode}
-use Rattle.rt_world.specs.declared.state.State.{State}
+use Rattle.rt_state.specs.IsSafe.{past_of}
+use Rattle.rt_state.specs.Nodes.{with_server, with_controller, ServerStep, ServerDoesAt, ServerDoes, ServerCallsAt, ServerCalls, ServerGetsAt, ServerGets, ServerFetchesAt, ServerFetches, ControllerDoesAt, ControllerDoes}
+use Rattle.rt_state.specs.Requests.{AskStep, SendsAt, SendsRequest, sends}
+use Rattle.rt_state.specs.Room.{counted}
+use Rattle.rt_nodes.specs.declared.controller_node.ControllerNode.{ControllerNode}
+use Rattle.rt_state.specs.declared.cost.Cost.{Cost}
+use Rattle.rt_nodes.specs.declared.server_node.ServerNode.{ServerNode}
+use Rattle.rt_state.specs.declared.state.State.{State}
 
 -- a world goes on to another one, and each reply that was sent meanwhile has a possible status
 pub record Adds (old new : State) : Type 0 where

@@ -31,26 +31,26 @@ use Rattle.rt_model.specs.declared.sent.Sent.TheVariants as sent
 use Rattle.rt_past.specs.Past.{Past, Grows, with_history, with_files, with_sent}
 use Rattle.rt_past.proofs.Growth.{grows_same, grows_then}
 use Rattle.rt_store.specs.Meaning.{Told}
-use Rattle.rt_world.specs.Applying.{Next}
-use Rattle.rt_world.specs.IsSafe.{past_of}
-use Rattle.rt_world.specs.IsSafeWorld.{IsSafeWorld}
-use Rattle.rt_world.specs.Finding.{request_at, query_at}
-use Rattle.rt_world.specs.Jobs.{JobSteps, JobStepsAt, noted_set, stepped_by}
-use Rattle.rt_world.specs.Messages.{DeliversAt, Delivers, after_step, handed, with_reply}
-use Rattle.rt_world.specs.Queries.{RoutesAt, Routes, PiecesOf, PiecesAt, Pieces, AnswersAt, Answers, closed, with_query}
-use Rattle.rt_world.specs.Repairs.{RepairsAt, Repairs, RetiresAt, Retires, after_upkeep, find_upkeep, repair_by, repair_in, repair_due, retain_by, retirement_in, retain_due, upkeep_at}
-use Rattle.rt_world.specs.Room.{counted}
-use Rattle.rt_world.specs.declared.controller_node.ControllerNode.{ControllerNode}
-use Rattle.rt_world.specs.declared.cost.Cost.{Cost}
-use Rattle.rt_world.specs.declared.server_node.ServerNode.{ServerNode}
-use Rattle.rt_world.specs.declared.state.State.{State}
-use Rattle.rt_world.specs.declared.upkeep.Upkeep.{Upkeep}
+use Rattle.rt_state.specs.Applying.{Next}
+use Rattle.rt_state.specs.IsSafe.{past_of}
+use Rattle.rt_state.specs.IsSafeWorld.{IsSafeWorld}
+use Rattle.rt_state.specs.Finding.{request_at, query_at}
+use Rattle.rt_state.specs.Jobs.{JobSteps, JobStepsAt, noted_set, stepped_by}
+use Rattle.rt_state.specs.Messages.{DeliversAt, Delivers, after_step, handed, with_reply}
+use Rattle.rt_state.specs.Queries.{RoutesAt, Routes, PiecesOf, PiecesAt, Pieces, AnswersAt, Answers, closed, with_query}
+use Rattle.rt_state.specs.Repairs.{RepairsAt, Repairs, RetiresAt, Retires, after_upkeep, find_upkeep, repair_by, repair_in, repair_due, retain_by, retirement_in, retain_due, upkeep_at}
+use Rattle.rt_state.specs.Room.{counted}
+use Rattle.rt_nodes.specs.declared.controller_node.ControllerNode.{ControllerNode}
+use Rattle.rt_state.specs.declared.cost.Cost.{Cost}
+use Rattle.rt_nodes.specs.declared.server_node.ServerNode.{ServerNode}
+use Rattle.rt_state.specs.declared.state.State.{State}
+use Rattle.rt_nodes.specs.declared.upkeep.Upkeep.{Upkeep}
 use Rattle.rt_safety.proofs.Adds.{Adds, adds_quietly, adds_reply, grows_history, grows_sent}
-use Rattle.rt_world.proofs.Bounds.{few_writes}
+use Rattle.rt_state.proofs.Bounds.{few_writes}
 use Rattle.rt_world.proofs.KeepsMessages.{request_sent}
 use Rattle.rt_world.proofs.KeepsQueries.{routed_reads}
 use Rattle.rt_world.proofs.KeepsRepairs.{found_within, upkeep_there, repair_writes, retire_writes}
-use Rattle.rt_world.proofs.Possible.{then_passed}
+use Rattle.rt_state.proofs.Possible.{then_passed}
 
 -- ---- possible replies
 

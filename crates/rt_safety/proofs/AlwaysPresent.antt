@@ -26,11 +26,11 @@ use Rattle.rt_model.specs.declared.setup.Setup.{Setup}
 use Rattle.rt_model.proofs.Chains.{InOrder-chain}
 use Rattle.rt_model.proofs.Lawful.{nodes_are_in_order}
 use Rattle.rt_store.specs.Contents.{starting_of}
-use Rattle.rt_world.specs.Finding.{request_at}
-use Rattle.rt_world.specs.IsSafeWorld.{IsSafeWorld}
+use Rattle.rt_state.specs.Finding.{request_at}
+use Rattle.rt_state.specs.IsSafeWorld.{IsSafeWorld}
 use Rattle.rt_world.specs.Step.{Steps}
-use Rattle.rt_world.specs.declared.controller_node.ControllerNode.{ControllerNode}
-use Rattle.rt_world.specs.declared.state.State.{State}
+use Rattle.rt_nodes.specs.declared.controller_node.ControllerNode.{ControllerNode}
+use Rattle.rt_state.specs.declared.state.State.{State}
 use Rattle.rt_world.proofs.KeepsMessages.{request_sent}
 use Rattle.rt_safety.specs.Absent.{EndsNoSegment, FindsNone, RepliesNoSegment, SetsDone}
 use Rattle.rt_safety.specs.Runs.{Turn, Runs}

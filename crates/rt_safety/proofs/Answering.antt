@@ -11,16 +11,16 @@ use Rattle.rt_events.specs.declared.outcome.Outcome.TheVariants as told
 use Rattle.rt_model.specs.Setup.{IsSetup}
 use Rattle.rt_model.specs.declared.answer.Answer.{Answer}
 use Rattle.rt_model.specs.declared.setup.Setup.{Setup}
-use Rattle.rt_world.specs.Applying.{Next}
-use Rattle.rt_world.specs.Finding.{query_at}
+use Rattle.rt_state.specs.Applying.{Next}
+use Rattle.rt_state.specs.Finding.{query_at}
 use Rattle.rt_safety.specs.IsAnswered.{IsAnswered}
-use Rattle.rt_world.specs.IsSafe.{past_of}
-use Rattle.rt_world.specs.IsSafeWorld.{IsSafeWorld}
-use Rattle.rt_world.specs.Queries.{AnswersAt, IsAnswerOf}
+use Rattle.rt_state.specs.IsSafe.{past_of}
+use Rattle.rt_state.specs.IsSafeWorld.{IsSafeWorld}
+use Rattle.rt_state.specs.Queries.{AnswersAt, IsAnswerOf}
 use Rattle.rt_safety.specs.Runs.{Turn, happens, TurnsTo, Runs}
 use Rattle.rt_world.specs.Step.{Steps}
-use Rattle.rt_world.specs.declared.cost.Cost.{Cost}
-use Rattle.rt_world.specs.declared.state.State.{State}
+use Rattle.rt_state.specs.declared.cost.Cost.{Cost}
+use Rattle.rt_state.specs.declared.state.State.{State}
 use Rattle.rt_world.proofs.KeepsQueries.{asked_there}
 use Rattle.rt_safety.proofs.Later.{runs_are_safe}
 

@@ -11,16 +11,16 @@ use Rattle.rt_controller.specs.declared.segment_machine.SegmentMachine.{SegmentM
 use Rattle.rt_controller.specs.Answers.{Handling}
 use Rattle.rt_controller.specs.Right.{IsTimely, commit_job, job_of}
 use Rattle.rt_controller.proofs.Timely.{timely_job, timely_starts}
-use Rattle.rt_world.specs.Applying.{Next}
+use Rattle.rt_state.specs.Applying.{Next}
 use Rattle.rt_safety.specs.CommitRun.{IsOpen, job_in}
-use Rattle.rt_world.specs.Finding.{request_at}
-use Rattle.rt_world.specs.IsSafe.{past_of}
-use Rattle.rt_world.specs.IsSafeWorld.{IsSafeWorld}
-use Rattle.rt_world.specs.Messages.{DeliversAt}
+use Rattle.rt_state.specs.Finding.{request_at}
+use Rattle.rt_state.specs.IsSafe.{past_of}
+use Rattle.rt_state.specs.IsSafeWorld.{IsSafeWorld}
+use Rattle.rt_state.specs.Messages.{DeliversAt}
 use Rattle.rt_world.specs.Step.{Steps}
-use Rattle.rt_world.specs.declared.controller_node.ControllerNode.{ControllerNode}
-use Rattle.rt_world.specs.declared.cost.Cost.{Cost}
-use Rattle.rt_world.specs.declared.state.State.{State}
+use Rattle.rt_nodes.specs.declared.controller_node.ControllerNode.{ControllerNode}
+use Rattle.rt_state.specs.declared.cost.Cost.{Cost}
+use Rattle.rt_state.specs.declared.state.State.{State}
 use Rattle.rt_safety.proofs.JobsOn.{handed_same, own_slot}
 use Rattle.rt_world.proofs.KeepsMessages.{request_sent}
 

@@ -22,18 +22,18 @@ use Rattle.rt_model.specs.declared.reply.Reply.{Reply}
 use Rattle.rt_deep.specs.Meaning.{Told as ToldDeep}
 use Rattle.rt_store.specs.Meaning.{Told}
 use Rattle.rt_controller.specs.Controller.{Controlling}
-use Rattle.rt_world.specs.Applying.{Next}
+use Rattle.rt_state.specs.Applying.{Next}
 use Rattle.rt_safety.specs.CommitRun.{EndsIn, GoesSo, IsOpen, GoesWithoutCrash, is_crash, job_in, open_job, steps_in}
-use Rattle.rt_world.specs.IsSafe.{past_of}
-use Rattle.rt_world.specs.IsSafeWorld.{IsSafeWorld}
-use Rattle.rt_world.specs.Jobs.{JobSteps, JobStepsAt, noted_set, stepped, stepped_by}
-use Rattle.rt_world.specs.Lives.{controller_crashed, controller_restarted}
-use Rattle.rt_world.specs.Clock.{node_believing}
-use Rattle.rt_world.specs.Messages.{after_step}
+use Rattle.rt_state.specs.IsSafe.{past_of}
+use Rattle.rt_state.specs.IsSafeWorld.{IsSafeWorld}
+use Rattle.rt_state.specs.Jobs.{JobSteps, JobStepsAt, noted_set, stepped, stepped_by}
+use Rattle.rt_state.specs.Lives.{controller_crashed, controller_restarted}
+use Rattle.rt_state.specs.Clock.{node_believing}
+use Rattle.rt_state.specs.Messages.{after_step}
 use Rattle.rt_world.specs.Step.{Steps}
-use Rattle.rt_world.specs.declared.controller_node.ControllerNode.{ControllerNode}
-use Rattle.rt_world.specs.declared.cost.Cost.{Cost}
-use Rattle.rt_world.specs.declared.state.State.{State}
+use Rattle.rt_nodes.specs.declared.controller_node.ControllerNode.{ControllerNode}
+use Rattle.rt_state.specs.declared.cost.Cost.{Cost}
+use Rattle.rt_state.specs.declared.state.State.{State}
 use Rattle.rt_safety.proofs.JobsOn.{Stays, answers_same, believing_stays, controller_does_stays, controllers_stay, delivers_stay, own_slot, pieces_same, repairs_stay, replies_same, retires_stay, routes_same, sends_same, server_calls_same, server_does_same, server_fetches_same, server_gets_same, slot_stays}
 use Rattle.rt_world.proofs.SafeSteps.{steps_keep}
 

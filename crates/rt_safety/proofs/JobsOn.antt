@@ -22,22 +22,22 @@ use Rattle.rt_model.specs.declared.reply.Reply.{Reply}
 use Rattle.rt_model.specs.declared.request.Request.{Request}
 use Rattle.rt_deep.specs.Meaning.{Told as ToldDeep}
 use Rattle.rt_store.specs.Meaning.{Told}
-use Rattle.rt_world.specs.Applying.{Next}
+use Rattle.rt_state.specs.Applying.{Next}
 use Rattle.rt_safety.specs.CommitRun.{job_in, open_job}
-use Rattle.rt_world.specs.Finding.{query_at, reply_at, request_at}
-use Rattle.rt_world.specs.IsSafe.{past_of}
-use Rattle.rt_world.specs.IsSafeWorld.{IsSafeWorld}
-use Rattle.rt_world.specs.Messages.{Delivers, DeliversAt, Replies, RepliesAt, handed}
-use Rattle.rt_world.specs.Nodes.{ControllerDoes, ControllerDoesAt, ServerCalls, ServerCallsAt, ServerDoes, ServerDoesAt, ServerFetches, ServerFetchesAt, ServerGets, ServerGetsAt, ServerStep}
-use Rattle.rt_world.specs.Queries.{Answers, AnswersAt, Pieces, PiecesAt, PiecesOf, Routes, RoutesAt}
-use Rattle.rt_world.specs.Repairs.{Repairs, RepairsAt, Retires, RetiresAt, upkeep_at}
-use Rattle.rt_world.specs.Requests.{AskStep, SendsAt, SendsRequest}
-use Rattle.rt_world.specs.declared.controller_node.ControllerNode.{ControllerNode}
-use Rattle.rt_world.specs.declared.cost.Cost.{Cost}
-use Rattle.rt_world.specs.declared.server_node.ServerNode.{ServerNode}
-use Rattle.rt_world.specs.declared.state.State.{State}
-use Rattle.rt_world.specs.declared.upkeep.Upkeep.{Upkeep}
-use Rattle.rt_world.proofs.Bounds.{few_writes}
+use Rattle.rt_state.specs.Finding.{query_at, reply_at, request_at}
+use Rattle.rt_state.specs.IsSafe.{past_of}
+use Rattle.rt_state.specs.IsSafeWorld.{IsSafeWorld}
+use Rattle.rt_state.specs.Messages.{Delivers, DeliversAt, Replies, RepliesAt, handed}
+use Rattle.rt_state.specs.Nodes.{ControllerDoes, ControllerDoesAt, ServerCalls, ServerCallsAt, ServerDoes, ServerDoesAt, ServerFetches, ServerFetchesAt, ServerGets, ServerGetsAt, ServerStep}
+use Rattle.rt_state.specs.Queries.{Answers, AnswersAt, Pieces, PiecesAt, PiecesOf, Routes, RoutesAt}
+use Rattle.rt_state.specs.Repairs.{Repairs, RepairsAt, Retires, RetiresAt, upkeep_at}
+use Rattle.rt_state.specs.Requests.{AskStep, SendsAt, SendsRequest}
+use Rattle.rt_nodes.specs.declared.controller_node.ControllerNode.{ControllerNode}
+use Rattle.rt_state.specs.declared.cost.Cost.{Cost}
+use Rattle.rt_nodes.specs.declared.server_node.ServerNode.{ServerNode}
+use Rattle.rt_state.specs.declared.state.State.{State}
+use Rattle.rt_nodes.specs.declared.upkeep.Upkeep.{Upkeep}
+use Rattle.rt_state.proofs.Bounds.{few_writes}
 use Rattle.rt_world.proofs.KeepsMessages.{request_sent}
 
 -- ---- slots of a list

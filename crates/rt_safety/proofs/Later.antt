@@ -15,11 +15,11 @@ use Rattle.rt_past.specs.Segments.{WasDone}
 use Rattle.rt_past.proofs.Growth.{done_grows}
 use Rattle.rt_store.specs.Contents.{starting_of}
 use Rattle.rt_safety.specs.GoesOn.{GoesOn}
-use Rattle.rt_world.specs.IsSafeWorld.{IsSafeWorld}
+use Rattle.rt_state.specs.IsSafeWorld.{IsSafeWorld}
 use Rattle.rt_safety.specs.Later.{KeepsCommitted}
 use Rattle.rt_safety.specs.Runs.{Turn, Leads, Runs}
-use Rattle.rt_world.specs.Start.{start}
-use Rattle.rt_world.specs.declared.state.State.{State}
+use Rattle.rt_state.specs.Start.{start}
+use Rattle.rt_state.specs.declared.state.State.{State}
 use Rattle.rt_safety.proofs.Committed.{keeps_committed}
 use Rattle.rt_safety.proofs.Runs.{leads_safe, leads_add}
 use Rattle.rt_world.proofs.StartSafe.{start_safe}

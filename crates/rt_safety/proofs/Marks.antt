@@ -13,8 +13,8 @@ use Rattle.rt_model.specs.declared.node.Node.TheVariants as node
 use Rattle.rt_model.specs.declared.node.Seen.{Seen}
 use Rattle.rt_model.specs.declared.setup.Setup.{Setup}
 use Rattle.rt_store.specs.Contents.{starting_of}
-use Rattle.rt_world.specs.Start.{start}
-use Rattle.rt_world.specs.declared.state.State.{State}
+use Rattle.rt_state.specs.Start.{start}
+use Rattle.rt_state.specs.declared.state.State.{State}
 use Rattle.rt_safety.specs.Runs.{Turn, Runs}
 use Rattle.rt_safety.specs.Unretired.{IsUnretired}
 use Rattle.rt_safety.proofs.Later.{runs_are_safe}

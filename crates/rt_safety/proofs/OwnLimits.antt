@@ -17,25 +17,25 @@ use Rattle.rt_model.specs.declared.reply.Reply.{Reply}
 use Rattle.rt_repair.specs.Repairing.{Repairing, set_entries as repair_sets}
 use Rattle.rt_repair.specs.Retirement.{Retirement, set_entries as retire_sets}
 use Rattle.rt_consumer.specs.declared.consumer.Consumer.{Consumer}
-use Rattle.rt_world.specs.Finding.{find_controller, find_server, has_controller, has_partition, has_server, is_controller_up, is_server_up, passes, query_at, replica_at, reply_at, request_at}
-use Rattle.rt_world.specs.IsSafeWorld.{IsSafeWorld}
-use Rattle.rt_world.specs.Messages.{deliver_due, reply_by, reply_due}
-use Rattle.rt_world.specs.Queries.{answer_by, answer_due, ask_due, piece_by, piece_due, route_by, route_due}
-use Rattle.rt_world.specs.Repairs.{believes_at, find_upkeep, repair_by, repair_due, repair_in, retain_by, retain_due, retirement_in, upkeep_at}
-use Rattle.rt_world.specs.Requests.{asks_due, extend_due, extends_now, report_by, report_due}
-use Rattle.rt_world.specs.Room.{Due, Found, dropped, message_cost, no_cost, only_if, priced, query_cost, set_cost, then_due, time_cost, upload_cost}
+use Rattle.rt_state.specs.Finding.{find_controller, find_server, has_controller, has_partition, has_server, is_controller_up, is_server_up, passes, query_at, replica_at, reply_at, request_at}
+use Rattle.rt_state.specs.IsSafeWorld.{IsSafeWorld}
+use Rattle.rt_state.specs.Messages.{deliver_due, reply_by, reply_due}
+use Rattle.rt_state.specs.Queries.{answer_by, answer_due, ask_due, piece_by, piece_due, route_by, route_due}
+use Rattle.rt_state.specs.Repairs.{believes_at, find_upkeep, repair_by, repair_due, repair_in, retain_by, retain_due, retirement_in, upkeep_at}
+use Rattle.rt_state.specs.Requests.{asks_due, extend_due, extends_now, report_by, report_due}
+use Rattle.rt_state.specs.Room.{Due, Found, dropped, message_cost, no_cost, only_if, priced, query_cost, set_cost, then_due, time_cost, upload_cost}
 use Rattle.rt_world.specs.Step.{due_of}
-use Rattle.rt_world.specs.declared.cost.Cost.{Cost}
-use Rattle.rt_world.specs.declared.state.State.{State}
-use Rattle.rt_world.proofs.Possible.{HasRoom, priced_room}
+use Rattle.rt_state.specs.declared.cost.Cost.{Cost}
+use Rattle.rt_state.specs.declared.state.State.{State}
+use Rattle.rt_state.proofs.Possible.{HasRoom, priced_room}
 use Rattle.rt_safety.specs.Limits.{IsPassed, appends, asks, can_pass, cost_of, reports, set_by_repair, set_by_retirement, size_of, steps_upkeep, ticks}
-use Rattle.rt_world.specs.Clock.{fault_due, lead_due, tick_due}
-use Rattle.rt_world.specs.Jobs.{has_job, job_due, sets_of_job}
-use Rattle.rt_world.specs.Lives.{crash_controller_due, crash_server_due, restart_controller_due, restart_server_due}
-use Rattle.rt_world.specs.Replicas.{build_due, builds_now, consume_due, force_due, forces_now, replica_due, stop_due, stops_now, takes_now}
-use Rattle.rt_world.specs.Servers.{download_due, moves_at, see_due, transit_due, wants_at}
-use Rattle.rt_world.specs.Shows.{show_ideal_due, show_meta_due}
-use Rattle.rt_world.specs.Stream.{produce_due}
+use Rattle.rt_state.specs.Clock.{fault_due, lead_due, tick_due}
+use Rattle.rt_state.specs.Jobs.{has_job, job_due, sets_of_job}
+use Rattle.rt_state.specs.Lives.{crash_controller_due, crash_server_due, restart_controller_due, restart_server_due}
+use Rattle.rt_state.specs.Replicas.{build_due, builds_now, consume_due, force_due, forces_now, replica_due, stop_due, stops_now, takes_now}
+use Rattle.rt_state.specs.Servers.{download_due, moves_at, see_due, transit_due, wants_at}
+use Rattle.rt_state.specs.Shows.{show_ideal_due, show_meta_due}
+use Rattle.rt_state.specs.Stream.{produce_due}
 use Rattle.rt_consumer.specs.Requests.{size_in}
 
 -- ---- the limit that a price passes

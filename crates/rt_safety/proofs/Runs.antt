@@ -20,28 +20,28 @@ use Rattle.rt_store.specs.Memory.{means}
 use Rattle.rt_store.proofs.Seeing.{write_grows}
 use Rattle.rt_stream.specs.Log.{with_message}
 use Rattle.rt_stream.proofs.Growth.{log_message}
-use Rattle.rt_world.specs.Applying.{Next, comes}
-use Rattle.rt_world.specs.Clock.{ticked, store_faulted, deep_faulted, node_believing}
-use Rattle.rt_world.specs.Finding.{has_partition, reply_at}
-use Rattle.rt_world.specs.IsSafe.{past_of}
-use Rattle.rt_world.specs.IsSafeWorld.{IsSafeWorld}
-use Rattle.rt_world.specs.Lives.{NodeCrashes, NodeRestarts, controller_crashed, controller_restarted}
-use Rattle.rt_world.specs.Messages.{Replies, RepliesAt, node_took}
-use Rattle.rt_world.specs.Queries.{asked}
-use Rattle.rt_world.specs.Replicas.{NodeBuilds, NodeConsumes, NodeForces, NodeStops}
-use Rattle.rt_world.specs.Requests.{NodeAsks, NodeAsksFor}
-use Rattle.rt_world.specs.Room.{counted, message_cost, priced}
+use Rattle.rt_state.specs.Applying.{Next, comes}
+use Rattle.rt_state.specs.Clock.{ticked, store_faulted, deep_faulted, node_believing}
+use Rattle.rt_state.specs.Finding.{has_partition, reply_at}
+use Rattle.rt_state.specs.IsSafe.{past_of}
+use Rattle.rt_state.specs.IsSafeWorld.{IsSafeWorld}
+use Rattle.rt_state.specs.Lives.{NodeCrashes, NodeRestarts, controller_crashed, controller_restarted}
+use Rattle.rt_state.specs.Messages.{Replies, RepliesAt, node_took}
+use Rattle.rt_state.specs.Queries.{asked}
+use Rattle.rt_state.specs.Replicas.{NodeBuilds, NodeConsumes, NodeForces, NodeStops}
+use Rattle.rt_state.specs.Requests.{NodeAsks, NodeAsksFor}
+use Rattle.rt_state.specs.Room.{counted, message_cost, priced}
 use Rattle.rt_safety.specs.Runs.{Turn, happens, passes, TurnsTo, Leads}
-use Rattle.rt_world.specs.Servers.{NodeLoads, NodeMoves, NodeSees}
-use Rattle.rt_world.specs.Shows.{meta_shown, ideal_shown}
+use Rattle.rt_state.specs.Servers.{NodeLoads, NodeMoves, NodeSees}
+use Rattle.rt_state.specs.Shows.{meta_shown, ideal_shown}
 use Rattle.rt_world.specs.Step.{Steps}
-use Rattle.rt_world.specs.Stream.{produce_due, produced}
-use Rattle.rt_world.specs.declared.cost.Cost.{Cost}
-use Rattle.rt_world.specs.declared.state.State.{State}
+use Rattle.rt_state.specs.Stream.{produce_due, produced}
+use Rattle.rt_state.specs.declared.cost.Cost.{Cost}
+use Rattle.rt_state.specs.declared.state.State.{State}
 use Rattle.rt_safety.proofs.Adds.{Adds, adds_quietly, controller_does_adds, server_calls_adds, server_does_adds, server_fetches_adds, server_gets_adds, server_sends_adds}
 use Rattle.rt_safety.proofs.AddsEvents.{answer_adds, deliver_adds, job_adds, piece_adds, repair_adds, retain_adds, route_adds}
 use Rattle.rt_world.proofs.KeepsClock.{passed_keeps}
-use Rattle.rt_world.proofs.Possible.{only_passed}
+use Rattle.rt_state.proofs.Possible.{only_passed}
 use Rattle.rt_world.proofs.Quiet.{downloads_quiet, sees_quiet, takes_quiet, transits_quiet}
 use Rattle.rt_world.proofs.SafeSteps.{steps_keep}
 

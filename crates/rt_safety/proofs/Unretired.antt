@@ -62,32 +62,32 @@ use Rattle.rt_store.specs.Meaning.{Told}
 use Rattle.rt_store.specs.declared.refused.StoreRefused.{StoreRefused}
 use Rattle.rt_store.proofs.Told.{leaves_on, read_same}
 use Rattle.rt_stream.specs.Log.{Log}
-use Rattle.rt_world.specs.Applying.{Next, comes}
-use Rattle.rt_world.specs.Clock.{deep_faulted, node_believing, store_faulted, ticked}
-use Rattle.rt_world.specs.Finding.{query_at, reply_at, request_at}
-use Rattle.rt_world.specs.Jobs.{JobSteps, JobStepsAt, noted_set, stepped_by}
-use Rattle.rt_world.specs.Lives.{NodeCrashes, NodeRestarts, controller_crashed, controller_restarted}
-use Rattle.rt_world.specs.Messages.{Delivers, DeliversAt, Replies, RepliesAt, after_step, handed, node_took}
-use Rattle.rt_world.specs.Nodes.{ControllerDoes, ControllerDoesAt, ServerCalls, ServerCallsAt, ServerDoes, ServerDoesAt, ServerFetches, ServerFetchesAt, ServerGets, ServerGetsAt, ServerStep, with_controller, with_server}
-use Rattle.rt_world.specs.Places.{AreAt}
-use Rattle.rt_world.specs.Queries.{Answers, AnswersAt, Pieces, PiecesAt, PiecesOf, Routes, RoutesAt, asked, closed, piece_outcome, with_query}
-use Rattle.rt_world.specs.Repairs.{Repairs, RepairsAt, Retires, RetiresAt, after_upkeep, begun, believes_at, find_upkeep, retain_by, retain_due, retirement_in, upkeep_at, upkeep_in}
-use Rattle.rt_world.specs.Replicas.{NodeBuilds, NodeConsumes, NodeForces, NodeStops}
-use Rattle.rt_world.specs.Requests.{AskStep, NodeAsks, NodeAsksFor, SendsAt, SendsRequest, sends}
-use Rattle.rt_world.specs.Room.{counted, no_cost, priced}
-use Rattle.rt_world.specs.Servers.{NodeLoads, NodeMoves, NodeSees}
-use Rattle.rt_world.specs.Shows.{ideal_shown, meta_shown}
-use Rattle.rt_world.specs.Start.{fresh_controller, fresh_controllers, fresh_upkeep, start}
+use Rattle.rt_state.specs.Applying.{Next, comes}
+use Rattle.rt_state.specs.Clock.{deep_faulted, node_believing, store_faulted, ticked}
+use Rattle.rt_state.specs.Finding.{query_at, reply_at, request_at}
+use Rattle.rt_state.specs.Jobs.{JobSteps, JobStepsAt, noted_set, stepped_by}
+use Rattle.rt_state.specs.Lives.{NodeCrashes, NodeRestarts, controller_crashed, controller_restarted}
+use Rattle.rt_state.specs.Messages.{Delivers, DeliversAt, Replies, RepliesAt, after_step, handed, node_took}
+use Rattle.rt_state.specs.Nodes.{ControllerDoes, ControllerDoesAt, ServerCalls, ServerCallsAt, ServerDoes, ServerDoesAt, ServerFetches, ServerFetchesAt, ServerGets, ServerGetsAt, ServerStep, with_controller, with_server}
+use Rattle.rt_state.specs.Places.{AreAt}
+use Rattle.rt_state.specs.Queries.{Answers, AnswersAt, Pieces, PiecesAt, PiecesOf, Routes, RoutesAt, asked, closed, piece_outcome, with_query}
+use Rattle.rt_state.specs.Repairs.{Repairs, RepairsAt, Retires, RetiresAt, after_upkeep, begun, believes_at, find_upkeep, retain_by, retain_due, retirement_in, upkeep_at, upkeep_in}
+use Rattle.rt_state.specs.Replicas.{NodeBuilds, NodeConsumes, NodeForces, NodeStops}
+use Rattle.rt_state.specs.Requests.{AskStep, NodeAsks, NodeAsksFor, SendsAt, SendsRequest, sends}
+use Rattle.rt_state.specs.Room.{counted, no_cost, priced}
+use Rattle.rt_state.specs.Servers.{NodeLoads, NodeMoves, NodeSees}
+use Rattle.rt_state.specs.Shows.{ideal_shown, meta_shown}
+use Rattle.rt_state.specs.Start.{fresh_controller, fresh_controllers, fresh_upkeep, start}
 use Rattle.rt_world.specs.Step.{Steps}
-use Rattle.rt_world.specs.Stream.{produced}
-use Rattle.rt_world.specs.declared.controller_node.ControllerNode.{ControllerNode}
-use Rattle.rt_world.specs.declared.cost.Cost.{Cost}
-use Rattle.rt_world.specs.declared.server_node.ServerNode.{ServerNode}
-use Rattle.rt_world.specs.declared.state.State.{State}
-use Rattle.rt_world.specs.declared.upkeep.Upkeep.{Upkeep}
+use Rattle.rt_state.specs.Stream.{produced}
+use Rattle.rt_nodes.specs.declared.controller_node.ControllerNode.{ControllerNode}
+use Rattle.rt_state.specs.declared.cost.Cost.{Cost}
+use Rattle.rt_nodes.specs.declared.server_node.ServerNode.{ServerNode}
+use Rattle.rt_state.specs.declared.state.State.{State}
+use Rattle.rt_nodes.specs.declared.upkeep.Upkeep.{Upkeep}
 use Rattle.rt_world.proofs.KeepsQueries.{routed_reads}
 use Rattle.rt_world.proofs.Places.{at_none, at_push, at_set}
-use Rattle.rt_world.proofs.Possible.{only_passed, then_passed}
+use Rattle.rt_state.proofs.Possible.{only_passed, then_passed}
 use Rattle.rt_world.proofs.Quiet.{sees_quiet, transits_quiet}
 use Rattle.rt_world.proofs.Stores.{wrote_told}
 use Rattle.rt_safety.specs.Runs.{Turn, happens, passes, TurnsTo, Leads}

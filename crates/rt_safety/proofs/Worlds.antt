@@ -44,12 +44,12 @@ use Rattle.rt_server.proofs.LastingTargets.{done_stored}
 use Rattle.rt_store.specs.Contents.{starting_of}
 use Rattle.rt_stream.specs.Log.{messages_of}
 use Rattle.std.specs.Prelude.{IfSome, Ok}
-use Rattle.rt_world.specs.Finding.{replica_at, replica_in}
+use Rattle.rt_state.specs.Finding.{replica_at, replica_in}
 use Rattle.rt_safety.specs.IsRightReplica.{IsRightReplica}
-use Rattle.rt_world.specs.IsSafe.{past_of}
-use Rattle.rt_world.specs.IsSafeWorld.{IsSafeWorld}
-use Rattle.rt_world.specs.declared.server_node.ServerNode.{ServerNode}
-use Rattle.rt_world.specs.declared.state.State.{State}
+use Rattle.rt_state.specs.IsSafe.{past_of}
+use Rattle.rt_state.specs.IsSafeWorld.{IsSafeWorld}
+use Rattle.rt_nodes.specs.declared.server_node.ServerNode.{ServerNode}
+use Rattle.rt_state.specs.declared.state.State.{State}
 
 -- ---- partitions
 

@@ -16,8 +16,8 @@ use Rattle.rt_model.specs.declared.reply.Reply.{Reply}
 use Rattle.rt_model.specs.declared.sent.Sent.TheVariants as sent
 use Rattle.rt_events.specs.Fits.{Fits}
 use Rattle.rt_world.specs.Step.{Steps}
-use Rattle.rt_world.specs.declared.controller_node.ControllerNode.{ControllerNode}
-use Rattle.rt_world.specs.declared.state.State.{State}
+use Rattle.rt_nodes.specs.declared.controller_node.ControllerNode.{ControllerNode}
+use Rattle.rt_state.specs.declared.state.State.{State}
 
 -- ---- the job of a number, at a controller
 

@@ -8,8 +8,8 @@ use Rattle.rt_broker.specs.Asking.{Asking, assigned_at}
 use Rattle.rt_lists.specs.Members.{Has}
 use Rattle.rt_model.specs.RightAnswer.{IsRightAnswer}
 use Rattle.rt_model.specs.declared.answer.Answer.{Answer}
-use Rattle.rt_world.specs.Finding.{query_at}
-use Rattle.rt_world.specs.declared.state.State.{State}
+use Rattle.rt_state.specs.Finding.{query_at}
+use Rattle.rt_state.specs.declared.state.State.{State}
 
 -- the answer aggregates each row of the ranges that it names once, of the stream as it now is. A partition is missing only
 -- where its route met a fault, and a piece only where every assigned replica was asked for it, and was down or didn't serve it

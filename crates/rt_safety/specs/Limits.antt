@@ -10,12 +10,12 @@ use Rattle.rt_repair.specs.Repairing.{Repairing, set_entries as repair_sets}
 use Rattle.rt_repair.specs.Retirement.{Retirement, set_entries as retire_sets}
 use Rattle.rt_consumer.specs.Requests.{size_in}
 use Rattle.rt_consumer.specs.declared.consumer.Consumer.{Consumer}
-use Rattle.rt_world.specs.Finding.{replica_at}
-use Rattle.rt_world.specs.Jobs.{sets_of_job}
-use Rattle.rt_world.specs.Repairs.{upkeep_at, repair_in, retirement_in}
-use Rattle.rt_world.specs.Room.{no_cost, message_cost, upload_cost, query_cost, set_cost, time_cost}
-use Rattle.rt_world.specs.declared.cost.Cost.{Cost}
-use Rattle.rt_world.specs.declared.state.State.{State}
+use Rattle.rt_state.specs.Finding.{replica_at}
+use Rattle.rt_state.specs.Jobs.{sets_of_job}
+use Rattle.rt_state.specs.Repairs.{upkeep_at, repair_in, retirement_in}
+use Rattle.rt_state.specs.Room.{no_cost, message_cost, upload_cost, query_cost, set_cost, time_cost}
+use Rattle.rt_state.specs.declared.cost.Cost.{Cost}
+use Rattle.rt_state.specs.declared.state.State.{State}
 
 -- ---- what an event costs
 

@@ -3,11 +3,11 @@ use Rattle.std.specs.Prelude.{◌≡◌, List, [], ◌∷◌, Ok}
 use Rattle.rt_events.specs.declared.event.Event.{Event}
 use Rattle.rt_events.specs.declared.outcome.Outcome.{Outcome}
 use Rattle.rt_model.specs.declared.setup.Setup.{Setup}
-use Rattle.rt_world.specs.Clock.{Passes}
+use Rattle.rt_state.specs.Clock.{Passes}
 use Rattle.rt_events.specs.Fits.{Fits}
-use Rattle.rt_world.specs.Start.{start}
+use Rattle.rt_state.specs.Start.{start}
 use Rattle.rt_world.specs.Step.{Steps}
-use Rattle.rt_world.specs.declared.state.State.{State}
+use Rattle.rt_state.specs.declared.state.State.{State}
 
 -- a turn: an event that happened, with what came of it, or a line that is none and counts as one
 pub data Turn : Type 0 where

@@ -15,12 +15,12 @@ ghost use Rattle.rt_events.specs.declared.refusal.Refusal.TheVariants.{Memory};
 ghost use Rattle.rt_model.specs.Setup.{IsSetup};
 ghost use Rattle.rt_model.specs.declared.setup.Setup.{Setup};
 ghost use Rattle.rt_events.specs.Fits.{Fits};
-ghost use Rattle.rt_world.specs.Finding.{request_at};
-ghost use Rattle.rt_world.specs.IsSafeWorld.{IsSafeWorld};
-ghost use Rattle.rt_world.specs.Start.{start};
+ghost use Rattle.rt_state.specs.Finding.{request_at};
+ghost use Rattle.rt_state.specs.IsSafeWorld.{IsSafeWorld};
+ghost use Rattle.rt_state.specs.Start.{start};
 ghost use Rattle.rt_world.specs.Step.{Steps};
-ghost use Rattle.rt_world.specs.declared.controller_node.ControllerNode.{ControllerNode};
-ghost use Rattle.rt_world.specs.declared.state.State.{State};
+ghost use Rattle.rt_nodes.specs.declared.controller_node.ControllerNode.{ControllerNode};
+ghost use Rattle.rt_state.specs.declared.state.State.{State};
 
 /// Every event keeps a world safe, however it goes, until memory runs out.
 #[tactic(auto, using(rt_world::proofs::SafeSteps::steps_keep))]

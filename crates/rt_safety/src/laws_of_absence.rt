@@ -20,11 +20,11 @@ ghost use Rattle.rt_model.specs.declared.request.Request.{Request};
 ghost use Rattle.rt_model.specs.declared.setup.Setup.{Setup};
 ghost use Rattle.rt_safety.specs.Absent.{EndsNoSegment, FindsNone, ReadsNode, RepliesNoSegment, SetsDone};
 ghost use Rattle.rt_safety.specs.Runs.{Turn, Runs};
-ghost use Rattle.rt_world.specs.Finding.{request_at};
-ghost use Rattle.rt_world.specs.IsSafeWorld.{IsSafeWorld};
+ghost use Rattle.rt_state.specs.Finding.{request_at};
+ghost use Rattle.rt_state.specs.IsSafeWorld.{IsSafeWorld};
 ghost use Rattle.rt_world.specs.Step.{Steps};
-ghost use Rattle.rt_world.specs.declared.controller_node.ControllerNode.{ControllerNode};
-ghost use Rattle.rt_world.specs.declared.state.State.{State};
+ghost use Rattle.rt_nodes.specs.declared.controller_node.ControllerNode.{ControllerNode};
+ghost use Rattle.rt_state.specs.declared.state.State.{State};
 
 /// FAILED 4 is answered to a request exactly where its controller comes to read the segment's node, meets no fault in that, and
 /// there is no such node; and by a job exactly where its step `done` finds none.

@@ -4,9 +4,9 @@ ghost use Rattle.rt_base.specs.declared.which.Which.{Which};
 ghost use Rattle.rt_events.specs.declared.event.Event.{Event};
 ghost use Rattle.rt_events.specs.declared.refusal.Refusal.TheVariants.{Limit};
 ghost use Rattle.rt_safety.specs.Limits.{IsPassed, can_pass, cost_of};
-ghost use Rattle.rt_world.specs.IsSafeWorld.{IsSafeWorld};
+ghost use Rattle.rt_state.specs.IsSafeWorld.{IsSafeWorld};
 ghost use Rattle.rt_world.specs.Step.{due_of};
-ghost use Rattle.rt_world.specs.declared.state.State.{State};
+ghost use Rattle.rt_state.specs.declared.state.State.{State};
 
 /// An event is refused by a limit only where it would pass that very one, and it can pass but its own: each one that of events,
 /// `produce` that of a message, `report` that of uploads, `ask` that of queries, `job`, `repair` and `retain` that of entries, and

@@ -12,11 +12,11 @@ ghost use Rattle.rt_model.specs.declared.seg_meta.SeenMeta.{SeenMeta};
 ghost use Rattle.rt_model.specs.declared.sent.Sent.TheVariants as sent;
 ghost use Rattle.rt_model.specs.declared.setup.Setup.{Setup};
 ghost use Rattle.rt_past.specs.Segments.{WasDone};
-ghost use Rattle.rt_world.specs.IsSafeWorld.{IsSafeWorld};
+ghost use Rattle.rt_state.specs.IsSafeWorld.{IsSafeWorld};
 ghost use Rattle.rt_safety.specs.GoesOn.{GoesOn};
 ghost use Rattle.rt_safety.specs.Later.{KeepsCommitted};
 ghost use Rattle.rt_safety.specs.Runs.{Turn, Leads, Runs};
-ghost use Rattle.rt_world.specs.declared.state.State.{State};
+ghost use Rattle.rt_state.specs.declared.state.State.{State};
 
 /// Every world of every run of a cluster is safe, and so is each world to which a safe one goes on.
 #[tactic(auto, using(crate::proofs::Later::runs_are_safe, crate::proofs::Runs::leads_safe))]

@@ -34,16 +34,16 @@ ghost use Rattle.rt_server.specs.LastingRows.{AreRightRows, CommittedRows, IsRig
 ghost use Rattle.rt_server.specs.Serving.{serve};
 ghost use Rattle.rt_server.specs.Table.{entry_of, file_at};
 ghost use Rattle.rt_stream.specs.Log.{messages_of};
-ghost use Rattle.rt_world.specs.Finding.{replica_at};
+ghost use Rattle.rt_state.specs.Finding.{replica_at};
 ghost use Rattle.rt_safety.specs.IsAnswered.{IsAnswered};
 ghost use Rattle.rt_safety.specs.IsRightReplica.{IsRightReplica};
-ghost use Rattle.rt_world.specs.IsSafe.{past_of};
-ghost use Rattle.rt_world.specs.IsSafeWorld.{IsSafeWorld};
+ghost use Rattle.rt_state.specs.IsSafe.{past_of};
+ghost use Rattle.rt_state.specs.IsSafeWorld.{IsSafeWorld};
 ghost use Rattle.rt_safety.specs.Runs.{Turn, happens, TurnsTo, Runs};
-ghost use Rattle.rt_world.specs.Servers.{FindsItsFile};
+ghost use Rattle.rt_state.specs.Servers.{FindsItsFile};
 ghost use Rattle.rt_world.specs.Step.{Steps};
-ghost use Rattle.rt_world.specs.declared.server_node.ServerNode.{ServerNode};
-ghost use Rattle.rt_world.specs.declared.state.State.{State};
+ghost use Rattle.rt_nodes.specs.declared.server_node.ServerNode.{ServerNode};
+ghost use Rattle.rt_state.specs.declared.state.State.{State};
 
 /// Each partition has its chain of segments. The committed ones tile the partition's offsets from its mark on, none of them
 /// reaches past the end of the stream, and each has its file.
@@ -83,7 +83,7 @@ pub fn servers_have_the_rows_of_the_stream()
 {}
 
 /// No download meets another file than the one that its segment's commit names.
-#[tactic(auto, using(rt_world::proofs::NeedsServers::finds_its_file))]
+#[tactic(auto, using(rt_state::proofs::NeedsServers::finds_its_file))]
 pub fn no_download_meets_a_bad_file()
     ensures { (w : State) (i : Instance) (p : Partition) (q : Sequence) (n : ServerNode) → IsSafeWorld w
         → slice_get w.servers i.0 ≡ Some n → FindsItsFile w.deep n.server p q }

@@ -9,7 +9,7 @@ use Rattle.rt_schema.proofs.Lists.{drop_next, map_all_more, map_all_none}
 use Rattle.rt_views.specs.Plans.{ends_behind, first_of, or_else}
 use Rattle.rt_views.specs.Views.{all_from, found_from}
 use Rattle.rt_views.specs.declared.found.Found.{Found}
-use Rattle.rt_world.specs.declared.state.State.{State}
+use Rattle.rt_state.specs.declared.state.State.{State}
 
 pub in_order : (start : Offset) (end : Option Offset) → ends_behind start end ≡ true → IfSome end (λ e. start.0 ≤ e.0)
 in_order start None h = tt

@@ -11,7 +11,7 @@ use Rattle.rt_upconf.specs.declared.upsert_config.UpsertConfig.{UpsertConfig}
 use Rattle.rt_views.specs.Placing.{latest_viewed}
 use Rattle.rt_views.specs.Views.{routed_of, rows_viewed, views_each, views_whole}
 use Rattle.rt_views.specs.declared.view.View.{View}
-use Rattle.rt_world.specs.declared.state.State.{State}
+use Rattle.rt_state.specs.declared.state.State.{State}
 
 -- the ranges that were served and the pieces that were not, with these result rows
 abbrev pub answer_with : List View → List ResultRow → Answer

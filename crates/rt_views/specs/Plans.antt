@@ -9,7 +9,7 @@ use Rattle.rt_model.specs.Metadata.{metadata_of}
 use Rattle.rt_model.specs.Plan.{plan_of}
 use Rattle.rt_model.specs.declared.piece.Piece.{Piece}
 use Rattle.rt_world.specs.Reading.{rows_of_node}
-use Rattle.rt_world.specs.declared.state.State.{State}
+use Rattle.rt_state.specs.declared.state.State.{State}
 
 -- the present plan of a partition
 abbrev pub pieces_now : State → Partition → List Piece

@@ -16,7 +16,7 @@ use Rattle.rt_segment.specs.Segment.{kind_eq}
 use Rattle.rt_views.specs.Plans.{assigned_to, first_of, pieces_now, rows_from}
 use Rattle.rt_views.specs.declared.found.Found.{Found}
 use Rattle.rt_views.specs.declared.view.View.{View}
-use Rattle.rt_world.specs.declared.state.State.{State}
+use Rattle.rt_state.specs.declared.state.State.{State}
 
 -- ---- what is found
 

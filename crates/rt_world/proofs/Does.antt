@@ -6,17 +6,17 @@ use Rattle.rt_deep.specs.Meaning.{Told as ToldDeep}
 use Rattle.rt_events.specs.declared.outcome.Outcome.{Outcome}
 use Rattle.rt_past.specs.Past.{Past, with_history}
 use Rattle.rt_store.specs.Meaning.{Told}
-use Rattle.rt_world.specs.Applying.{Next}
-use Rattle.rt_world.specs.IsSafe.{IsServerAt, HasDrawn, IsSafeOver, past_of}
-use Rattle.rt_world.specs.IsSafeWorld.{IsFewOver, IsSafeWorld}
-use Rattle.rt_world.specs.Nodes.{ServerStep, ServerDoesAt, ServerDoes, ServerCallsAt, ServerCalls, ServerGetsAt, ServerGets}
-use Rattle.rt_world.specs.Room.{no_cost, priced, spent, counted}
-use Rattle.rt_world.specs.declared.cost.Cost.{Cost}
-use Rattle.rt_world.specs.declared.server_node.ServerNode.{ServerNode}
-use Rattle.rt_world.specs.declared.state.State.{State}
+use Rattle.rt_state.specs.Applying.{Next}
+use Rattle.rt_state.specs.IsSafe.{IsServerAt, HasDrawn, IsSafeOver, past_of}
+use Rattle.rt_state.specs.IsSafeWorld.{IsFewOver, IsSafeWorld}
+use Rattle.rt_state.specs.Nodes.{ServerStep, ServerDoesAt, ServerDoes, ServerCallsAt, ServerCalls, ServerGetsAt, ServerGets}
+use Rattle.rt_state.specs.Room.{no_cost, priced, spent, counted}
+use Rattle.rt_state.specs.declared.cost.Cost.{Cost}
+use Rattle.rt_nodes.specs.declared.server_node.ServerNode.{ServerNode}
+use Rattle.rt_state.specs.declared.state.State.{State}
 use Rattle.rt_world.proofs.Few.{GrowsFew, few_after, none_started}
 use Rattle.rt_world.proofs.KeepsClock.{free_keeps}
-use Rattle.rt_world.proofs.Possible.{HasRoom, priced_room}
+use Rattle.rt_state.proofs.Possible.{HasRoom, priced_room}
 use Rattle.rt_world.proofs.Sets.{drawn_same, safe_grows, server_set}
 use Rattle.rt_world.proofs.Stores.{WritesOn}
 

@@ -7,7 +7,7 @@ use Rattle.rt_events.specs.declared.refusal.Refusal.TheVariants.{Memory}
 use Rattle.rt_world.proofs.Refusing.{kept_refused}
 use Rattle.rt_world.specs.Kept.{Kept}
 use Rattle.rt_world.specs.Step.{Steps, StepsKept}
-use Rattle.rt_world.specs.declared.state.State.{State}
+use Rattle.rt_state.specs.declared.state.State.{State}
 
 abbrev refused : Refusal → Result Outcome Refusal
 refused e = Err e

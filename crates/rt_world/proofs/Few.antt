@@ -2,9 +2,9 @@
 use Rattle.std.proofs.Common.{◌≡◌, ℕ, ◌+◌, ◌≤◌, Bool, Result, Ok, Err, sym, ap, subst, length, arith}
 use Rattle.std.specs.Prelude.{slice_set}
 use Rattle.rt_base.specs.declared.numbers.ControllerId.{ControllerId}
-use Rattle.rt_world.specs.Nodes.{with_controller}
-use Rattle.rt_world.specs.Places.{AreAt}
-use Rattle.rt_world.specs.declared.controller_node.ControllerNode.{ControllerNode}
+use Rattle.rt_state.specs.Nodes.{with_controller}
+use Rattle.rt_state.specs.Places.{AreAt}
+use Rattle.rt_nodes.specs.declared.controller_node.ControllerNode.{ControllerNode}
 use Rattle.rt_world.proofs.Places.{at_set}
 use Rattle.rt_broker.specs.IsAsked.{messages_in}
 use Rattle.rt_events.specs.declared.outcome.Outcome.{Outcome}
@@ -12,13 +12,13 @@ use Rattle.rt_events.specs.declared.refusal.Refusal.{Refusal}
 use Rattle.rt_events.specs.declared.refusal.Refusal.TheVariants.{NoSuchMessage, NoSuchNode, NodeDown, NothingToDo, Limit, Memory}
 use Rattle.rt_model.specs.Starting.{starting_contents}
 use Rattle.rt_store.specs.Contents.{starting_of}
-use Rattle.rt_world.specs.Applying.{Next, Applies}
-use Rattle.rt_world.specs.IsSafe.{IsSafe}
-use Rattle.rt_world.specs.IsSafeWorld.{open_in, HasStarted, IsFew, IsSafeWorld}
-use Rattle.rt_world.specs.Room.{Due}
-use Rattle.rt_world.specs.declared.cost.Cost.{Cost}
-use Rattle.rt_world.specs.declared.state.State.{State}
-use Rattle.rt_world.proofs.Possible.{HasRoom}
+use Rattle.rt_state.specs.Applying.{Next, Applies}
+use Rattle.rt_state.specs.IsSafe.{IsSafe}
+use Rattle.rt_state.specs.IsSafeWorld.{open_in, HasStarted, IsFew, IsSafeWorld}
+use Rattle.rt_state.specs.Room.{Due}
+use Rattle.rt_state.specs.declared.cost.Cost.{Cost}
+use Rattle.rt_state.specs.declared.state.State.{State}
+use Rattle.rt_state.proofs.Possible.{HasRoom}
 
 -- a state has grown by one event of that cost, at most
 pub record GrowsFew (old new : State) (cost : Cost) : Type 0 where

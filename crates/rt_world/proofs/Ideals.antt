@@ -4,9 +4,9 @@ use Rattle.rt_model.proofs.Lawful.{has_ideal_state}
 use Rattle.rt_model.specs.declared.ideal_state.IdealState.{IdealState}
 use Rattle.rt_model.specs.declared.node.Seen.{Seen}
 use Rattle.rt_store.specs.Contents.{starting_of}
-use Rattle.rt_world.specs.IsSafeWorld.{IsSafeWorld}
+use Rattle.rt_state.specs.IsSafeWorld.{IsSafeWorld}
 use Rattle.rt_world.specs.Reading.{ideal_by, ideal_in, ideal_seen}
-use Rattle.rt_world.specs.declared.state.State.{State}
+use Rattle.rt_state.specs.declared.state.State.{State}
 
 pub always_ideal : (w : State) → IsSafeWorld w → (state : IdealState) × (ideal_in w ≡ Some state)
 always_ideal w s =

@@ -6,19 +6,19 @@ use Rattle.rt_controller.specs.Controller.{Controlling, believing}
 use Rattle.rt_controller.proofs.Lasts.{believes_over}
 use Rattle.rt_events.specs.declared.outcome.Outcome.{Outcome}
 use Rattle.rt_events.specs.declared.outcome.Outcome.TheVariants as told
-use Rattle.rt_world.specs.Applying.{Next, comes}
-use Rattle.rt_world.specs.Clock.{tick_due, ticked, lead_due, node_believing, Believes, fault_due, store_faulted, deep_faulted, pass_due}
-use Rattle.rt_world.specs.Finding.{find_controller}
-use Rattle.rt_world.specs.IsSafe.{IsSafe, IsControllerAt, past_of}
-use Rattle.rt_world.specs.IsSafeWorld.{IsFew, IsSafeWorld}
-use Rattle.rt_world.specs.Nodes.{with_controller, ControllerDoesAt, ControllerDoes}
-use Rattle.rt_world.specs.Room.{no_cost, time_cost, priced, counted}
-use Rattle.rt_world.specs.declared.controller_node.ControllerNode.{ControllerNode}
-use Rattle.rt_world.specs.declared.cost.Cost.{Cost}
-use Rattle.rt_world.specs.declared.state.State.{State}
+use Rattle.rt_state.specs.Applying.{Next, comes}
+use Rattle.rt_state.specs.Clock.{tick_due, ticked, lead_due, node_believing, Believes, fault_due, store_faulted, deep_faulted, pass_due}
+use Rattle.rt_state.specs.Finding.{find_controller}
+use Rattle.rt_state.specs.IsSafe.{IsSafe, IsControllerAt, past_of}
+use Rattle.rt_state.specs.IsSafeWorld.{IsFew, IsSafeWorld}
+use Rattle.rt_state.specs.Nodes.{with_controller, ControllerDoesAt, ControllerDoes}
+use Rattle.rt_state.specs.Room.{no_cost, time_cost, priced, counted}
+use Rattle.rt_nodes.specs.declared.controller_node.ControllerNode.{ControllerNode}
+use Rattle.rt_state.specs.declared.cost.Cost.{Cost}
+use Rattle.rt_state.specs.declared.state.State.{State}
 use Rattle.rt_world.proofs.Few.{GrowsFew, few_after, few_put, none_started}
 use Rattle.rt_world.proofs.Places.{at_set}
-use Rattle.rt_world.proofs.Possible.{then_passed, HasRoom, priced_room}
+use Rattle.rt_state.proofs.Possible.{then_passed, HasRoom, priced_room}
 
 -- an event that costs nothing, and leaves all but the counts
 pub counts_grow : (w : State) (cost : Cost) → IsFew w → no_cost ≡ cost → GrowsFew w (counted w cost) cost

@@ -16,21 +16,21 @@ use Rattle.rt_model.specs.declared.sent.Sent.TheVariants as sent
 use Rattle.rt_past.specs.Past.{Past, with_files, with_history, with_reply as past_with_reply}
 use Rattle.rt_store.specs.Meaning.{Told}
 use Rattle.rt_store.specs.Memory.{means}
-use Rattle.rt_world.specs.Applying.{Next}
-use Rattle.rt_world.specs.Finding.{has_controller, is_controller_up}
-use Rattle.rt_world.specs.IsSafe.{IsControllerAt, IsSafeOver, IsSafe, past_of}
-use Rattle.rt_world.specs.IsSafeWorld.{IsFew, IsSafeWorld}
-use Rattle.rt_world.specs.Jobs.{has_job, sets_of_job, job_due, noted_set, stepped_by, stepped, JobStepsAt, JobSteps}
-use Rattle.rt_world.specs.Messages.{after_step}
-use Rattle.rt_world.specs.Room.{set_cost, priced, with_set}
-use Rattle.rt_world.specs.declared.controller_node.ControllerNode.{ControllerNode}
-use Rattle.rt_world.specs.declared.cost.Cost.{Cost}
-use Rattle.rt_world.specs.declared.counts.Counts.{Counts}
-use Rattle.rt_world.specs.declared.state.State.{State}
+use Rattle.rt_state.specs.Applying.{Next}
+use Rattle.rt_state.specs.Finding.{has_controller, is_controller_up}
+use Rattle.rt_state.specs.IsSafe.{IsControllerAt, IsSafeOver, IsSafe, past_of}
+use Rattle.rt_state.specs.IsSafeWorld.{IsFew, IsSafeWorld}
+use Rattle.rt_state.specs.Jobs.{has_job, sets_of_job, job_due, noted_set, stepped_by, stepped, JobStepsAt, JobSteps}
+use Rattle.rt_state.specs.Messages.{after_step}
+use Rattle.rt_state.specs.Room.{set_cost, priced, with_set}
+use Rattle.rt_nodes.specs.declared.controller_node.ControllerNode.{ControllerNode}
+use Rattle.rt_state.specs.declared.cost.Cost.{Cost}
+use Rattle.rt_state.specs.declared.counts.Counts.{Counts}
+use Rattle.rt_state.specs.declared.state.State.{State}
 use Rattle.rt_world.proofs.JobCounts.{works_started}
 use Rattle.rt_world.proofs.Few.{GrowsFew, few_after, one_started}
 use Rattle.rt_world.proofs.KeepsMessages.{reply_grows, stepped_at}
-use Rattle.rt_world.proofs.Possible.{only_passed, HasRoom, priced_room}
+use Rattle.rt_state.proofs.Possible.{only_passed, HasRoom, priced_room}
 use Rattle.rt_world.proofs.Sets.{drawn_same, safe_grows, controller_set}
 
 -- ---- what a step sets is counted

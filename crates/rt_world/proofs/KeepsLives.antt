@@ -18,18 +18,18 @@ use Rattle.rt_server.proofs.LastingGrows.{server_grows}
 use Rattle.rt_server.proofs.LastingNeeds.{restarts_drawn}
 use Rattle.rt_store.specs.Meaning.{Meaning, Told}
 use Rattle.rt_store.specs.Memory.{means}
-use Rattle.rt_world.specs.Applying.{Next}
-use Rattle.rt_world.specs.Finding.{has_server, is_server_up, is_up, has_controller, is_controller_up, find_controller}
-use Rattle.rt_world.specs.IsSafe.{IsServerAt, IsControllerAt, past_of}
-use Rattle.rt_world.specs.IsSafeWorld.{IsSafeWorld}
-use Rattle.rt_world.specs.Lives.{crash_server_due, node_crashed, NodeCrashes, ServerCrashes, crash_controller_due, controller_crashed, ControllerCrashes, restart_server_due, NodeRestarts, ServerRestarts, restart_controller_due, controller_restarted, ControllerRestarts}
-use Rattle.rt_world.specs.Room.{only_if, no_cost, priced}
-use Rattle.rt_world.specs.declared.cost.Cost.{Cost}
-use Rattle.rt_world.specs.declared.server_node.ServerNode.{ServerNode}
-use Rattle.rt_world.specs.declared.state.State.{State}
+use Rattle.rt_state.specs.Applying.{Next}
+use Rattle.rt_state.specs.Finding.{has_server, is_server_up, is_up, has_controller, is_controller_up, find_controller}
+use Rattle.rt_state.specs.IsSafe.{IsServerAt, IsControllerAt, past_of}
+use Rattle.rt_state.specs.IsSafeWorld.{IsSafeWorld}
+use Rattle.rt_state.specs.Lives.{crash_server_due, node_crashed, NodeCrashes, ServerCrashes, crash_controller_due, controller_crashed, ControllerCrashes, restart_server_due, NodeRestarts, ServerRestarts, restart_controller_due, controller_restarted, ControllerRestarts}
+use Rattle.rt_state.specs.Room.{only_if, no_cost, priced}
+use Rattle.rt_state.specs.declared.cost.Cost.{Cost}
+use Rattle.rt_nodes.specs.declared.server_node.ServerNode.{ServerNode}
+use Rattle.rt_state.specs.declared.state.State.{State}
 use Rattle.rt_world.proofs.Does.{IsServerOf, server_does_keeps, ServerWrites, server_calls_keeps}
 use Rattle.rt_world.proofs.KeepsClock.{controller_does_keeps}
-use Rattle.rt_world.proofs.Possible.{only_passed, then_passed}
+use Rattle.rt_state.proofs.Possible.{only_passed, then_passed}
 use Rattle.rt_world.proofs.Stores.{WritesOn, wrote_told, writes_called}
 
 -- ---- crashes

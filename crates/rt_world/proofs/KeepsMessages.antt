@@ -30,21 +30,21 @@ use Rattle.rt_server.specs.Lasting.{IsEmpty}
 use Rattle.rt_server.proofs.LastingCalls.{replies_over}
 use Rattle.rt_store.specs.Meaning.{Told}
 use Rattle.rt_store.specs.Memory.{means}
-use Rattle.rt_world.specs.Applying.{Next}
-use Rattle.rt_world.specs.Finding.{has_controller, is_controller_up, is_server_up, request_in, request_at, reply_in, reply_at}
-use Rattle.rt_world.specs.IsSafe.{IsControllerAt, IsSafeOver, IsSafe, past_of}
-use Rattle.rt_world.specs.IsSafeWorld.{IsFew, IsSafeWorld}
-use Rattle.rt_world.specs.Messages.{deliver_due, handed, after_step, DeliversAt, Delivers, reply_by, reply_due, node_took, RepliesAt, Replies}
-use Rattle.rt_world.specs.Room.{only_if, no_cost, priced}
-use Rattle.rt_world.specs.declared.controller_node.ControllerNode.{ControllerNode}
-use Rattle.rt_world.specs.declared.cost.Cost.{Cost}
-use Rattle.rt_world.specs.declared.server_node.ServerNode.{ServerNode}
-use Rattle.rt_world.specs.declared.state.State.{State}
+use Rattle.rt_state.specs.Applying.{Next}
+use Rattle.rt_state.specs.Finding.{has_controller, is_controller_up, is_server_up, request_in, request_at, reply_in, reply_at}
+use Rattle.rt_state.specs.IsSafe.{IsControllerAt, IsSafeOver, IsSafe, past_of}
+use Rattle.rt_state.specs.IsSafeWorld.{IsFew, IsSafeWorld}
+use Rattle.rt_state.specs.Messages.{deliver_due, handed, after_step, DeliversAt, Delivers, reply_by, reply_due, node_took, RepliesAt, Replies}
+use Rattle.rt_state.specs.Room.{only_if, no_cost, priced}
+use Rattle.rt_nodes.specs.declared.controller_node.ControllerNode.{ControllerNode}
+use Rattle.rt_state.specs.declared.cost.Cost.{Cost}
+use Rattle.rt_nodes.specs.declared.server_node.ServerNode.{ServerNode}
+use Rattle.rt_state.specs.declared.state.State.{State}
 use Rattle.rt_world.proofs.Does.{IsServerOf, server_does_keeps}
-use Rattle.rt_world.proofs.Bounds.{few_writes}
+use Rattle.rt_state.proofs.Bounds.{few_writes}
 use Rattle.rt_world.proofs.JobCounts.{handles_started}
 use Rattle.rt_world.proofs.Few.{GrowsFew, few_after, one_started}
-use Rattle.rt_world.proofs.Possible.{only_passed, HasRoom, priced_room}
+use Rattle.rt_state.proofs.Possible.{only_passed, HasRoom, priced_room}
 use Rattle.rt_world.proofs.Sets.{drawn_same, drawn_replied, safe_grows, controller_set}
 use Rattle.rt_world.proofs.Topics.{controller_at_grows}
 

@@ -1,103 +1,47 @@
 -- A step of a repair, and one of a retirement, keeps a world safe.
-use Rattle.std.proofs.Common.{◌≡◌, ℕ, ◌+◌, ◌<◌, ◌≤◌, Bool, true, false, cond, List, Result, Ok, Option, Some, None, refl, sym, ◌∙◌, ap, subst, slice_get, length, nat_lt, arith, ◌&&◌}
+use Rattle.std.proofs.Common.{◌≡◌, ℕ, ◌+◌, ◌<◌, ◌≤◌, Bool, true, false, cond, Ok, Option, Some, None, refl, sym, ◌∙◌, ap, subst, slice_get, length, arith, ◌&&◌}
 use Rattle.std.specs.Prelude.{slice_set, IfSome, is_some}
 use Rattle.std.proofs.lemmas.Bool.{ltb-true, and_parts, true≢false}
 use Rattle.std.proofs.lemmas.List.{length-set}
 use Rattle.rt_base.specs.declared.numbers.ControllerId.{ControllerId}
-use Rattle.rt_base.specs.declared.numbers.Moment.{Moment}
 use Rattle.rt_base.specs.declared.numbers.Partition.{Partition}
-use Rattle.rt_events.specs.declared.refusal.Refusal.TheVariants.{NoSuchNode, NodeDown, NothingToDo}
-use Rattle.rt_model.specs.declared.decision.Decision.{Decision}
-use Rattle.rt_model.specs.declared.decision.Decision.TheVariants as decision
-use Rattle.rt_model.specs.declared.node.Seen.{Seen}
+use Rattle.rt_events.specs.declared.refusal.Refusal.TheVariants.{NoSuchNode, NothingToDo}
 use Rattle.rt_model.specs.declared.setup.Setup.{Setup}
-use Rattle.rt_model.specs.Lawful.{Write}
 use Rattle.rt_past.specs.IsPast.{IsPast, GrowsRight}
 use Rattle.rt_past.specs.Past.{Past, Grows, with_history}
-use Rattle.rt_repair.specs.declared.read_node.ReadNode.{ReadNode}
 use Rattle.rt_repair.specs.declared.repair.RepairStage.{RepairStage}
 use Rattle.rt_repair.specs.declared.repair.RepairStage.TheVariants as repair
 use Rattle.rt_repair.specs.declared.repair_step.RepairStep.{RepairStep}
 use Rattle.rt_repair.specs.declared.retirement.RetireStage.{RetireStage}
 use Rattle.rt_repair.specs.declared.retirement.RetireStage.TheVariants as retirement
 use Rattle.rt_repair.specs.declared.retiring.RetireStep.{RetireStep}
-use Rattle.rt_repair.specs.declared.retiring.Retiring.{Retiring}
-use Rattle.rt_repair.specs.declared.retiring.Retiring.TheVariants as decided
 use Rattle.rt_repair.specs.Lasting.{IsRepairOver, IsRetireOver}
 use Rattle.rt_repair.specs.RepairSteps as of_repair
 use Rattle.rt_repair.specs.RetireSteps as of_retire
-use Rattle.rt_repair.specs.Repairing.{Repairing, is_ended, IsUnended as IsUnendedRepair, decision_at, create_write, ideal_write, abandon_write, set_entries}
-use Rattle.rt_repair.specs.Retirement.{Retirement, is_ended as retire_is_ended, IsUnended as IsUnendedRetirement, retiring_at, remove_write, delete_write, set_entries as retire_sets}
-use Rattle.rt_repair.specs.Told.{repair_set, repair_done, repair_at, repair_stepped, retire_deleted, retire_done, retire_at, retire_stepped}
+use Rattle.rt_repair.specs.Repairing.{Repairing, is_ended, IsUnended as IsUnendedRepair, set_entries}
+use Rattle.rt_repair.specs.Retirement.{Retirement, is_ended as retire_is_ended, IsUnended as IsUnendedRetirement, set_entries as retire_sets}
 use Rattle.rt_repair.proofs.Growing.{repair_lasts, retire_lasts, repair_begins_over, retire_begins_over}
 use Rattle.rt_repair.proofs.RightRepair.{repair_past, repair_kept}
 use Rattle.rt_repair.proofs.RightRetire.{retire_past, retire_kept}
 use Rattle.rt_repair.proofs.Telling.{told_repair, told_retire}
-use Rattle.rt_store.specs.Answers.{after_call}
-use Rattle.rt_store.specs.Calls.{told_on}
 use Rattle.rt_store.specs.Meaning.{Told}
-use Rattle.rt_store.specs.declared.refused.StoreRefused.{StoreRefused}
-use Rattle.rt_store.proofs.Told.{leaves_on, read_same}
-use Rattle.rt_world.specs.Applying.{Next}
-use Rattle.rt_world.specs.Finding.{has_controller, has_partition, is_controller_up}
-use Rattle.rt_world.specs.IsSafe.{IsUpkeepAt, IsControllerAt, IsSafeOver, IsSafe, past_of}
-use Rattle.rt_world.specs.IsSafeWorld.{IsFew, IsSafeWorld}
-use Rattle.rt_world.specs.Repairs.{upkeep_in, upkeep_at, believes_at, find_upkeep, after_upkeep, repair_by, repair_in, repair_due, begun, going_on, UpkeepRepairs, RepairsAt, Repairs, retain_by, retirement_in, retain_due, retiring, retiring_on, UpkeepRetires, RetiresAt, Retires}
-use Rattle.rt_world.specs.Room.{only_if, set_cost, no_cost, priced}
-use Rattle.rt_world.specs.declared.controller_node.ControllerNode.{ControllerNode}
-use Rattle.rt_world.specs.declared.cost.Cost.{Cost}
-use Rattle.rt_world.specs.declared.state.State.{State}
-use Rattle.rt_world.specs.declared.upkeep.Upkeep.{Upkeep}
-use Rattle.rt_world.proofs.Few.{GrowsFew, few_after, one_started}
+use Rattle.rt_state.specs.Applying.{Next}
+use Rattle.rt_state.specs.Finding.{has_controller, has_partition}
+use Rattle.rt_state.specs.IsSafe.{IsUpkeepAt, IsSafe, past_of}
+use Rattle.rt_state.specs.IsSafeWorld.{IsSafeWorld}
+use Rattle.rt_state.specs.Repairs.{upkeep_in, upkeep_at, believes_at, find_upkeep, after_upkeep, repair_by, repair_in, repair_due, begun, going_on, UpkeepRepairs, RepairsAt, Repairs, retain_by, retirement_in, retain_due, retiring, retiring_on, UpkeepRetires, RetiresAt, Retires}
+use Rattle.rt_state.specs.Room.{set_cost, no_cost, priced}
+use Rattle.rt_nodes.specs.declared.controller_node.ControllerNode.{ControllerNode}
+use Rattle.rt_state.specs.declared.cost.Cost.{Cost}
+use Rattle.rt_state.specs.declared.state.State.{State}
+use Rattle.rt_nodes.specs.declared.upkeep.Upkeep.{Upkeep}
+use Rattle.rt_world.proofs.Few.{few_after, one_started}
 use Rattle.rt_world.proofs.KeepsJobs.{set_counted}
 use Rattle.rt_world.proofs.Places.{at_set}
-use Rattle.rt_world.proofs.Possible.{came, only_passed, then_passed, HasRoom, priced_room}
+use Rattle.rt_state.proofs.Possible.{came, only_passed, then_passed, HasRoom, priced_room}
 use Rattle.rt_world.proofs.Sets.{drawn_same, safe_grows, controller_set}
-use Rattle.rt_world.proofs.Stores.{one_more}
 use Rattle.rt_world.proofs.Topics.{if_some, controller_at_grows}
-
--- ---- a step writes once at most
-
-read_few : (t : Told) → length (told_on t (λ base. base)).writes ≤ length t.writes + 1
-read_few t = omega (arith, ap (λ (h : List Seen). length h) (read_same t))
-
-called_few : (t : Told) (call : Write) → length (told_on t (after_call call)).writes ≤ length t.writes + 1
-called_few t call = one_more call t.writes (told_on t (after_call call)).writes (leaves_on t call)
-
-set_few : (t : Told) (r : Repairing) (tell : Result ℕ StoreRefused → Option RepairStep) (call : Option Write)
-    → length (repair_set t r tell call).told.writes ≤ length t.writes + 1
-set_few t r tell None = omega arith
-set_few t r tell (Some call) = called_few t call
-
-done_few : (t : Told) (r : Repairing) (now : Moment) (last : Option ReadNode) (follows : Bool) (ideal : Seen) (d : Decision)
-    → length (repair_done t r now last follows ideal d).told.writes ≤ length t.writes + 1
-done_few t r now last follows ideal decision.Nothing = omega arith
-done_few t r now last follows ideal (decision.Create s start) = called_few t (create_write r now s start last)
-done_few t r now last follows ideal (decision.AddToIdeal s) = set_few t r of_repair.ideal_set (ideal_write r s follows ideal)
-done_few t r now last follows ideal (decision.Abandon s) = set_few t r (of_repair.abandoned s) (abandon_write now last)
-
-repair_few : (t : Told) (r : Repairing) (now : Moment) (stage : RepairStage) → length (repair_at t r now stage).told.writes ≤ length t.writes + 1
-repair_few t r now repair.Listing = read_few t
-repair_few t r now (repair.Reading last follows) = read_few t
-repair_few t r now (repair.Writing last follows ideal) = done_few t r now last follows ideal (decision_at r now last ideal)
-repair_few t r now repair.Ended = omega arith
-
-deleted_few : (t : Told) (r : Retirement) (tell : Result (Unit {0}) StoreRefused → Option RetireStep) (call : Option Write)
-    → length (retire_deleted t r tell call).told.writes ≤ length t.writes + 1
-deleted_few t r tell None = omega arith
-deleted_few t r tell (Some call) = called_few t call
-
-retired_few : (t : Told) (r : Retirement) (lowest : Option ReadNode) (ideal : Seen) (d : Retiring)
-    → length (retire_done t r lowest ideal d).told.writes ≤ length t.writes + 1
-retired_few t r lowest ideal decided.Nothing = omega arith
-retired_few t r lowest ideal (decided.Remove s) = called_few t (remove_write r s ideal)
-retired_few t r lowest ideal (decided.Delete s) = deleted_few t r (of_retire.deleted s) (delete_write lowest)
-
-retire_few : (t : Told) (r : Retirement) (now : Moment) (stage : RetireStage) → length (retire_at t r now stage).told.writes ≤ length t.writes + 1
-retire_few t r now retirement.Listing = read_few t
-retire_few t r now (retirement.Reading lowest) = read_few t
-retire_few t r now (retirement.Writing lowest ideal) = retired_few t r lowest ideal (retiring_at r now lowest ideal)
-retire_few t r now retirement.Ended = omega arith
+use Rattle.rt_world.proofs.WritesOnce.{repair_few, retire_few}
 
 -- ---- what is under way is put back
 

@@ -15,24 +15,24 @@ use Rattle.rt_consumer.specs.Requests.{size_in}
 use Rattle.rt_consumer.specs.declared.consumer.Consumer.{Consumer}
 use Rattle.rt_server.proofs.LastingTold.{asks_for_right, asks_right}
 use Rattle.rt_server.specs.Lasting.{SendsRight}
-use Rattle.rt_world.proofs.Bounds.{few_sent}
-use Rattle.rt_world.proofs.Dues.{replica_due_is, server_there}
+use Rattle.rt_state.proofs.Bounds.{few_sent}
+use Rattle.rt_state.proofs.Dues.{replica_due_is, server_there}
 use Rattle.rt_world.proofs.Few.{few_after, none_started}
 use Rattle.rt_world.proofs.KeepsServers.{not_down, up_there}
 use Rattle.rt_world.proofs.Places.{at_set}
-use Rattle.rt_world.proofs.Possible.{HasRoom, only_passed, priced_room, then_passed}
+use Rattle.rt_state.proofs.Possible.{HasRoom, only_passed, priced_room, then_passed}
 use Rattle.rt_world.proofs.Topics.{controllers_grow, queries_grow, servers_grow}
-use Rattle.rt_world.specs.Applying.{Next}
-use Rattle.rt_world.specs.Finding.{find_server, is_server_up, replica_at}
-use Rattle.rt_world.specs.IsSafe.{HasDrawn, IsSafe, IsServerAt, past_of}
-use Rattle.rt_world.specs.IsSafeWorld.{IsSafeWorld}
-use Rattle.rt_world.specs.Nodes.{with_server}
-use Rattle.rt_world.specs.Places.{AreAt}
-use Rattle.rt_world.specs.Requests.{AskStep, Extends, NodeAsks, NodeAsksFor, Reports, SendsAt, asks_due, extend_due, extends_now, report_by, report_due, sends}
-use Rattle.rt_world.specs.Room.{counted, priced, upload_cost}
-use Rattle.rt_world.specs.declared.cost.Cost.{Cost}
-use Rattle.rt_world.specs.declared.server_node.ServerNode.{ServerNode}
-use Rattle.rt_world.specs.declared.state.State.{State}
+use Rattle.rt_state.specs.Applying.{Next}
+use Rattle.rt_state.specs.Finding.{find_server, is_server_up, replica_at}
+use Rattle.rt_state.specs.IsSafe.{HasDrawn, IsSafe, IsServerAt, past_of}
+use Rattle.rt_state.specs.IsSafeWorld.{IsSafeWorld}
+use Rattle.rt_state.specs.Nodes.{with_server}
+use Rattle.rt_state.specs.Places.{AreAt}
+use Rattle.rt_state.specs.Requests.{AskStep, Extends, NodeAsks, NodeAsksFor, Reports, SendsAt, asks_due, extend_due, extends_now, report_by, report_due, sends}
+use Rattle.rt_state.specs.Room.{counted, priced, upload_cost}
+use Rattle.rt_state.specs.declared.cost.Cost.{Cost}
+use Rattle.rt_nodes.specs.declared.server_node.ServerNode.{ServerNode}
+use Rattle.rt_state.specs.declared.state.State.{State}
 
 -- ---- one item is put, and all others have something else
 

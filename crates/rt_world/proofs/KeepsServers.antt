@@ -20,22 +20,22 @@ use Rattle.rt_store.specs.Meaning.{Told}
 use Rattle.rt_store.specs.Memory.{means}
 use Rattle.rt_stream.specs.Feed.{log_meaning}
 use Rattle.rt_stream.specs.Log.{Log}
-use Rattle.rt_world.specs.Applying.{Next}
-use Rattle.rt_world.specs.Finding.{find_server, has_server, is_server_up, is_up}
-use Rattle.rt_world.specs.IsSafe.{IsSafeOver, past_of}
-use Rattle.rt_world.specs.IsSafeWorld.{IsFewOver, IsSafeWorld}
-use Rattle.rt_world.specs.Nodes.{ServerFetches, ServerFetchesAt, ServerStep}
-use Rattle.rt_world.specs.Replicas.{Builds, Consumes, Forces, NodeBuilds, NodeConsumes, NodeForces, NodeStops, Stops, build_due, builds_now, consume_due, force_due, forces_now, stop_due, stops_now, takes_now}
-use Rattle.rt_world.specs.Room.{no_cost, only_if, priced, spent}
-use Rattle.rt_world.specs.Servers.{Loads, Moves, NodeLoads, NodeMoves, NodeSees, Sees, download_due, moves_at, see_due, transit_due, wants_at}
-use Rattle.rt_world.specs.declared.cost.Cost.{Cost}
-use Rattle.rt_world.specs.declared.server_node.ServerNode.{ServerNode}
-use Rattle.rt_world.specs.declared.state.State.{State}
+use Rattle.rt_state.specs.Applying.{Next}
+use Rattle.rt_state.specs.Finding.{find_server, has_server, is_server_up, is_up}
+use Rattle.rt_state.specs.IsSafe.{IsSafeOver, past_of}
+use Rattle.rt_state.specs.IsSafeWorld.{IsFewOver, IsSafeWorld}
+use Rattle.rt_state.specs.Nodes.{ServerFetches, ServerFetchesAt, ServerStep}
+use Rattle.rt_state.specs.Replicas.{Builds, Consumes, Forces, NodeBuilds, NodeConsumes, NodeForces, NodeStops, Stops, build_due, builds_now, consume_due, force_due, forces_now, stop_due, stops_now, takes_now}
+use Rattle.rt_state.specs.Room.{no_cost, only_if, priced, spent}
+use Rattle.rt_state.specs.Servers.{Loads, Moves, NodeLoads, NodeMoves, NodeSees, Sees, download_due, moves_at, see_due, transit_due, wants_at}
+use Rattle.rt_state.specs.declared.cost.Cost.{Cost}
+use Rattle.rt_nodes.specs.declared.server_node.ServerNode.{ServerNode}
+use Rattle.rt_state.specs.declared.state.State.{State}
 use Rattle.rt_world.proofs.Does.{IsServerOf, ServerWrites, server_calls_keeps, server_does_keeps, server_gets_keeps, server_of}
-use Rattle.rt_world.proofs.Dues.{replica_due_is, server_there}
+use Rattle.rt_state.proofs.Dues.{replica_due_is, server_there}
 use Rattle.rt_world.proofs.KeepsClock.{free_keeps}
 use Rattle.rt_world.proofs.Quiet.{downloads_quiet, sees_quiet, takes_quiet, transits_quiet}
-use Rattle.rt_world.proofs.Possible.{only_passed, then_passed}
+use Rattle.rt_state.proofs.Possible.{only_passed, then_passed}
 use Rattle.rt_world.proofs.Sets.{server_set}
 use Rattle.rt_world.proofs.Stores.{writes_same}
 use Rattle.rt_world.proofs.Topics.{server_at_grows}

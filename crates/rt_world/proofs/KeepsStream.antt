@@ -9,18 +9,18 @@ use Rattle.rt_past.specs.Past.{with_log}
 use Rattle.rt_past.proofs.Ways.{past_logs}
 use Rattle.rt_stream.specs.Log.{Log, with_message}
 use Rattle.rt_stream.proofs.Growth.{log_message}
-use Rattle.rt_world.specs.Applying.{Next, comes}
-use Rattle.rt_world.specs.Finding.{has_partition}
-use Rattle.rt_world.specs.IsSafe.{past_of}
-use Rattle.rt_world.specs.IsSafeWorld.{IsSafeWorld}
-use Rattle.rt_world.specs.Room.{only_if, no_cost, message_cost, priced}
-use Rattle.rt_world.specs.Shows.{show_meta_due, meta_shown, show_ideal_due, ideal_shown}
-use Rattle.rt_world.specs.Stream.{produce_due, produced}
-use Rattle.rt_world.specs.declared.cost.Cost.{Cost}
-use Rattle.rt_world.specs.declared.state.State.{State}
+use Rattle.rt_state.specs.Applying.{Next, comes}
+use Rattle.rt_state.specs.Finding.{has_partition}
+use Rattle.rt_state.specs.IsSafe.{past_of}
+use Rattle.rt_state.specs.IsSafeWorld.{IsSafeWorld}
+use Rattle.rt_state.specs.Room.{only_if, no_cost, message_cost, priced}
+use Rattle.rt_state.specs.Shows.{show_meta_due, meta_shown, show_ideal_due, ideal_shown}
+use Rattle.rt_state.specs.Stream.{produce_due, produced}
+use Rattle.rt_state.specs.declared.cost.Cost.{Cost}
+use Rattle.rt_state.specs.declared.state.State.{State}
 use Rattle.rt_world.proofs.Few.{few_after, none_started}
 use Rattle.rt_world.proofs.KeepsClock.{free_keeps}
-use Rattle.rt_world.proofs.Possible.{only_passed, HasRoom, priced_room}
+use Rattle.rt_state.proofs.Possible.{only_passed, HasRoom, priced_room}
 use Rattle.rt_world.proofs.Sets.{drawn_same, safe_grows}
 
 abbrev numbered : ℕ → Partition

@@ -3,7 +3,7 @@ use Rattle.std.proofs.Common.{◌≡◌, ℕ, zero, suc, ◌⊎◌, inl, inr, Li
 use Rattle.std.specs.Prelude.{slice_set}
 use Rattle.std.proofs.lemmas.Option.{same_Some, none-some}
 use Rattle.rt_broker.proofs.Lasting.{got_of_set}
-use Rattle.rt_world.specs.Places.{AreAt}
+use Rattle.rt_state.specs.Places.{AreAt}
 
 pub at_weaker : {X : Type 0} (P Q : ℕ → X → Type 0) → ((i : ℕ) (x : X) → P i x → Q i x) → (xs : List X) → AreAt P xs → AreAt Q xs
 at_weaker P Q f xs a i x e = f i x (a i x e)

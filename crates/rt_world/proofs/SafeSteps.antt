@@ -5,13 +5,13 @@ use Rattle.rt_events.specs.declared.event.Event.TheVariants as event
 use Rattle.rt_events.specs.declared.outcome.Outcome.{Outcome}
 use Rattle.rt_events.specs.declared.refusal.Refusal.{Refusal}
 use Rattle.rt_events.specs.declared.refusal.Refusal.TheVariants.{Memory}
-use Rattle.rt_world.specs.Applying.{Next, Applies}
+use Rattle.rt_state.specs.Applying.{Next, Applies}
 use Rattle.rt_events.specs.Fits.{Fits}
-use Rattle.rt_world.specs.IsSafeWorld.{IsSafeWorld}
-use Rattle.rt_world.specs.Room.{Due}
+use Rattle.rt_state.specs.IsSafeWorld.{IsSafeWorld}
+use Rattle.rt_state.specs.Room.{Due}
 use Rattle.rt_world.specs.Step.{Steps}
-use Rattle.rt_world.specs.declared.cost.Cost.{Cost}
-use Rattle.rt_world.specs.declared.state.State.{State}
+use Rattle.rt_state.specs.declared.cost.Cost.{Cost}
+use Rattle.rt_state.specs.declared.state.State.{State}
 use Rattle.rt_world.proofs.Few.{refused, applied_is_safe}
 use Rattle.rt_world.proofs.KeepsClock.{tick_keeps, fault_keeps, deep_fault_keeps, lead_keeps}
 use Rattle.rt_world.proofs.KeepsJobs.{job_keeps}

@@ -10,10 +10,10 @@ use Rattle.rt_past.specs.IsPast.{IsPast}
 use Rattle.rt_past.specs.Past.{Past, Grows, with_reply}
 use Rattle.rt_past.specs.Requests.{AreDrawn}
 use Rattle.rt_past.proofs.Numbers.{drawn_reply}
-use Rattle.rt_world.specs.IsSafe.{IsServerAt, HasDrawn, IsControllerAt, IsQueryAt, IsSafeOver}
-use Rattle.rt_world.specs.Places.{AreAt}
-use Rattle.rt_world.specs.declared.controller_node.ControllerNode.{ControllerNode}
-use Rattle.rt_world.specs.declared.server_node.ServerNode.{ServerNode}
+use Rattle.rt_state.specs.IsSafe.{IsServerAt, HasDrawn, IsControllerAt, IsQueryAt, IsSafeOver}
+use Rattle.rt_state.specs.Places.{AreAt}
+use Rattle.rt_nodes.specs.declared.controller_node.ControllerNode.{ControllerNode}
+use Rattle.rt_nodes.specs.declared.server_node.ServerNode.{ServerNode}
 use Rattle.rt_world.proofs.Places.{at_weaker, at_set, at_push}
 use Rattle.rt_world.proofs.Topics.{servers_grow, controllers_grow, queries_grow}
 

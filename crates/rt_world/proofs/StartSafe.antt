@@ -16,11 +16,11 @@ use Rattle.rt_model.specs.Setup.{IsSetup}
 use Rattle.rt_past.specs.IsPast.{fresh_past}
 use Rattle.rt_past.proofs.Starts.{past_starts}
 use Rattle.rt_server.proofs.LastingStarts.{fresh_over}
-use Rattle.rt_world.specs.IsSafe.{IsServerAt, HasDrawn, IsUpkeepAt, IsControllerAt, IsQueryAt}
-use Rattle.rt_world.specs.IsSafeWorld.{HasStarted, IsSafeWorld}
-use Rattle.rt_world.specs.Places.{AreAt}
-use Rattle.rt_world.specs.Start.{start, fresh_server, fresh_servers, fresh_upkeep, fresh_controlling, fresh_controller, fresh_controllers}
-use Rattle.rt_world.specs.declared.upkeep.Upkeep.{Upkeep}
+use Rattle.rt_state.specs.IsSafe.{IsServerAt, HasDrawn, IsUpkeepAt, IsControllerAt, IsQueryAt}
+use Rattle.rt_state.specs.IsSafeWorld.{HasStarted, IsSafeWorld}
+use Rattle.rt_state.specs.Places.{AreAt}
+use Rattle.rt_state.specs.Start.{start, fresh_server, fresh_servers, fresh_upkeep, fresh_controlling, fresh_controller, fresh_controllers}
+use Rattle.rt_nodes.specs.declared.upkeep.Upkeep.{Upkeep}
 use Rattle.rt_world.proofs.Places.{at_none, at_push}
 
 -- ---- servers

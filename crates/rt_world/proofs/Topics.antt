@@ -9,11 +9,11 @@ use Rattle.rt_past.specs.Past.{Past, Grows}
 use Rattle.rt_repair.specs.Lasting.{IsRepairOver, IsRetireOver}
 use Rattle.rt_repair.proofs.Growing.{repair_lasts, retire_lasts}
 use Rattle.rt_server.proofs.LastingGrows.{server_grows}
-use Rattle.rt_world.specs.IsSafe.{IsServerAt, IsUpkeepAt, IsControllerAt, IsQueryAsked, IsQueryAt}
-use Rattle.rt_world.specs.Places.{AreAt}
-use Rattle.rt_world.specs.declared.controller_node.ControllerNode.{ControllerNode}
-use Rattle.rt_world.specs.declared.server_node.ServerNode.{ServerNode}
-use Rattle.rt_world.specs.declared.upkeep.Upkeep.{Upkeep}
+use Rattle.rt_state.specs.IsSafe.{IsServerAt, IsUpkeepAt, IsControllerAt, IsQueryAsked, IsQueryAt}
+use Rattle.rt_state.specs.Places.{AreAt}
+use Rattle.rt_nodes.specs.declared.controller_node.ControllerNode.{ControllerNode}
+use Rattle.rt_nodes.specs.declared.server_node.ServerNode.{ServerNode}
+use Rattle.rt_nodes.specs.declared.upkeep.Upkeep.{Upkeep}
 use Rattle.rt_world.proofs.Places.{at_weaker}
 
 pub if_some : {X : Type 0} (P Q : X → Type 0) → ((x : X) → P x → Q x) → (o : Option X) → IfSome o P → IfSome o Q

@@ -1,7 +1,7 @@
 -- What a world means: the state of everything, until memory ran out at an event.
 use Rattle.std.specs.Prelude.{Bool}
-use Rattle.rt_world.specs.Room.{spent}
-use Rattle.rt_world.specs.declared.state.State.{State}
+use Rattle.rt_state.specs.Room.{spent}
+use Rattle.rt_state.specs.declared.state.State.{State}
 
 pub record Kept : Type 0 where
   pub state : State

@@ -1,6 +1,6 @@
 -- What the reading calls give.
 use Rattle.std.specs.List.{position}
-use Rattle.std.specs.Prelude.{Bool, Err, List, None, Ok, Option, Result, Some, [], false, if◌then◌else◌, nat_le, nat_lt, option_map, slice_get, suc, zero, ℕ, ◌&&◌, ◌++◌, ◌+◌, ◌-◌, ◌∷◌, ◌≡◌}
+use Rattle.std.specs.Prelude.{Bool, List, None, Option, Some, [], false, if◌then◌else◌, nat_le, nat_lt, slice_get, suc, zero, ℕ, ◌&&◌, ◌++◌, ◌+◌, ◌-◌, ◌∷◌, ◌≡◌}
 use Rattle.rt_base.specs.declared.gate.NodeId.{NodeId}
 use Rattle.rt_base.specs.declared.limits.TheConstants.{MOST_EVENTS}
 use Rattle.rt_base.specs.declared.limits.TheConstants.{LAST_NUMBER}
@@ -21,24 +21,19 @@ use Rattle.rt_model.specs.declared.replica_state.ReplicaState.{ReplicaState}
 use Rattle.rt_model.specs.declared.status.Status.{Status}
 use Rattle.rt_model.specs.declared.status.Status.TheVariants.{InProgress, Done, Abandoned}
 use Rattle.rt_pause.specs.declared.replica_seen.ReplicaSeen.{ReplicaSeen}
-use Rattle.rt_consumer.specs.Consumer.{cur, state_of}
 use Rattle.rt_consumer.specs.Requests.{is_ready}
 use Rattle.rt_consumer.specs.declared.consumer.Consumer.{Consumer}
-use Rattle.rt_segment.specs.Segment.{SealedSegment}
-use Rattle.rt_segment.specs.Spelling.{file_of as bytes_of}
 use Rattle.rt_server.specs.Due.{due_of as due_segments, wanted_of, held_of}
-use Rattle.rt_server.specs.Serving.{serve}
-use Rattle.rt_server.specs.Table.{Segment, Segments, replica_of, entry_of, file_at}
-use Rattle.rt_entry.specs.declared.refused.ServeRefused.{ServeRefused}
+use Rattle.rt_server.specs.Table.{Segment, Segments}
 use Rattle.rt_entry.specs.declared.served_rows.ServedRows.{ServedRows}
 use Rattle.rt_stream.specs.Log.{messages_of, end_of}
-use Rattle.rt_world.specs.Finding.{is_server_up, is_controller_up, replica_at, query_at}
-use Rattle.rt_world.specs.declared.controller_node.ControllerNode.{ControllerNode}
-use Rattle.rt_world.specs.declared.server_node.ServerNode.{ServerNode}
-use Rattle.rt_world.specs.declared.state.State.{State}
+use Rattle.rt_state.specs.Finding.{is_server_up, is_controller_up, replica_at, query_at}
+use Rattle.rt_nodes.specs.declared.server_node.ServerNode.{ServerNode}
+use Rattle.rt_state.specs.declared.state.State.{State}
 use Rattle.rt_model.specs.declared.node.Key.TheVariants as key
 use Rattle.rt_model.specs.declared.node.Node.TheVariants as node
 use Rattle.rt_base.specs.declared.gate.NodeId.TheVariants as node_id
+pub use Rattle.rt_nodes.specs.Reading.{leads, stands, rows_by, rows_of_node, seen_as, seen_among, seen_of, replica_up, stage_of, file_in, file_bytes}
 
 abbrev pub up_in : State → NodeId → Bool
 up_in w (node_id.Server i) = is_server_up w i
@@ -48,12 +43,6 @@ up_in w node_id.Broker = false
 up_in w node_id.Producer = false
 
 -- ---- the leader
-
-abbrev pub leads : ControllerNode → Bool
-leads n = n.up && n.controller.leads
-
-abbrev pub stands : ControllerNode → Bool
-stands n = n.up
 
 abbrev pub either : Option ℕ → Option ℕ → Option ℕ
 either None later = later
@@ -127,28 +116,8 @@ pieces_of w q p = pieces_by (query_at w q) p
 
 -- ---- what a server that is up has
 
-abbrev pub rows_by : Result ServedRows ServeRefused → Option ServedRows
-rows_by (Ok rows) = Some rows
-rows_by (Err e) = None
-
-abbrev pub rows_of_node : Option ServerNode → Piece → Option ServedRows
-rows_of_node None piece = None
-rows_of_node (Some n) piece = if n.up then rows_by (serve n.server.table piece) else None
-
 abbrev pub ServesRows : State → Instance → Piece → Option ServedRows → Type 0
 ServesRows w i piece rows = rows ≡ rows_of_node (slice_get w.servers i.0) piece
-
-abbrev pub seen_as : Instance → Segment → Option Consumer → List ReplicaSeen
-seen_as i s None = []
-seen_as i s (Some r) =
-    record { instance = i; partition = s.0; sequence = s.1; state = state_of r.phase; cur = cur r } ∷ []
-
-abbrev pub seen_among : Instance → Segments → List Segment → List ReplicaSeen
-seen_among i t [] = []
-seen_among i t (s ∷ ss) = seen_as i s (replica_of t s.0 s.1) ++ seen_among i t ss
-
-abbrev pub seen_of : Instance → ServerNode → List ReplicaSeen
-seen_of i n = if n.up then seen_among i n.server.table (held_of n.server.table) else []
 
 -- of the server of a number, where there is one
 abbrev pub seen_at : ℕ → Option ServerNode → List ReplicaSeen
@@ -163,24 +132,8 @@ seen_below w (suc i) = seen_below w i ++ seen_at i (slice_get w.servers i)
 abbrev pub replicas_seen : State → List ReplicaSeen
 replicas_seen w = seen_below w w.setup.servers
 
--- where the replica of a segment stands, at a server that is up
-abbrev pub replica_up : Option ServerNode → Partition → Sequence → Option Consumer
-replica_up None p q = None
-replica_up (Some n) p q = if n.up then replica_of n.server.table p q else None
-
-abbrev pub stage_of : Option Consumer → Option ReplicaState
-stage_of None = None
-stage_of (Some r) = Some (state_of r.phase)
-
 abbrev pub stage_at : State → Instance → Partition → Sequence → Option ReplicaState
 stage_at w i p q = stage_of (replica_up (slice_get w.servers i.0) p q)
-
-abbrev pub file_in : Option ServerNode → Partition → Sequence → Option SealedSegment
-file_in None p q = None
-file_in (Some n) p q = if n.up then file_at (entry_of n.server.table p q) else None
-
-abbrev pub file_bytes : Option SealedSegment → Option (List ℕ)
-file_bytes file = option_map bytes_of file
 
 abbrev pub copy_in : State → Instance → Partition → Sequence → Option (List ℕ)
 copy_in w i p q = file_bytes (file_in (slice_get w.servers i.0) p q)

@@ -4,21 +4,21 @@ use Rattle.rt_events.specs.declared.event.Event.{Event}
 use Rattle.rt_events.specs.declared.outcome.Outcome.{Outcome}
 use Rattle.rt_events.specs.declared.refusal.Refusal.{Refusal}
 use Rattle.rt_events.specs.declared.refusal.Refusal.TheVariants.{NoSuchMessage, NoSuchNode, NodeDown, NothingToDo, Limit, Memory}
-use Rattle.rt_world.specs.Applying.{comes, Applies}
-use Rattle.rt_world.specs.Clock.{tick_due, ticked, lead_due, Believes, fault_due, store_faulted, deep_faulted, pass_due, Passes}
-use Rattle.rt_world.specs.Jobs.{job_due, JobSteps}
+use Rattle.rt_state.specs.Applying.{comes, Applies}
+use Rattle.rt_state.specs.Clock.{tick_due, ticked, lead_due, Believes, fault_due, store_faulted, deep_faulted, pass_due, Passes}
+use Rattle.rt_state.specs.Jobs.{job_due, JobSteps}
 use Rattle.rt_world.specs.Kept.{Kept}
-use Rattle.rt_world.specs.Lives.{crash_server_due, ServerCrashes, crash_controller_due, ControllerCrashes, restart_server_due, ServerRestarts, restart_controller_due, ControllerRestarts}
-use Rattle.rt_world.specs.Messages.{deliver_due, Delivers, reply_due, Replies}
-use Rattle.rt_world.specs.Queries.{ask_due, asked, route_due, Routes, piece_due, Pieces, answer_due, Answers}
-use Rattle.rt_world.specs.Repairs.{repair_due, Repairs, retain_due, Retires}
-use Rattle.rt_world.specs.Replicas.{consume_due, Consumes, force_due, Forces, stop_due, Stops, build_due, Builds}
-use Rattle.rt_world.specs.Requests.{report_due, Reports, extend_due, Extends}
-use Rattle.rt_world.specs.Room.{Found, dropped}
-use Rattle.rt_world.specs.Servers.{see_due, Sees, transit_due, Moves, download_due, Loads}
-use Rattle.rt_world.specs.Shows.{show_meta_due, meta_shown, show_ideal_due, ideal_shown}
-use Rattle.rt_world.specs.Stream.{produce_due, produced}
-use Rattle.rt_world.specs.declared.state.State.{State}
+use Rattle.rt_state.specs.Lives.{crash_server_due, ServerCrashes, crash_controller_due, ControllerCrashes, restart_server_due, ServerRestarts, restart_controller_due, ControllerRestarts}
+use Rattle.rt_state.specs.Messages.{deliver_due, Delivers, reply_due, Replies}
+use Rattle.rt_state.specs.Queries.{ask_due, asked, route_due, Routes, piece_due, Pieces, answer_due, Answers}
+use Rattle.rt_state.specs.Repairs.{repair_due, Repairs, retain_due, Retires}
+use Rattle.rt_state.specs.Replicas.{consume_due, Consumes, force_due, Forces, stop_due, Stops, build_due, Builds}
+use Rattle.rt_state.specs.Requests.{report_due, Reports, extend_due, Extends}
+use Rattle.rt_state.specs.Room.{Found, dropped}
+use Rattle.rt_state.specs.Servers.{see_due, Sees, transit_due, Moves, download_due, Loads}
+use Rattle.rt_state.specs.Shows.{show_meta_due, meta_shown, show_ideal_due, ideal_shown}
+use Rattle.rt_state.specs.Stream.{produce_due, produced}
+use Rattle.rt_state.specs.declared.state.State.{State}
 use Rattle.rt_events.specs.declared.event.Event.TheVariants as event
 
 -- the refusal of an event, if it is refused

@@ -1,4 +1,4 @@
-use Rattle.std.proofs.Common.{◌++◌, ◌∷◌, [], subst}
+use Rattle.std.proofs.Common.{◌∷◌, [], subst}
 use Rattle.rt_play.proofs.Generated.{last_stops, texts_stopped}
 use Rattle.rt_play.proofs.Tellings.{put_text}
 use Rattle.rt_play.specs.Generating.{end_texts}

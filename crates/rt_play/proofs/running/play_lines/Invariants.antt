@@ -5,7 +5,7 @@ use Rattle.rt_play.specs.Going.{IsDesk}
 use Rattle.rt_play.specs.Plays.{Puts, going}
 use Rattle.rt_play.specs.Report.{RunAll}
 use Rattle.rt_play.proofs.running.play_lines.Given as goal
-use Rattle.rt_world.specs.IsSafeWorld.{IsSafeWorld}
+use Rattle.rt_state.specs.IsSafeWorld.{IsSafeWorld}
 
 abbrev pub invariant-loop-number : goal.invariant-loop-number
 invariant-loop-number g l = record {

@@ -1,0 +1,6 @@
+pub mod Failures
+pub mod SeenReplicas
+pub mod Standing
+pub mod Starting
+pub mod Taking
+pub mod Upkeeping

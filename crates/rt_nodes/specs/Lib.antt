@@ -1,0 +1,11 @@
+pub mod Fresh
+pub mod Lives
+pub mod Messages
+pub mod Queries
+pub mod Reading
+pub mod Refused
+pub mod Repairs
+pub mod Replicas
+pub mod Requests
+pub mod Servers
+pub mod Steps

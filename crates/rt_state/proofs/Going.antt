@@ -1,0 +1,44 @@
+-- How a world goes on where one of its servers took a step, in the words of the step.
+use Rattle.std.proofs.Common.{◌≡◌, length, slice_get, slice_set, Some, refl, sym, subst}
+use Rattle.rt_base.specs.declared.numbers.Instance.{Instance}
+use Rattle.rt_deep.specs.Meaning.{Told as ToldDeep}
+use Rattle.rt_events.specs.declared.outcome.Outcome.{Outcome}
+use Rattle.rt_events.specs.declared.outcome.Outcome.TheVariants as told
+use Rattle.rt_model.specs.declared.request.Request.{Request}
+use Rattle.rt_store.specs.Meaning.{Told}
+use Rattle.rt_stream.specs.Log.{Log}
+use Rattle.rt_state.specs.Nodes.{ServerCalls, ServerCallsAt, ServerDoes, ServerDoesAt, ServerFetches, ServerFetchesAt, ServerGets, ServerGetsAt, ServerStep, with_server}
+use Rattle.rt_state.specs.Requests.{AskStep, SendsAt, SendsRequest, sends}
+use Rattle.rt_state.specs.Room.{counted}
+use Rattle.rt_state.specs.declared.cost.Cost.{Cost}
+use Rattle.rt_nodes.specs.declared.server_node.ServerNode.{ServerNode}
+use Rattle.rt_state.specs.declared.state.State.{State}
+
+module _ (w : State) (i : Instance) (cost : Cost) (old new : ServerNode) (found : slice_get w.servers i.0 ≡ Some old) where
+  pub server_does : (does : ServerStep) (outcome : Outcome) → does old new outcome → ServerDoes w i does cost (counted (with_server w i new) cost, outcome)
+  server_does does outcome d =
+      subst (λ o. ServerDoesAt o w i does cost (counted (with_server w i new) cost, outcome)) (sym found) (new, d, refl)
+
+  pub server_calls : (does : Told → Told → ServerStep) (store : Told) (outcome : Outcome) → does w.store store old new outcome
+      → ServerCalls w i does cost (counted (record w { servers = slice_set w.servers i.0 new; store = store }) cost, outcome)
+  server_calls does store outcome d =
+      subst (λ o. ServerCallsAt o w i does cost (counted (record w { servers = slice_set w.servers i.0 new; store = store }) cost, outcome)) (sym found)
+      (new, store, d, refl)
+
+  pub server_gets : (does : ToldDeep → ToldDeep → ServerStep) (deep : ToldDeep) (outcome : Outcome) → does w.deep deep old new outcome
+      → ServerGets w i does cost (counted (record w { servers = slice_set w.servers i.0 new; deep = deep }) cost, outcome)
+  server_gets does deep outcome d =
+      subst (λ o. ServerGetsAt o w i does cost (counted (record w { servers = slice_set w.servers i.0 new; deep = deep }) cost, outcome)) (sym found)
+      (new, deep, d, refl)
+
+  pub server_fetches : (does : Log → Log → ServerStep) (log : Log) (outcome : Outcome) → does w.log log old new outcome
+      → ServerFetches w i does cost (counted (record w { servers = slice_set w.servers i.0 new; log = log }) cost, outcome)
+  server_fetches does log outcome d =
+      subst (λ o. ServerFetchesAt o w i does cost (counted (record w { servers = slice_set w.servers i.0 new; log = log }) cost, outcome)) (sym found)
+      (new, log, d, refl)
+
+  pub server_asks : (asks : AskStep) (request : Request) → asks old new request
+      → SendsRequest w i asks cost (counted (sends (with_server w i new) request).0 cost, told.Sent (length w.sent) request)
+  server_asks asks request a =
+      subst (λ o. SendsAt o w i asks cost (counted (sends (with_server w i new) request).0 cost, told.Sent (length w.sent) request)) (sym found)
+      (new, request, a, refl)

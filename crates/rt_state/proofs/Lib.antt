@@ -1,0 +1,11 @@
+pub mod Asking
+pub mod Bounds
+pub mod Dues
+pub mod Going
+pub mod Leading
+pub mod NeedsNodes
+pub mod NeedsQueries
+pub mod NeedsServers
+pub mod Pieces
+pub mod Possible
+pub mod Taking

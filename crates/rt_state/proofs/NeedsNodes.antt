@@ -1,0 +1,261 @@
+-- What the events of the clock, the stream, lives, controllers and queries need, and find in a safe world.
+use Rattle.std.proofs.Common.{◌≡◌, ◌+◌, ◌<◌, ◌≤◌, ◌^◌, ◌&&◌, ℕ, Bool, true, false, not, List, length, slice_get, Option, Some, None, Ok, Err, refl, sym, ap, subst, ◌∙◌, arith, is_some, IsNone, IsSome, IfSome, unwrap_or}
+use Rattle.std.proofs.lemmas.Bool.{ltb-true}
+use Rattle.std.proofs.lemmas.Option.{slice_get_within}
+use Rattle.rt_nodes.specs.declared.server_node.ServerNode.{ServerNode}
+use Rattle.rt_base.specs.declared.limits.TheConstants.{LONGEST_MESSAGE, LAST_MOMENT, MOST_EVENTS}
+use Rattle.rt_base.specs.declared.numbers.ControllerId.{ControllerId}
+use Rattle.rt_base.specs.declared.numbers.Instance.{Instance}
+use Rattle.rt_base.specs.declared.numbers.Partition.{Partition}
+use Rattle.rt_base.specs.declared.numbers.Sequence.{Sequence}
+use Rattle.rt_events.specs.declared.refusal.Refusal.TheVariants.{NoSuchNode, NoSuchMessage, NodeDown, NothingToDo}
+use Rattle.rt_model.specs.Starting.{Starting}
+use Rattle.rt_store.specs.Contents.{starting_of}
+use Rattle.rt_controller.specs.IsController.{IsController}
+use Rattle.rt_controller.proofs.Lasts.{ready_over}
+use Rattle.rt_repair.specs.Repairing.{Repairing, set_entries, beginning as repair_beginning}
+use Rattle.rt_repair.specs.Retirement.{Retirement, set_entries as retire_sets, beginning as retire_beginning}
+use Rattle.rt_repair.proofs.Growing.{repair_begins_over, retire_begins_over, repair_ready, retire_ready}
+use Rattle.rt_broker.specs.Asking.{Asking, is_tried, is_piece_due, is_answer_due}
+use Rattle.rt_state.proofs.Dues.{IsThere, Spends, both, controller_there, priced_spends, server_there}
+use Rattle.rt_state.proofs.Possible.{only_passed, priced_room, then_passed}
+use Rattle.rt_state.specs.Clock.{tick_due, lead_due}
+use Rattle.rt_state.specs.Finding.{find_controller, has_controller, has_partition, has_server, is_controller_up, is_server_up, is_up, request_at, reply_at, query_at}
+use Rattle.rt_state.specs.IsSafe.{IsControllerAt, IsUpkeepOver, past_of}
+use Rattle.rt_state.specs.IsSafeWorld.{IsSafeWorld}
+use Rattle.rt_state.specs.Jobs.{has_job, job_due, sets_of_job, job_told, job_told_by, stepped, stepped_by}
+use Rattle.rt_state.specs.Shows.{show_meta_due}
+use Rattle.rt_model.specs.Setup.{IsSetup}
+use Rattle.rt_model.specs.declared.job_step.JobStep.{JobStep}
+use Rattle.rt_model.specs.declared.reply.Reply.{Reply}
+use Rattle.rt_repair.specs.Lasting.{IsRepairOver, IsRetireOver}
+use Rattle.rt_repair.specs.Repairing.{IsUnended as repair_unended}
+use Rattle.rt_repair.specs.Retirement.{IsUnended as retire_unended}
+use Rattle.rt_state.specs.Lives.{crash_server_due, crash_controller_due, restart_server_due, restart_controller_due}
+use Rattle.rt_state.specs.Messages.{deliver_due, reply_by, reply_due}
+use Rattle.rt_state.specs.Repairs.{IsReadyRepair, IsReadyRetirement, begun, believes_at, find_upkeep, repair_by, repair_due, repair_in, retain_by, retain_due, retirement_in, retiring, upkeep_at, upkeep_in}
+use Rattle.rt_state.specs.Room.{counted, message_cost, no_cost, only_if, priced, set_cost, time_cost}
+use Rattle.rt_state.specs.Stream.{produce_due}
+use Rattle.rt_nodes.specs.declared.controller_node.ControllerNode.{ControllerNode}
+use Rattle.rt_state.specs.declared.cost.Cost.{Cost}
+use Rattle.rt_state.specs.declared.state.State.{State}
+use Rattle.rt_nodes.specs.declared.upkeep.Upkeep.{Upkeep}
+
+-- ---- the clock and the stream
+
+pub tick_needs : (w : State) (millis : ℕ) (cost : Cost) → tick_due w millis ≡ Ok cost → (w.moment.0 + millis < 2 ^ 64) × Spends w cost
+tick_needs w millis cost h =
+    (omega (arith, (priced_room w (time_cost millis) cost h).1.moment), priced_spends w (time_cost millis) cost h)
+
+pub lead_needs : (w : State) (c : ControllerId) (cost : Cost) → lead_due w c ≡ Ok cost → (c.0 < length w.controllers) × Spends w cost
+lead_needs w c cost h =
+    let found = then_passed (find_controller w c) (priced w no_cost) cost h in
+    ((controller_there w c found.0).controller, priced_spends w no_cost cost found.1)
+
+pub produce_needs : (w : State) (p : Partition) (message : List ℕ) (cost : Cost) → IsSafeWorld w → produce_due w p message ≡ Ok cost
+    → (p.0 < length w.log) × (length message ≤ LONGEST_MESSAGE) × Spends w cost
+produce_needs w p message cost s h =
+    let there = only_passed (has_partition w p) NoSuchNode (priced w (message_cost (length message))) cost h in (
+      omega (arith, ltb-true p.0 w.setup.partitions there.0, s.safe.past.partitions),
+      (priced_room w (message_cost (length message)) cost there.1).1.message,
+      priced_spends w (message_cost (length message)) cost there.1,
+    )
+
+-- ---- lives
+
+pub crash_server_needs : (w : State) (i : Instance) (cost : Cost) → crash_server_due w i ≡ Ok cost → (i.0 < length w.servers) × Spends w cost
+crash_server_needs w i cost h =
+    let there = only_passed (has_server w i) NoSuchNode _ cost h in
+    let up = only_passed (is_server_up w i) NodeDown _ cost there.1 in
+    (ltb-true _ _ there.0, priced_spends w no_cost cost up.1)
+
+pub restart_server_needs : (w : State) (i : Instance) (cost : Cost) → restart_server_due w i ≡ Ok cost → (i.0 < length w.servers) × Spends w cost
+restart_server_needs w i cost h =
+    let there = only_passed (has_server w i) NoSuchNode _ cost h in
+    let down = only_passed (not (is_server_up w i)) NothingToDo _ cost there.1 in
+    (ltb-true _ _ there.0, priced_spends w no_cost cost down.1)
+
+pub restart_controller_needs : (w : State) (c : ControllerId) (cost : Cost) → restart_controller_due w c ≡ Ok cost
+    → (c.0 < length w.controllers) × Spends w cost
+restart_controller_needs w c cost h =
+    let there = only_passed (has_controller w c) NoSuchNode _ cost h in
+    let down = only_passed (not (is_controller_up w c)) NothingToDo _ cost there.1 in
+    (ltb-true _ _ there.0, priced_spends w no_cost cost down.1)
+
+-- ---- messages and jobs
+
+node_at : (w : State) (c : ControllerId) (n : ControllerNode) → IsSafeWorld w → slice_get w.controllers c.0 ≡ Some n
+    → IsControllerAt w.setup (past_of w) c.0 n
+node_at w c n s found = s.safe.controllers c.0 n found
+
+pub deliver_needs : (w : State) (m : ℕ) (c : ControllerId) (cost : Cost) → IsSafeWorld w → deliver_due w m c ≡ Ok cost
+    → (is_some (request_at w m) ≡ true) × (c.0 < length w.controllers)
+    × ((n : ControllerNode) → slice_get w.controllers c.0 ≡ Some n → n.controller.started < 2 ^ 63) × Spends w cost
+deliver_needs w m c cost s h =
+    let there = only_passed (has_controller w c) NoSuchNode _ cost h in
+    let asked = only_passed (is_some (request_at w m)) NoSuchMessage _ cost there.1 in
+    let up = only_passed (is_controller_up w c) NodeDown _ cost asked.1 in (
+      asked.0,
+      ltb-true _ _ there.0,
+      λ n found. omega (arith, s.few.started c.0 n found, s.few.events),
+      priced_spends w no_cost cost up.1,
+    )
+
+pub job_needs : (w : State) (c : ControllerId) (j : ℕ) (cost : Cost) → IsSafeWorld w → job_due w c j ≡ Ok cost
+    → (has_job w c j ≡ true) × (c.0 < length w.controllers) × (w.moment.0 ≤ LAST_MOMENT)
+    × ((n : ControllerNode) → slice_get w.controllers c.0 ≡ Some n → (s : Starting) × IsController s w.store.writes n.controller)
+    × Spends w cost
+job_needs w c j cost s h =
+    let there = only_passed (has_controller w c) NoSuchNode _ cost h in
+    let open_job = only_passed (has_job w c j) NoSuchMessage _ cost there.1 in
+    let up = only_passed (is_controller_up w c) NodeDown _ cost open_job.1 in (
+      open_job.0,
+      ltb-true _ _ there.0,
+      s.few.moment,
+      λ n found. (starting_of w.setup, ready_over w.setup (past_of w) n.controller s.safe.setup s.safe.past (node_at w c n s found).over),
+      priced_spends w (set_cost (sets_of_job w c j)) cost up.1,
+    )
+
+-- ---- repairs
+
+pub record IsUpkeepThere (w : State) (c : ControllerId) (p : Partition) : Type 0 where
+  pub controller : c.0 < length w.controllers
+  pub partition : p.0 < w.setup.partitions
+
+upkeep_there : (w : State) (c : ControllerId) (p : Partition) → find_upkeep w c p ≡ Ok tt → IsUpkeepThere w c p
+upkeep_there w c p h =
+    let a = only_passed (has_controller w c && has_partition w p) NoSuchNode _ tt h in
+    let has = both (has_controller w c) (has_partition w p) a.0 in
+    record { controller = ltb-true _ _ has.0; partition = ltb-true _ _ has.1 }
+
+begun_ready : (w : State) (p : Partition) (u : Upkeep) (r : Option Repairing) → IsSafeWorld w → p.0 < w.setup.partitions
+    → u.repair ≡ r → IsUpkeepOver w.setup (past_of w) u → IsReadyRepair w.store.writes (begun w.setup p r)
+begun_ready w p u None s within e k = (
+  tt,
+  (
+    starting_of w.setup,
+    repair_ready w.setup (past_of w) (repair_beginning p w.setup) s.safe.setup s.safe.past
+        (repair_begins_over w.setup (past_of w) p within),
+  ),
+)
+begun_ready w p u (Some r) s within e k = (
+  subst (λ o. IfSome o (λ x. repair_unended x.stage)) e k.repair_goes,
+  (
+    starting_of w.setup,
+    repair_ready w.setup (past_of w) r s.safe.setup s.safe.past
+        (subst (λ o. IfSome o (IsRepairOver w.setup (past_of w))) e k.repair),
+  ),
+)
+
+repair_spends : (w : State) (c : ControllerId) (r : Option Repairing) (cost : Cost) → repair_by w c r ≡ Ok cost → Spends w cost
+repair_spends w c None cost h = priced_spends w no_cost cost (only_passed (believes_at w c) NothingToDo (priced w no_cost) cost h).1
+repair_spends w c (Some r) cost h = priced_spends w (set_cost (set_entries r w.moment)) cost h
+
+pub repair_needs : (w : State) (c : ControllerId) (p : Partition) (cost : Cost) → IsSafeWorld w → repair_due w c p ≡ Ok cost
+    → (c.0 < length w.controllers) × IsSetup w.setup × (w.moment.0 ≤ LAST_MOMENT)
+    × ((n : ControllerNode) → slice_get w.controllers c.0 ≡ Some n → (p.0 < length n.upkeep)
+    × ((u : Upkeep) → slice_get n.upkeep p.0 ≡ Some u → IsReadyRepair w.store.writes (begun w.setup p u.repair)))
+    × Spends w cost
+repair_needs w c p cost s h =
+    let found = then_passed (find_upkeep w c p) (repair_by w c (repair_in (upkeep_at w c p))) cost h in
+    let there = upkeep_there w c p found.0 in (
+      there.controller,
+      s.safe.setup,
+      s.few.moment,
+      λ n at.
+          let node = node_at w c n s at in (
+            omega (arith, there.partition, node.partitions),
+            λ u stands. begun_ready w p u u.repair s there.partition refl (node.upkeep p.0 u stands),
+          ),
+      repair_spends w c (repair_in (upkeep_at w c p)) cost found.1,
+    )
+
+retiring_ready : (w : State) (p : Partition) (u : Upkeep) (r : Option Retirement) → IsSafeWorld w → p.0 < w.setup.partitions
+    → u.retirement ≡ r → IsUpkeepOver w.setup (past_of w) u → IsReadyRetirement w.store.writes (retiring w.setup p r)
+retiring_ready w p u None s within e k = (
+  tt,
+  (
+    starting_of w.setup,
+    retire_ready w.setup (past_of w) (retire_beginning p (unwrap_or w.setup.retention 0)) s.safe.setup s.safe.past
+        (retire_begins_over w.setup (past_of w) p (unwrap_or w.setup.retention 0) within),
+  ),
+)
+retiring_ready w p u (Some r) s within e k = (
+  subst (λ o. IfSome o (λ x. retire_unended x.stage)) e k.retirement_goes,
+  (
+    starting_of w.setup,
+    retire_ready w.setup (past_of w) r s.safe.setup s.safe.past
+        (subst (λ o. IfSome o (IsRetireOver w.setup (past_of w))) e k.retirement),
+  ),
+)
+
+retain_spends : (w : State) (c : ControllerId) (r : Option Retirement) (cost : Cost) → retain_by w c r ≡ Ok cost → Spends w cost
+retain_spends w c None cost h =
+    priced_spends w no_cost cost (only_passed (is_some w.setup.retention && believes_at w c) NothingToDo (priced w no_cost) cost h).1
+retain_spends w c (Some r) cost h = priced_spends w (set_cost (retire_sets r w.moment)) cost h
+
+-- a retirement begins only where a retention is set
+retain_keeps : (w : State) (c : ControllerId) (r : Option Retirement) (cost : Cost) → retain_by w c r ≡ Ok cost → IsNone r → IsSome w.setup.retention
+retain_keeps w c None cost h none =
+    let test = only_passed (is_some w.setup.retention && believes_at w c) NothingToDo (priced w no_cost) cost h in
+    (both (is_some w.setup.retention) (believes_at w c) test.0).0
+retain_keeps w c (Some r) cost h none = absurd (cc)
+
+retirement_there : (w : State) (c : ControllerId) (p : Partition) (n : ControllerNode) (u : Upkeep)
+    → slice_get w.controllers c.0 ≡ Some n → slice_get n.upkeep p.0 ≡ Some u → retirement_in (upkeep_at w c p) ≡ u.retirement
+retirement_there w c p n u found stands = ap (λ o. retirement_in (upkeep_in o p)) found ∙ ap (λ o. retirement_in o) stands
+
+pub retain_needs : (w : State) (c : ControllerId) (p : Partition) (cost : Cost) → IsSafeWorld w → retain_due w c p ≡ Ok cost
+    → (c.0 < length w.controllers) × (p.0 < w.setup.partitions)
+    × ((n : ControllerNode) → slice_get w.controllers c.0 ≡ Some n → (p.0 < length n.upkeep)
+    × ((u : Upkeep) → slice_get n.upkeep p.0 ≡ Some u → (IsNone u.retirement → IsSome w.setup.retention)
+    × IsReadyRetirement w.store.writes (retiring w.setup p u.retirement)))
+    × Spends w cost
+retain_needs w c p cost s h =
+    let found = then_passed (find_upkeep w c p) (retain_by w c (retirement_in (upkeep_at w c p))) cost h in
+    let there = upkeep_there w c p found.0 in (
+      there.controller,
+      there.partition,
+      λ n at.
+          let node = node_at w c n s at in (
+            omega (arith, there.partition, node.partitions),
+            λ u stands. (
+              λ none. retain_keeps w c (retirement_in (upkeep_at w c p)) cost found.1 (subst (λ o. IsNone o) (sym (retirement_there w c p n u at stands)) none),
+              retiring_ready w p u u.retirement s there.partition refl (node.upkeep p.0 u stands),
+            ),
+          ),
+      retain_spends w c (retirement_in (upkeep_at w c p)) cost found.1,
+    )
+
+-- ---- what a job's step tells
+
+stepped_told_by : (w : State) (cost : Cost) (step : JobStep) (r : Option Reply)
+    → stepped_by w cost step r ≡ (counted (job_told_by w step r).0 cost, (job_told_by w step r).1)
+stepped_told_by w cost step None = refl
+stepped_told_by w cost step (Some r) = refl
+
+pub stepped_told : (w : State) (cost : Cost) (step : JobStep) → stepped w cost step ≡ (counted (job_told w step).0 cost, (job_told w step).1)
+stepped_told w cost step = stepped_told_by w cost step step.reply
+
+-- ---- shows
+
+pub show_needs : (w : State) (p : Partition) (cost : Cost) → show_meta_due w p ≡ Ok cost → Spends w cost
+show_needs w p cost h = priced_spends w no_cost cost (only_passed (has_partition w p) NoSuchNode (priced w no_cost) cost h).1
+
+-- ---- replies
+
+reply_some : (w : State) (o : Option Reply) (cost : Cost) → reply_by w o ≡ Ok cost
+    → (r : Reply) × (o ≡ Some r) × (is_server_up w r.number.instance ≡ true) × (priced w no_cost ≡ Ok cost)
+reply_some w None cost h = absurd (cc)
+reply_some w (Some r) cost h =
+    let t = only_passed (is_server_up w r.number.instance) NodeDown (priced w no_cost) cost h in (r, refl, t.0, t.1)
+
+up_within : (ns : List ServerNode) (i : ℕ) (o : Option ServerNode) → slice_get ns i ≡ o → is_up o ≡ true → i < length ns
+up_within ns i None e h = absurd (cc)
+up_within ns i (Some n) e h = slice_get_within ns i n e
+
+pub reply_needs : (w : State) (m : ℕ) (cost : Cost) → reply_due w m ≡ Ok cost
+    → (r : Reply) × (reply_at w m ≡ Some r) × (r.number.instance.0 < length w.servers) × Spends w cost
+reply_needs w m cost h =
+    let due = reply_some w (reply_at w m) cost h in
+    (due.0, due.1, up_within w.servers due.0.number.instance.0 (slice_get w.servers due.0.number.instance.0) refl due.2, priced_spends w no_cost cost due.3)

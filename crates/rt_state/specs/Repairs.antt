@@ -1,0 +1,98 @@
+-- What a controller does for a partition on its own: the repair, and the retiring of old segments.
+use Rattle.std.specs.Prelude.{◌≡◌, ◌&&◌, Bool, false, length, slice_get, slice_set, Option, Some, None, is_some, Ok}
+use Rattle.rt_base.specs.declared.numbers.ControllerId.{ControllerId}
+use Rattle.rt_base.specs.declared.numbers.Partition.{Partition}
+use Rattle.rt_events.specs.declared.refusal.Refusal.TheVariants.{NoSuchNode, NodeDown, NothingToDo}
+use Rattle.rt_repair.specs.Repairing.{Repairing, set_entries}
+use Rattle.rt_repair.specs.Retirement.{Retirement, set_entries as retire_sets}
+use Rattle.rt_repair.specs.declared.repair_step.RepairStep.{RepairStep}
+use Rattle.rt_repair.specs.declared.retiring.RetireStep.{RetireStep}
+use Rattle.rt_store.specs.Meaning.{Told}
+use Rattle.rt_state.specs.Applying.{Next}
+use Rattle.rt_state.specs.Finding.{has_partition, has_controller, is_controller_up}
+use Rattle.rt_state.specs.Jobs.{noted_set}
+use Rattle.rt_state.specs.Room.{only_if, Found, Due, then_due, no_cost, set_cost, priced, counted}
+use Rattle.rt_nodes.specs.declared.controller_node.ControllerNode.{ControllerNode}
+use Rattle.rt_state.specs.declared.cost.Cost.{Cost}
+use Rattle.rt_state.specs.declared.state.State.{State}
+use Rattle.rt_nodes.specs.declared.upkeep.Upkeep.{Upkeep}
+use Rattle.rt_events.specs.declared.outcome.Outcome.TheVariants as told
+pub use Rattle.rt_nodes.specs.Repairs.{begun, going_on, UpkeepRepairs, retiring, retiring_on, UpkeepRetires, NodeRepairsAt, NodeRepairs, NodeRetiresAt, NodeRetires, IsReadyRepair, IsReadyRetirement}
+
+-- what a controller has under way for a partition
+abbrev pub upkeep_in : Option ControllerNode → Partition → Option Upkeep
+upkeep_in None p = None
+upkeep_in (Some n) p = slice_get n.upkeep p.0
+
+abbrev pub upkeep_at : State → ControllerId → Partition → Option Upkeep
+upkeep_at w c p = upkeep_in (slice_get w.controllers c.0) p
+
+abbrev pub believes_in : Option ControllerNode → Bool
+believes_in None = false
+believes_in (Some n) = n.controller.leads
+
+abbrev pub believes_at : State → ControllerId → Bool
+believes_at w c = believes_in (slice_get w.controllers c.0)
+
+-- a controller and a partition that are there, the controller being up
+abbrev pub find_upkeep : State → ControllerId → Partition → Found
+find_upkeep w c p =
+    only_if (has_controller w c && has_partition w p) NoSuchNode (only_if (is_controller_up w c) NodeDown (Ok tt))
+
+-- what is under way for a partition changes, with one call of the store
+abbrev pub after_upkeep : State → ControllerId → Partition → ControllerNode → Upkeep → Told → Cost → State
+after_upkeep w c p node upkeep store cost =
+    counted
+    (noted_set
+    (record w {
+      controllers = slice_set w.controllers c.0 (record node { upkeep = slice_set node.upkeep p.0 upkeep });
+      store = store;
+    }) cost (length w.store.writes))
+    cost
+
+-- ---- repair
+
+abbrev pub repair_by : State → ControllerId → Option Repairing → Due
+repair_by w c None = only_if (believes_at w c) NothingToDo (priced w no_cost)
+repair_by w c (Some r) = priced w (set_cost (set_entries r w.moment))
+
+abbrev pub repair_in : Option Upkeep → Option Repairing
+repair_in None = None
+repair_in (Some u) = u.repair
+
+abbrev pub repair_due : State → ControllerId → Partition → Due
+repair_due w c p = then_due (find_upkeep w c p) (repair_by w c (repair_in (upkeep_at w c p)))
+
+abbrev pub RepairsAt : Option ControllerNode → Option Upkeep → State → ControllerId → Partition → Cost → Next → Type 0
+RepairsAt None u w c p cost x = ⊥
+RepairsAt (Some node) None w c p cost x = ⊥
+RepairsAt (Some node) (Some old) w c p cost x =
+    (new : Upkeep) × (store : Told) × (did : RepairStep) × UpkeepRepairs w.setup p w.moment w.store store old new did
+    × (x ≡ (after_upkeep w c p node new store cost, told.Repaired did))
+
+abbrev pub Repairs : State → ControllerId → Partition → Cost → Next → Type 0
+Repairs w c p cost x = RepairsAt (slice_get w.controllers c.0) (upkeep_at w c p) w c p cost x
+
+-- ---- retain
+
+abbrev pub retain_by : State → ControllerId → Option Retirement → Due
+retain_by w c None =
+    only_if (is_some w.setup.retention && believes_at w c) NothingToDo (priced w no_cost)
+retain_by w c (Some r) = priced w (set_cost (retire_sets r w.moment))
+
+abbrev pub retirement_in : Option Upkeep → Option Retirement
+retirement_in None = None
+retirement_in (Some u) = u.retirement
+
+abbrev pub retain_due : State → ControllerId → Partition → Due
+retain_due w c p = then_due (find_upkeep w c p) (retain_by w c (retirement_in (upkeep_at w c p)))
+
+abbrev pub RetiresAt : Option ControllerNode → Option Upkeep → State → ControllerId → Partition → Cost → Next → Type 0
+RetiresAt None u w c p cost x = ⊥
+RetiresAt (Some node) None w c p cost x = ⊥
+RetiresAt (Some node) (Some old) w c p cost x =
+    (new : Upkeep) × (store : Told) × (did : RetireStep) × UpkeepRetires w.setup p w.store store w.moment old new did
+    × (x ≡ (after_upkeep w c p node new store cost, told.Retired did))
+
+abbrev pub Retires : State → ControllerId → Partition → Cost → Next → Type 0
+Retires w c p cost x = RetiresAt (slice_get w.controllers c.0) (upkeep_at w c p) w c p cost x

@@ -1,0 +1,18 @@
+-- A message comes to the end of a partition.
+use Rattle.std.specs.Prelude.{ℕ, List, length}
+use Rattle.rt_base.specs.declared.numbers.Partition.{Partition}
+use Rattle.rt_events.specs.declared.refusal.Refusal.TheVariants.{NoSuchNode}
+use Rattle.rt_stream.specs.Log.{messages_of, with_message, end_of}
+use Rattle.rt_state.specs.Applying.{Next}
+use Rattle.rt_state.specs.Finding.{has_partition}
+use Rattle.rt_state.specs.Room.{only_if, Due, message_cost, priced, counted}
+use Rattle.rt_state.specs.declared.cost.Cost.{Cost}
+use Rattle.rt_state.specs.declared.state.State.{State}
+use Rattle.rt_events.specs.declared.outcome.Outcome.TheVariants as told
+
+abbrev pub produce_due : State → Partition → List ℕ → Due
+produce_due w p message = only_if (has_partition w p) NoSuchNode (priced w (message_cost (length message)))
+
+abbrev pub produced : State → Partition → List ℕ → Cost → Next
+produced w p message cost =
+    (counted (record w { log = with_message w.log p message }) cost, told.Produced (end_of (messages_of w.log p)))

@@ -1,9 +1,0 @@
-use Rattle.std.proofs.Common.{◌≡◌, ◌++◌, drop}
-use Rattle.rt_world.specs.Reading.{seen_among}
-use Rattle.rt_world.proofs.server_node.ServerNode.add_replicas.Given as goal
-
--- those so far, and the rest
-abbrev pub invariant-loop-segment : goal.invariant-loop-segment
-invariant-loop-segment l =
-    l.seen ++ seen_among l.instance l.self.server.table (drop l.segment-index l.segment-items)
-    ≡ l.initial.seen ++ seen_among l.instance l.self.server.table l.segment-items

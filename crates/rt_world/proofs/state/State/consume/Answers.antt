@@ -1,8 +1,0 @@
-use Rattle.std.proofs.Common.{sym, ◌∙◌}
-use Rattle.rt_world.proofs.NeedsServers.{consume_needs}
-use Rattle.rt_world.proofs.state.State.consume.Goals as goal
-
-pub consume-requires-clause-messages : goal.consume-requires-clause-messages
-consume-requires-clause-messages c =
-    let needs = consume_needs c.args.self.now c.args.instance c.args.partition c.args.sequence c.args.max c.in_ok-cost.cost c.requires (sym c.consume_due.ensures ∙ c.in_ok-cost.was) in
-    (needs.2 c.at_mut-node.result.now c.at_mut-node.ensures.item).0
