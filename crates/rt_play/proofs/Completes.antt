@@ -1,5 +1,5 @@
 -- What a run does, by its answer; and what it answers where nothing outside fails.
-use Rattle.std.proofs.Common.{◌≡◌, ◌⊎◌, inl, inr, ℕ, ◌<◌, ◌≤◌, List, [], ◌++◌, length, Option, Some, None, Result, Ok, Err, ap, sym, ◌∙◌, subst, arith}
+use Rattle.std.proofs.Common.{◌≡◌, ℕ, ◌<◌, ◌≤◌, List, [], ◌++◌, length, Option, Some, None, Result, Ok, Err, ap, sym, ◌∙◌, subst, arith}
 use Rattle.std.proofs.lemmas.List.{append-nil, length-append}
 use Rattle.rt_base.specs.declared.which.Which.TheVariants.{Input, Partitions, Servers, Controllers, Replication, Message, Events, Sent, Queries, Stored, Moment, Rows}
 use Rattle.rt_base.specs.Sink.{SinkMeaning}
@@ -8,9 +8,10 @@ use Rattle.rt_lines.specs.Lines.{script_lines}
 use Rattle.rt_lines.specs.declared.play_fault.PlayFault.{PlayFault}
 use Rattle.rt_lines.specs.declared.play_fault.PlayFault.TheVariants.{Usage, Refused, ReadFault, WriteFault, Memory, Limit}
 use Rattle.rt_play.specs.declared.play_end.PlayEnd.{PlayEnd}
-use Rattle.rt_play.specs.Plays.{Reads, TakesSome, IsTooLong, PlaysAll, PlaysInput, RunsOut, TellsAll, TellsInput, Meets, IsAnswer, answer_by, input_limit}
+use Rattle.rt_play.specs.Plays.{Reads, TakesSome, IsTooLong, PlaysInput, RunsOut, TellsAll, TellsInput, Meets, IsAnswer, answer_by, input_limit}
 use Rattle.rt_play.specs.Report.{IsReport}
 use Rattle.rt_play.proofs.Beginnings.{nothing_behind}
+use Rattle.rt_play.proofs.InputLimits.{report_never}
 use Rattle.rt_play.specs.Beginning.{beginning_of}
 use Rattle.rt_play.proofs.Tellings.{nothing_put}
 
@@ -46,11 +47,6 @@ end_answers end from to old new input told is reads all count =
 too_long : (from to : SourceMeaning) (old new : SinkMeaning) (told : List ℕ) → from.left ≡ Some told → IsTooLong from to old new → input_limit < length told
 too_long from to old new told is long = omega (arith, long.long, read_front to.left long.input told (sym is ∙ long.taken.left))
 
-input_answers : (from to : SourceMeaning) (old new : SinkMeaning) (told : List ℕ) → from.left ≡ Some told → IsTooLong from to old new ⊎ PlaysAll from to old new (Err (Limit Input))
-    → (input_limit < length told) ⊎ IsAnswer told (Err (Limit Input))
-input_answers from to old new told is (inl long) = inl (too_long from to old new told is long)
-input_answers from to old new told is (inr plays) = inr (stop_answers (Limit Input) from to old new plays.input told is plays.reads plays.tells)
-
 pub completes : (result : Result PlayEnd PlayFault) (from to : SourceMeaning) (old new : SinkMeaning) (told : List ℕ) → PlaysInput from to old new result → from.left ≡ Some told →
     (Rises from.faults to.faults → ⊥) → (Rises old.faults new.faults → ⊥) → Meets told result
 completes (Ok end) from to old new told plays is read wrote = end_answers end from to old new plays.input told is plays.reads plays.tells.0 plays.tells.1
@@ -59,7 +55,7 @@ completes (Err ReadFault) from to old new told plays is read wrote = absurd (rea
 completes (Err WriteFault) from to old new told plays is read wrote = absurd (wrote plays.tells.fails.counts)
 completes (Err Memory) from to old new told plays is read wrote = tt
 completes (Err (Refused line reason)) from to old new told plays is read wrote = stop_answers (Refused line reason) from to old new plays.input told is plays.reads plays.tells
-completes (Err (Limit Input)) from to old new told plays is read wrote = input_answers from to old new told is plays
+completes (Err (Limit Input)) from to old new told plays is read wrote = too_long from to old new told is plays
 completes (Err (Limit Partitions)) from to old new told plays is read wrote = stop_answers (Limit Partitions) from to old new plays.input told is plays.reads plays.tells
 completes (Err (Limit Servers)) from to old new told plays is read wrote = stop_answers (Limit Servers) from to old new plays.input told is plays.reads plays.tells
 completes (Err (Limit Controllers)) from to old new told plays is read wrote = stop_answers (Limit Controllers) from to old new plays.input told is plays.reads plays.tells
@@ -72,6 +68,10 @@ completes (Err (Limit Stored)) from to old new told plays is read wrote = stop_a
 completes (Err (Limit Moment)) from to old new told plays is read wrote = stop_answers (Limit Moment) from to old new plays.input told is plays.reads plays.tells
 completes (Err (Limit Rows)) from to old new told plays is read wrote = stop_answers (Limit Rows) from to old new plays.input told is plays.reads plays.tells
 
+-- the limit of the input is passed by one that is too long alone
+pub long_alone : (result : Result PlayEnd PlayFault) (from to : SourceMeaning) (old new : SinkMeaning) → PlaysInput from to old new result → result ≡ Err (Limit Input) → IsTooLong from to old new
+long_alone result from to old new plays is = subst (PlaysInput from to old new) is plays
+
 -- the report of the whole input was written
 pub plays_all : (result : Result PlayEnd PlayFault) (from to : SourceMeaning) (old new : SinkMeaning) (input : List ℕ) → Reads from to input → TellsInput input old new result → PlaysInput from to old new result
 plays_all (Ok end) from to old new input reads tells = record { input = input; reads = reads; tells = tells }
@@ -80,7 +80,7 @@ plays_all (Err ReadFault) from to old new input reads tells = absurd tells
 plays_all (Err WriteFault) from to old new input reads tells = record { input = input; reads = reads; tells = tells }
 plays_all (Err Memory) from to old new input reads tells = record { input = input; taken = reads.taken; lines = tells; ended = λ h. reads }
 plays_all (Err (Refused line reason)) from to old new input reads tells = record { input = input; reads = reads; tells = tells }
-plays_all (Err (Limit Input)) from to old new input reads tells = inr (record { input = input; reads = reads; tells = tells })
+plays_all (Err (Limit Input)) from to old new input reads tells = absurd (report_never input tells.report tells.is tells.stop)
 plays_all (Err (Limit Partitions)) from to old new input reads tells = record { input = input; reads = reads; tells = tells }
 plays_all (Err (Limit Servers)) from to old new input reads tells = record { input = input; reads = reads; tells = tells }
 plays_all (Err (Limit Controllers)) from to old new input reads tells = record { input = input; reads = reads; tells = tells }

@@ -1,5 +1,5 @@
 -- Every report comes with the run of which it tells, in which every world is right.
-use Rattle.std.proofs.Common.{◌≡◌, ◌⊎◌, inl, inr, ℕ, List, [], ◌++◌, Option, Some, None, Result, Ok, Err, refl}
+use Rattle.std.proofs.Common.{◌≡◌, ℕ, List, [], ◌++◌, Option, Some, None, Result, Ok, Err, refl}
 use Rattle.rt_base.specs.declared.which.Which.TheVariants.{Input, Partitions, Servers, Controllers, Replication, Message, Events, Sent, Queries, Stored, Moment, Rows}
 use Rattle.rt_base.specs.Sink.{SinkMeaning}
 use Rattle.rt_base.specs.Source.{SourceMeaning}
@@ -44,8 +44,7 @@ module _ (All More : List ℕ → Report → Type 0) (Front Longer : List ℕ �
       record { input = h.input; taken = h.taken; lines = record { texts = h.lines.texts; is = g h.input h.lines.texts h.lines.is; puts = h.lines.puts }; ended = h.ended }
   plays_more (Err WriteFault) from to old new h = all_more (Err WriteFault) from to old new h
   plays_more (Err (Refused line reason)) from to old new h = all_more (Err (Refused line reason)) from to old new h
-  plays_more (Err (Limit Input)) from to old new (inl long) = inl long
-  plays_more (Err (Limit Input)) from to old new (inr all) = inr (all_more (Err (Limit Input)) from to old new all)
+  plays_more (Err (Limit Input)) from to old new h = h
   plays_more (Err (Limit Partitions)) from to old new h = all_more (Err (Limit Partitions)) from to old new h
   plays_more (Err (Limit Servers)) from to old new h = all_more (Err (Limit Servers)) from to old new h
   plays_more (Err (Limit Controllers)) from to old new h = all_more (Err (Limit Controllers)) from to old new h

@@ -1,5 +1,5 @@
 -- What a run does to its source and its sink, and what it answers.
-use Rattle.std.specs.Prelude.{◌≡◌, ◌⊎◌, ℕ, ◌+◌, ◌<◌, ◌≤◌, List, ◌++◌, length, false, Option, None, Some, Result, Ok, Err}
+use Rattle.std.specs.Prelude.{◌≡◌, ℕ, ◌+◌, ◌<◌, ◌≤◌, List, ◌++◌, length, false, Option, None, Some, Result, Ok, Err}
 use Rattle.std.specs.List.{concat}
 use Rattle.rt_base.specs.declared.limits.TheConstants.{MOST_INPUT}
 use Rattle.rt_base.specs.declared.which.Which.TheVariants.{Input, Partitions, Servers, Controllers, Replication, Message, Events, Sent, Queries, Stored, Moment, Rows}
@@ -121,7 +121,7 @@ abbrev pub PlaysBy : (List ℕ → Report → Type 0) → (List ℕ → List (Li
 PlaysBy All Front from to old new (Err Usage) = ⊥
 PlaysBy All Front from to old new (Err ReadFault) = FailsToRead from to old new
 PlaysBy All Front from to old new (Err Memory) = RunsOutBy Front from to old new
-PlaysBy All Front from to old new (Err (Limit Input)) = IsTooLong from to old new ⊎ PlaysAllBy All Front from to old new (Err (Limit Input))
+PlaysBy All Front from to old new (Err (Limit Input)) = IsTooLong from to old new
 PlaysBy All Front from to old new (Err (Limit Partitions)) = PlaysAllBy All Front from to old new (Err (Limit Partitions))
 PlaysBy All Front from to old new (Err (Limit Servers)) = PlaysAllBy All Front from to old new (Err (Limit Servers))
 PlaysBy All Front from to old new (Err (Limit Controllers)) = PlaysAllBy All Front from to old new (Err (Limit Controllers))
@@ -161,7 +161,7 @@ Meets input (Err Usage) = ⊥
 Meets input (Err ReadFault) = ⊥
 Meets input (Err WriteFault) = ⊥
 Meets input (Err (Refused line reason)) = IsAnswer input (Err (Refused line reason))
-Meets input (Err (Limit Input)) = (input_limit < length input) ⊎ IsAnswer input (Err (Limit Input))
+Meets input (Err (Limit Input)) = input_limit < length input
 Meets input (Err (Limit Partitions)) = IsAnswer input (Err (Limit Partitions))
 Meets input (Err (Limit Servers)) = IsAnswer input (Err (Limit Servers))
 Meets input (Err (Limit Controllers)) = IsAnswer input (Err (Limit Controllers))

@@ -2,7 +2,7 @@ ghost use Rattle.std.specs.Prelude.{◌≡◌, ◌↔◌, ℕ, List, map, Some, 
 ghost use Rattle.rt_base.specs.Source.{Rises};
 ghost use Rattle.rt_play.specs.Generating.{TellsGenerated};
 ghost use Rattle.rt_play.specs.Headline.{PlaysRightly};
-ghost use Rattle.rt_play.specs.Plays.{Meets, PlaysInput};
+ghost use Rattle.rt_play.specs.Plays.{IsTooLong, Meets, PlaysInput};
 ghost use Rattle.rt_play.specs.Words.{asked_of};
 ghost use Rattle.rt_play.specs.declared.generating.Generated.{Generated};
 ghost use Rattle.rt_play.specs.declared.words.Asked.TheVariants as Asked;
@@ -22,7 +22,7 @@ use std::alloc::Global;
 /// The whole input is read before the first line runs. A line outside the grammar, or whose event is refused, is
 /// `Refused` by its number; the lines before it are reported. A fault of the source or the sink comes
 /// only where its count of faults rose. `Limit` names what goes beyond its limit.
-#[tactic(auto, using(crate::proofs::Headlines::plays_rightly, crate::proofs::Completes::completes))]
+#[tactic(auto, using(crate::proofs::Headlines::plays_rightly, crate::proofs::Completes::completes, crate::proofs::Completes::long_alone, crate::proofs::GeneratedLimits::unlimited_alone))]
 pub fn play<S: Source, K: Sink>(
     alloc: Global,
     words: &[&str],
@@ -32,6 +32,9 @@ pub fn play<S: Source, K: Sink>(
     // Usage comes exactly where the words are none of the program's, and then nothing is read or written.
     ensures usage { (result ≡ Err PlayFault.Usage) ↔ (asked_of (map (λ word. word.now) words.now) ≡ None) }
     ensures untouched { asked_of (map (λ word. word.now) words.now) ≡ None → (S.meaning source.new ≡ S.meaning source.old) × (K.meaning sink.new ≡ K.meaning sink.old) }
+
+    // The limit of the input is passed only where the source gives more than is taken, and then nothing is written.
+    ensures long { result ≡ Err (PlayFault.Limit Which.Input) → IsTooLong (S.meaning source.old) (S.meaning source.new) (K.meaning sink.old) (K.meaning sink.new) }
 
     // What is read and written of a script, by the answer: the report is one of the input that was read.
     ensures plays { asked_of (map (λ word. word.now) words.now) ≡ Some Asked.Script → PlaysInput (S.meaning source.old) (S.meaning source.new) (K.meaning sink.old) (K.meaning sink.new) result }

@@ -4,3 +4,7 @@ pub mod ViewRows
 pub mod PutRows
 pub mod ViewLists
 pub mod Added
+pub mod StreamRows
+pub mod RightFound
+pub mod Named
+pub mod RightViews

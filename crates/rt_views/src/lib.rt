@@ -6,6 +6,7 @@
 mod found;
 mod hybrid_view;
 mod latest_view;
+mod laws;
 mod naming;
 mod ranges;
 mod room;
@@ -17,4 +18,8 @@ mod viewing;
 pub use found::Found;
 pub use hybrid_view::hybrid;
 pub use latest_view::latest;
+pub use laws::{
+    a_hybrid_answer_is_right, a_latest_answer_is_right, a_view_has_each_piece_of_its_plan,
+    no_view_leaves_out_what_is_served,
+};
 pub use view::View;
