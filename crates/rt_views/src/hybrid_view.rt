@@ -20,7 +20,8 @@ use rt_world::World;
 use std::alloc::{AllocError, Global};
 
 /// The answer to a query over the offline rows at or before the boundary and the realtime rows past it; each piece of the present
-/// plan is taken from the first assigned server that serves it. Fails only where memory is refused.
+/// plan is taken from the first assigned server that serves it. Fails where memory is refused, and in the same way beyond 2^62
+/// realtime rows.
 pub fn hybrid(
     alloc: Global,
     world: &World,

@@ -26,7 +26,7 @@ use std::alloc::{AllocError, Global};
 
 /// The answer to a query over the latest rows of each partition, of which all pieces of the present plan are taken from the first
 /// assigned server that is up and serves every one of them; without such a server each piece is missing. One key in two
-/// partitions counts in each. Fails only where memory is refused.
+/// partitions counts in each. Fails where memory is refused, and in the same way beyond 2^62 rows, or 4,294,967,295 of one piece.
 pub fn latest(
     alloc: Global,
     world: &World,
