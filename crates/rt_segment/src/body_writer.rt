@@ -32,7 +32,8 @@ pub(crate) fn write_body(
     out.extend_from_slice(&rows.to_be_bytes())?;
     out.extend_from_slice(&(columns.len() as u16).to_be_bytes())?;
     write_columns(alloc, format, rows, columns, &mut out)?;
-    Ok(out)
+    // A copy has no room to spare, and is kept for long.
+    out.as_slice().to_vec(alloc)
 }
 
 // The first 8 bytes.

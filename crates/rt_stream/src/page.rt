@@ -51,6 +51,14 @@ impl Page {
         Ok(())
     }
 
+    /// Gives back the room that no message takes. Where memory runs out, the page is as before.
+    pub(crate) fn compact(&mut self, alloc: Global) -> Result<(), AllocError>
+        ensures { self.new ≡ self.old }
+    {
+        self.bytes = self.bytes.as_slice().to_vec(alloc)?;
+        Ok(())
+    }
+
     /// A message by its place.
     #[tactic(auto, using(crate::proofs::Cuts::length_cut))]
     pub(crate) fn get(&self, place: usize) -> &[u8]

@@ -66,6 +66,7 @@ impl PartitionLog {
         let mut page = Page::new(alloc);
         page.push(message)?;
         self.full.reserve(1)?;
+        self.last.compact(alloc)?;
         let full = mem::replace(&mut self.last, page);
         self.full.push_reserved(full);
         Ok(())
