@@ -1,5 +1,6 @@
 -- Groups that are found by ids.
-use Rattle.std.proofs.Common.{Contains, ◌≡◌, ℕ, ◌+◌, ◌<◌, ◌≤◌, false, List, [], ◌∷◌, ◌++◌, length, map, take, get_or, slice_get, Some, refl, ap, sym, subst, ◌∙◌, inl, inr, arith}
+use Rattle.std.proofs.Common.{Contains, ◌≡◌, ℕ, ◌+◌, ◌<◌, ◌≤◌, false, List, [], ◌∷◌, ◌++◌, length, map, take, get_or, slice_get, Option, None, Some, refl, ap, sym, subst, ◌∙◌, inl, inr, arith}
+use Rattle.std.specs.Prelude.{IfSome}
 use Rattle.std.proofs.lemmas.List.{length-map, length-take-le, get_or_past, take_more, map-append, length_push}
 use Rattle.std.proofs.lemmas.Option.{slice_get_past}
 use Rattle.rt_schema.specs.declared.value.Value.{Value}
@@ -8,7 +9,7 @@ use Rattle.rt_model.specs.declared.query_parts.ColumnAt.{ColumnAt}
 use Rattle.rt_model.specs.Aggregate.{key_of}
 use Rattle.rt_model.specs.Match.{value_in}
 use Rattle.rt_agg.specs.Grouped.{Grouped, KeysStay, keys_in_order}
-use Rattle.rt_scan.specs.Grouping.{value_by, value_with, key_by, Leads}
+use Rattle.rt_scan.specs.Grouping.{value_by, value_with, key_by, Leads, LeadsTo}
 use Rattle.std.proofs.lemmas.List.Elements.{Contains-push_cases}
 use Rattle.rt_seek.specs.Table.{cell_at, row_at}
 
@@ -50,3 +51,10 @@ module _ {C : Type 0} (values : C → List Value) (value_of : C → ℕ → Valu
 
   pub leads_still : (by : List ColumnAt) (old new : Grouped) (met : List (List ℕ × ℕ)) → Leads value_of columns by old met → keys_in_order new ≡ keys_in_order old → Leads value_of columns by new met
   leads_still by old new met led same entry at = ap (λ ks. slice_get ks entry.1) same ∙ led entry at
+
+  -- what one id leads to
+  pub one_leads : (by : List ColumnAt) (c : ColumnAt) (row id : ℕ) (met : List (List ℕ × ℕ)) (found : Option ℕ) → by ≡ c ∷ [] → value_by value_of columns c id ≡ value_in (row_at values columns row) c →
+      IfSome found (λ index. Contains met (id ∷ [], index)) → IfSome found (LeadsTo value_of columns by met (key_of by (row_at values columns row)))
+  one_leads by c row id met None is value at = tt
+  one_leads by c row id met (Some index) is value at =
+      (id ∷ [], at, ap (λ bs. key_by value_of columns bs (id ∷ [])) is ∙ ap (λ v. v ∷ []) value ∙ ap (λ bs. key_of bs (row_at values columns row)) (sym is))

@@ -25,3 +25,7 @@ module _ {C : Type 0} (value_of : C → ℕ → Value) where
   abbrev pub Leads : List C → List ColumnAt → Grouped → List (List ℕ × ℕ) → Type 0
   Leads columns by groups met =
       (entry : List ℕ × ℕ) → Contains met entry → slice_get (keys_in_order groups) entry.1 ≡ Some (key_by columns by entry.0)
+
+  -- the index is noted for ids that stand for the key
+  abbrev pub LeadsTo : List C → List ColumnAt → List (List ℕ × ℕ) → List Value → ℕ → Type 0
+  LeadsTo columns by met key index = (ids : List ℕ) × Contains met (ids, index) × (key_by columns by ids ≡ key)

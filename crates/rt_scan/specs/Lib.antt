@@ -1,3 +1,4 @@
+pub mod IndexById
 pub mod GroupIds
 pub mod Grouping
 pub mod Scanned

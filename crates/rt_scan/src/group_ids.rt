@@ -3,15 +3,18 @@ ghost use Rattle.std.specs.Prelude.{◌≡◌, ◌++◌, ◌∷◌, [], IfSome, 
 ghost use Rattle.std.specs.List.{Contains};
 ghost use Rattle.rt_scan.specs.GroupIds.{IsAbsent};
 
+use crate::index_by_id::IndexById;
 use indexmap::IndexMap;
 use rt_lists::Items;
 use std::alloc::{AllocError, Global};
 use std::marker::Model;
 
-/// For the ids of a row's group columns the index of its group.
+/// For the ids of a row's group columns the index of its group. Where there is one such column, small ids are found without a
+/// hash.
 #[derive(Drop)]
 pub(crate) struct GroupIds {
     indices: IndexMap<Items<u32>, usize>,
+    by_id: IndexById,
 }
 
 impl Model for GroupIds {
@@ -19,7 +22,11 @@ impl Model for GroupIds {
 
     ghost Value = { List (List ℕ × ℕ) };
 
+    ghost use Rattle.rt_scan.specs.GroupIds.{AreMet};
+
     ghost view = { λ g. g.indices.entries };
+
+    ghost invariant = { λ g. AreMet g.indices.entries g.by_id };
 }
 
 impl GroupIds {
@@ -29,7 +36,15 @@ impl GroupIds {
     {
         GroupIds {
             indices: IndexMap::new(alloc),
+            by_id: IndexById::new(alloc),
         }
+    }
+
+    /// The index that was noted for one id alone, if the id is small: [`GroupIds::find`] finds the others.
+    pub(crate) fn find_one(&self, id: u32) -> Option<usize>
+        ensures { IfSome result (λ index. Contains self.now (id ∷ [], index)) }
+    {
+        self.by_id.find(id)
     }
 
     /// The index that was noted for ids.
@@ -48,7 +63,21 @@ impl GroupIds {
         requires { IsAbsent self.old ids }
         ensures { OnOk result (self.new ≡ self.old ++ (ids, index) ∷ []) }
     {
+        let id = only_id(&ids);
         self.indices.insert(ids, index)?;
-        Ok(())
+        match id {
+            Some(id) => self.by_id.note(id, index),
+            None => Ok(()),
+        }
+    }
+}
+
+// The id of a list of one.
+fn only_id(ids: &Items<u32>) -> Option<u32>
+    ensures { IfSome result (λ id. ids.now ≡ id ∷ []) }
+{
+    match ids.as_slice() {
+        [id] => Some(*id),
+        _ => None,
     }
 }

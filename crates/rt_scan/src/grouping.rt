@@ -1,11 +1,11 @@
 //! The groups of the rows of a set.
-ghost use Rattle.std.specs.Prelude.{◌≡◌, ◌<◌, ◌^◌, ℕ, All, length, map, IfOk, OnOk};
+ghost use Rattle.std.specs.Prelude.{◌≡◌, ◌<◌, ◌^◌, ◌∷◌, [], ℕ, All, length, map, IfOk, IfSome, OnOk};
 ghost use Rattle.rt_schema.specs.declared.row.Row.{Row as AnyRow};
 ghost use Rattle.rt_model.specs.Aggregate.{key_of, taken};
 ghost use Rattle.rt_model.specs.Match.{passes, value_in};
 ghost use Rattle.rt_agg.specs.Grouped.{AddsUnder, Fits, Holds};
 ghost use Rattle.rt_seek.specs.Table.{row_at, rows_by};
-ghost use Rattle.rt_scan.specs.Grouping.{key_by, value_by, Leads};
+ghost use Rattle.rt_scan.specs.Grouping.{key_by, value_by, Leads, LeadsTo};
 
 use crate::group_ids::GroupIds;
 use crate::row_reader::RowReader;
@@ -42,8 +42,58 @@ pub(crate) fn groups_of<C: ScanColumn>(
     Ok(groups)
 }
 
-// Adds a row to its group, which is found by the ids of the row.
+// Adds a row to its group.
 fn add_row<C: ScanColumn>(
+    alloc: Global,
+    by: &[ColumnAt],
+    columns: &[C],
+    row: u32,
+    ids: &mut Items<u32>,
+    met: &mut GroupIds,
+    groups: &mut Groups,
+) -> Result<(), AllocError>
+    requires row { All (λ column. row < length (C.values column)) columns.now }
+    requires met { Leads C.value_of columns.now by.now groups.old met.old }
+    ensures adds { OnOk result (AddsUnder (key_of by.now (row_at C.values columns.now row)) (row_at C.values columns.now row) groups.old groups.new) }
+    ensures met { OnOk result (Leads C.value_of columns.now by.now groups.new met.new) }
+{
+    match index_by_one(by, columns, row, met) {
+        Some(index) => {
+            let reader = RowReader { columns, row };
+            groups.add_at(index, &reader);
+            Ok(())
+        }
+        None => add_by_ids(alloc, by, columns, row, ids, met, groups),
+    }
+}
+
+// The index of a row's group, where one column groups the rows and its id is at hand.
+fn index_by_one<C: ScanColumn>(
+    by: &[ColumnAt],
+    columns: &[C],
+    row: u32,
+    met: &GroupIds,
+) -> Option<usize>
+    requires { All (λ column. row < length (C.values column)) columns.now }
+    ensures { IfSome result (LeadsTo C.value_of columns.now by.now met.now (key_of by.now (row_at C.values columns.now row))) }
+{
+    match only_column(by) {
+        Some(column) => met.find_one(id_in(columns, row, column)),
+        None => None,
+    }
+}
+
+fn only_column(by: &[ColumnAt]) -> Option<&ColumnAt>
+    ensures { IfSome result (λ column. by.now ≡ column.now ∷ []) }
+{
+    match by {
+        [column] => Some(column),
+        _ => None,
+    }
+}
+
+// Adds a row to its group, which is found by the ids of the row.
+fn add_by_ids<C: ScanColumn>(
     alloc: Global,
     by: &[ColumnAt],
     columns: &[C],

@@ -7,6 +7,7 @@
 mod filling;
 mod group_ids;
 mod grouping;
+mod index_by_id;
 mod laws;
 mod matching;
 mod row_reader;

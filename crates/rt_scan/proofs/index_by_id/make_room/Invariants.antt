@@ -1,0 +1,9 @@
+use Rattle.std.proofs.Common.{◌-◌, length}
+use Rattle.rt_scan.specs.IndexById.{HasNoMore}
+use Rattle.rt_scan.proofs.index_by_id.make_room.Given as goal
+
+abbrev pub invariant-loop-indices : goal.invariant-loop-indices
+invariant-loop-indices l = HasNoMore l.initial.indices.items l.indices.items
+
+abbrev pub decreases-loop-indices : goal.decreases-loop-indices
+decreases-loop-indices l = l.count - length l.indices.items
