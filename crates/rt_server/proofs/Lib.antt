@@ -22,3 +22,5 @@ pub mod LastingCommits
 pub mod LastingStarts
 pub mod LastingTold
 pub mod LastingCopies
+pub mod Targets
+pub mod Merge

@@ -9,6 +9,7 @@ mod lasting_told;
 mod laws;
 mod lists;
 mod replicas;
+mod seen;
 mod server;
 mod serving;
 mod table;

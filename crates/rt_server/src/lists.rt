@@ -1,14 +1,19 @@
 //! The segments that a server has something to do for.
-ghost use Rattle.std.specs.Prelude.{◌≡◌, IfOk, OnOk};
-ghost use Rattle.rt_server.specs.Due.{due_of, held_of, wanted_of};
+ghost use Rattle.std.specs.Prelude.{◌≡◌, IfOk};
+ghost use Rattle.std.specs.BTreeMap.{IsOrdered};
+ghost use Rattle.rt_server.specs.Due.{due_merged, due_of, held_of, left, wanted_of};
+ghost use Rattle.rt_server.specs.Table.{segment_cmp};
 
 use crate::Server;
 use crate::table::Table;
 use rt_base::{Partition, Sequence};
-use rt_entry::Entry;
+use rt_entry::{Entry, is_due};
 use rt_lists::Items;
+use rt_model::Mode;
 use std::alloc::{AllocError, Global};
-use std::collections::BTreeSet;
+use std::cmp::Ordering;
+use std::collections::BTreeMap;
+use std::collections::btree_map::Iter;
 
 impl Table {
     /// The segments whose transition is due, ascending. Fails only where memory is refused.
@@ -18,18 +23,7 @@ impl Table {
     ) -> Result<Items<(Partition, Sequence)>, AllocError>
         ensures { IfOk result (λ due. due ≡ due_of self.now) }
     {
-        let mut found = BTreeSet::new(alloc);
-        for segment in self.entries.keys() {
-            if self.transit_due(segment.0, segment.1) {
-                found.insert(*segment)?;
-            }
-        }
-        for target in self.modes.keys() {
-            if self.transit_due(target.0, target.1) {
-                found.insert(*target)?;
-            }
-        }
-        listed(alloc, &found)
+        due_merged(alloc, &self.modes, &self.entries)
     }
 
     /// The segments whose file is wanted, ascending. Fails only where memory is refused.
@@ -82,16 +76,62 @@ impl Server {
     }
 }
 
-/// The segments of a set, ascending.
-fn listed(
+/// The segments that are due by their targets and entries, in one walk of both. Fails only where memory is refused.
+fn due_merged(
     alloc: Global,
-    found: &BTreeSet<(Partition, Sequence)>,
+    modes: &BTreeMap<(Partition, Sequence), Mode>,
+    entries: &BTreeMap<(Partition, Sequence), Entry>,
 ) -> Result<Items<(Partition, Sequence)>, AllocError>
-    ensures { IfOk result (λ list. list ≡ found.now.keys) }
+    ensures merged { IfOk result (λ due. due ≡ due_merged modes.now.entries entries.now.entries) }
+    ensures ordered { IsOrdered segment_cmp modes.now × IsOrdered segment_cmp entries.now }
 {
-    let mut list = Items::new(alloc);
-    for segment in found.iter() {
-        list.push(*segment)?;
+    let mut due = Items::new(alloc);
+    let mut targets = modes.iter();
+    let mut others = entries.iter();
+    let mut target = next(&mut targets);
+    let mut entry = next(&mut others);
+    loop {
+        match (target, entry) {
+            (None, None) => return Ok(due),
+            (None, Some((segment, _))) => {
+                due.push(*segment)?;
+                entry = next(&mut others);
+            }
+            (Some((segment, mode)), None) => {
+                if is_due(*mode, None) {
+                    due.push(*segment)?;
+                }
+                target = next(&mut targets);
+            }
+            (Some((segment, mode)), Some((other, found))) => match segment.cmp(other) {
+                Ordering::Less => {
+                    if is_due(*mode, None) {
+                        due.push(*segment)?;
+                    }
+                    target = next(&mut targets);
+                }
+                Ordering::Equal => {
+                    if is_due(*mode, Some(found)) {
+                        due.push(*segment)?;
+                    }
+                    target = next(&mut targets);
+                    entry = next(&mut others);
+                }
+                Ordering::Greater => {
+                    due.push(*other)?;
+                    entry = next(&mut others);
+                }
+            },
+        }
     }
-    Ok(list)
+}
+
+/// The next of what is left of a walk.
+#[tactic(auto, using(crate::proofs::Merge::next_left))]
+fn next<'a, V>(
+    rest: &mut Iter<'a, (Partition, Sequence), V>,
+) -> Option<(&'a (Partition, Sequence), &'a V)>
+    ensures { left result rest.new ≡ rest.old }
+{
+    rest.next()
 }

@@ -5,6 +5,7 @@ ghost use Rattle.rt_server.specs.Fresh.{first_replica, first_segments, is_assign
 ghost use Rattle.rt_server.specs.Table.{entry_of, file_at, replica_of, target_of, wants_at, with_entry, without};
 ghost use Rattle.rt_server.specs.Transition.{transit_due};
 
+use crate::seen::are_targets;
 use rt_assign::replicas;
 use rt_base::{Instance, Offset, Partition, Sequence};
 use rt_entry::{Entry, is_due};
@@ -171,8 +172,9 @@ impl Table {
         drop(self.entries.remove(&(partition, sequence)));
     }
 
-    /// Puts the targets of an instance in an ideal state in the place of those that were seen. Where memory is refused,
-    /// all is as before.
+    /// Puts the targets of an instance in an ideal state in the place of those that were seen; those that are the same
+    /// stay, and take no memory. Where memory is refused, all is as before.
+    #[tactic(auto, using(crate::proofs::Targets::same_table))]
     pub(crate) fn see(
         &mut self,
         alloc: Global,
@@ -182,7 +184,9 @@ impl Table {
         ensures ok { OnOk result (self.new ≡ record self.old { targets = targets_of instance entries.now }) }
         ensures err { OnErr result (self.new ≡ self.old) }
     {
-        self.modes = targets_of(alloc, instance, entries)?;
+        if !are_targets(&self.modes, instance, entries) {
+            self.modes = targets_of(alloc, instance, entries)?;
+        }
         Ok(())
     }
 }
