@@ -9,6 +9,7 @@ mod exchanging;
 mod filling;
 mod outcomes;
 mod querying;
+mod resting;
 mod settling;
 
 pub use acting::{act, apply, attempt, happen, pass};

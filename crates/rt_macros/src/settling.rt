@@ -24,6 +24,7 @@ ghost use Rattle.rt_macros.specs.Settling.{
 
 use crate::acting::{act, attempt, happen};
 use crate::exchanging::finish_exchange;
+use crate::resting::{rests, takes};
 use rt_base::{ControllerId, Instance, NodeId, Partition, Sequence};
 use rt_pause::Pause;
 use rt_world::{Event, Outcome, Refusal, World};
@@ -246,8 +247,8 @@ fn held_turn(
     Ok(busy)
 }
 
-// A replica consumes, builds and makes an exchange, each where it is due.
-#[tactic(auto, using(crate::proofs::Doing::does_then, crate::proofs::Doing::does_refused, crate::proofs::Doing::does_told))]
+// A replica consumes, builds and makes an exchange, each where it is due; one at rest is left out.
+#[tactic(auto, using(crate::proofs::Idle::rests_turn, crate::proofs::Doing::does_then, crate::proofs::Doing::does_refused, crate::proofs::Doing::does_told))]
 fn replica_turn(
     alloc: Global,
     world: &mut World,
@@ -260,11 +261,15 @@ fn replica_turn(
     requires { world.old.spent ≡ false }
     ensures { Does (ReplicaTurn pause.now instance (partition, sequence) busy world.old.state) world.new result }
 {
+    if rests(world, instance, partition, sequence) {
+        return Ok(busy);
+    }
     let busy = consume_turn(alloc, world, pause, instance, partition, sequence, busy)?;
     build_and_exchange(alloc, world, instance, partition, sequence, busy)
 }
 
-#[tactic(auto, using(crate::proofs::Doing::does_then, crate::proofs::Doing::does_refused, crate::proofs::Doing::does_told))]
+// A replica builds and makes an exchange, each where it is due; one that takes messages does neither.
+#[tactic(auto, using(crate::proofs::Idle::takes_turn, crate::proofs::Doing::does_then, crate::proofs::Doing::does_refused, crate::proofs::Doing::does_told))]
 fn build_and_exchange(
     alloc: Global,
     world: &mut World,
@@ -276,6 +281,9 @@ fn build_and_exchange(
     requires { world.old.spent ≡ false }
     ensures { Does (BuildAndExchange instance (partition, sequence) busy world.old.state) world.new result }
 {
+    if takes(world, instance, partition, sequence) {
+        return Ok(busy);
+    }
     let build = Event::Build {
         instance,
         partition,
