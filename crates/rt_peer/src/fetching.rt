@@ -12,7 +12,7 @@ use rt_model::{SegMeta, Status};
 use std::alloc::Global;
 
 /// Fetches the file of a committed segment: from the deep store, or else from the first peer whose copy is the file that
-/// the metadata names. Each is asked once at most, and none behind the one that has it.
+/// the metadata names.
 pub fn fetch<D: DeepStore, P: Peer>(
     alloc: Global,
     deep: &mut D,
