@@ -41,6 +41,7 @@ impl Pause {
         self.paused = false;
     }
 
+    /// Whether the run is paused.
     pub fn paused(&self) -> bool
         ensures { result ≡ self.now }
     {
