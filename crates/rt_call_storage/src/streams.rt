@@ -1,7 +1,7 @@
 use rt_base::limits::LONGEST_MESSAGE;
 use rt_base::{Offset, Partition};
 use rt_call_words::{Answer, Stop, Words};
-use rt_stream::{Feed, FeedRefused, Message, StreamLog};
+use rt_stream::{Feed, FeedRefused, Messages, StreamLog};
 use std::alloc::Global;
 
 /// `stream ..`: calls of the log.
@@ -79,20 +79,20 @@ fn fetch(
     words.ended()?;
     match log.fetch(alloc, partition, from, most) {
         Ok(messages) => {
-            write_messages(alloc, messages.as_slice(), answer);
+            write_messages(alloc, &messages, answer);
             Ok(())
         }
         Err(refused) => refuse(refused, answer),
     }
 }
 
-fn write_messages(alloc: Global, messages: &[Message], answer: &mut Answer) {
+fn write_messages(alloc: Global, messages: &Messages, answer: &mut Answer) {
     if messages.is_empty() {
         answer.add("none");
     }
-    for (place, message) in messages.iter().enumerate() {
+    for place in 0..messages.len() {
         answer.part(place, " ");
-        answer.bytes(alloc, message.as_slice());
+        answer.bytes(alloc, messages.get(place));
     }
 }
 

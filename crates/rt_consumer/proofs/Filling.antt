@@ -1,7 +1,8 @@
 -- Filling rows message by message, and taking them back.
-use Rattle.std.proofs.Common.{◌≡◌, ◌+◌, ◌<◌, ◌≤◌, ℕ, Bool, true, false, cond, nat_lt, List, [], ◌∷◌, ◌++◌, length, drop, filter, All, Option, Some, None, get_or, refl, ap, sym, ◌∙◌, arith}
+use Rattle.std.proofs.Common.{◌≡◌, ◌+◌, ◌<◌, ◌≤◌, ℕ, Bool, true, false, cond, nat_lt, List, [], ◌∷◌, ◌++◌, length, drop, filter, All, Option, Some, None, slice_get, refl, ap, sym, ◌∙◌, arith}
 use Rattle.std.proofs.lemmas.Bool.{cond-true, cond-false, lt-ltb, ltb-true}
 use Rattle.std.proofs.lemmas.List.{drop_more}
+use Rattle.std.proofs.lemmas.Option.{get_or_from_slice_get, slice_get_within}
 use Rattle.std.proofs.lemmas.List.Elements.{All-head, All-tail}
 use Rattle.rt_base.specs.declared.numbers.Offset.{Offset}
 use Rattle.rt_schema.specs.declared.row.Row.{Row}
@@ -41,14 +42,19 @@ filter_all start end (p ∷ ps) h =
 pub all_back : (rows : Consuming) → IsConsuming rows → without rows.end rows ≡ rows
 all_back rows h = ap (λ ps. record rows { rows = ps }) (filter_all rows.start rows.end rows.rows h.between)
 
--- the message with which the limit is reached
-pub filled_stop : (schema : Schema) (limit : ℕ) (rows new whole : Consuming) (ms : List (List ℕ)) (i : ℕ) (m : List ℕ) → i < length ms → m ≡ get_or ms i m
-    → length rows.rows < limit → new ≡ after_message rows (row_of schema m) → limit ≤ length new.rows → filled schema limit rows (drop i ms) ≡ whole → new ≡ whole
-filled_stop schema limit rows new whole ms i m within is lt e le left =
+-- a message more is filled
+pub filled_step : (schema : Schema) (limit : ℕ) (rows new : Consuming) (ms : List (List ℕ)) (i : ℕ) (m : List ℕ) → slice_get ms i ≡ Some m
+    → length rows.rows < limit → new ≡ after_message rows (row_of schema m) → filled schema limit new (drop (i + 1) ms) ≡ filled schema limit rows (drop i ms)
+filled_step schema limit rows new ms i m is lt e =
     let rest = drop (i + 1) ms in
-    let here : drop i ms ≡ m ∷ rest = drop_more ms i m within ∙ ap (λ x. x ∷ rest) (sym is) in
-    sym (filled_full schema limit new rest le)
-    ∙ ap (λ r. filled schema limit r rest) e
+    let here : drop i ms ≡ m ∷ rest =
+    drop_more ms i m (slice_get_within ms i m is) ∙ ap (λ x. x ∷ rest) (get_or_from_slice_get ms i m m is) in
+    ap (λ r. filled schema limit r rest) e
     ∙ sym (filled_more schema limit rows m rest lt)
     ∙ sym (ap (filled schema limit rows) here)
-    ∙ left
+
+-- the message with which the limit is reached
+pub filled_stop : (schema : Schema) (limit : ℕ) (rows new whole : Consuming) (ms : List (List ℕ)) (i : ℕ) (m : List ℕ) → slice_get ms i ≡ Some m
+    → length rows.rows < limit → new ≡ after_message rows (row_of schema m) → limit ≤ length new.rows → filled schema limit rows (drop i ms) ≡ whole → new ≡ whole
+filled_stop schema limit rows new whole ms i m is lt e le left =
+    sym (filled_full schema limit new (drop (i + 1) ms) le) ∙ filled_step schema limit rows new ms i m is lt e ∙ left

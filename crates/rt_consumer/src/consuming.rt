@@ -8,8 +8,7 @@ ghost use Rattle.rt_consumer.specs.Requests.{is_ready, is_below_target};
 use crate::unsealed::is_timed_out;
 use crate::{Consumer, Phase, ReplicaRefused, Stage};
 use rt_base::{Moment, Offset, Partition};
-use rt_lists::Items;
-use rt_stream::{Feed, Message};
+use rt_stream::{Feed, Messages};
 use std::alloc::{AllocError, Global};
 
 impl Consumer {
@@ -36,13 +35,7 @@ impl Consumer {
             return Err(ReplicaRefused::NotDue);
         };
         let messages = fetch(alloc, feed, self.partition, from, count)?;
-        unsealed.take(
-            alloc,
-            &self.settings,
-            self.started,
-            now,
-            messages.as_slice(),
-        )?;
+        unsealed.take(alloc, &self.settings, self.started, now, &messages)?;
         self.waited = None;
         Ok(())
     }
@@ -83,7 +76,7 @@ fn fetch<F: Feed>(
     partition: Partition,
     from: Offset,
     count: u32,
-) -> Result<Items<Message>, AllocError>
+) -> Result<Messages, AllocError>
     requires partition { partition.0 < length (F.meaning feed.old).seen }
     requires within { from.0 ≤ length (messages_of (F.meaning feed.old).seen partition) }
     ensures looks { Looks (F.meaning feed.old) (F.meaning feed.new) }

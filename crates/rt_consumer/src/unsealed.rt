@@ -11,12 +11,12 @@ ghost use Rattle.rt_consumer.specs.Requests.{forced_at};
 ghost use Rattle.rt_consumer.specs.Batch.{asked_at, row_limit, filled, is_timed_out, after_batch, taken_at};
 
 use crate::{ReplicaRefused, Settings, Stage};
-use rt_base::limits::MOST_ROWS;
+use rt_base::limits::{LONGEST_MESSAGE, MOST_ROWS};
 use rt_base::{Moment, Offset};
 use rt_model::Reason;
 use rt_mutable::MutableSegment;
 use rt_schema::{RowReader, Schema};
-use rt_stream::Message;
+use rt_stream::Messages;
 use std::alloc::{AllocError, Global};
 use std::mem;
 
@@ -66,7 +66,7 @@ impl Unsealed {
         settings: &Settings,
         began: Moment,
         now: Moment,
-        messages: &[Message],
+        messages: &Messages,
     ) -> Result<(), AllocError>
         requires settings { AreSettings settings.now }
         requires columns { HaveColumns settings.now self.old.rows }
@@ -158,13 +158,13 @@ pub(crate) fn is_timed_out(
 }
 
 /// Adds the rows of messages, until so many rows are held. Where memory is refused, all is as before.
-#[tactic(auto, using(crate::proofs::Filling::filled_more, crate::proofs::Filling::filled_full, crate::proofs::Filling::one_back, crate::proofs::Filling::all_back))]
+#[tactic(auto, using(crate::proofs::Filling::filled_step, crate::proofs::Filling::filled_full, crate::proofs::Filling::one_back, crate::proofs::Filling::all_back))]
 fn fill(
     alloc: Global,
     settings: &Settings,
     limit: u32,
     rows: &mut MutableSegment,
-    messages: &[Message],
+    messages: &Messages,
 ) -> Result<(), AllocError>
     requires schema { IsSchema settings.now.schema }
     requires limit { limit ≤ MOST_ROWS }
@@ -177,8 +177,8 @@ fn fill(
     }
     let before = rows.end();
     let mut reader = RowReader::new(alloc);
-    for message in messages {
-        match add(alloc, settings, &mut reader, rows, message) {
+    for place in 0..messages.len() {
+        match add(alloc, settings, &mut reader, rows, messages.get(place)) {
             Ok(()) => {}
             Err(refused) => {
                 rows.take_back(before);
@@ -199,11 +199,12 @@ fn add(
     settings: &Settings,
     reader: &mut RowReader,
     rows: &mut MutableSegment,
-    message: &Message,
+    message: &[u8],
 ) -> Result<(), AllocError>
     requires schema { IsSchema settings.now.schema }
     requires room { length rows.old.rows < MOST_ROWS }
     requires columns { HaveColumns settings.now rows.old }
+    requires short { length message.now ≤ LONGEST_MESSAGE }
     ensures ok { OnOk result (rows.new ≡ after_message rows.old (row_of settings.now.schema message.now)) }
     ensures err { OnErr result (rows.new ≡ rows.old) }
 {
@@ -211,8 +212,12 @@ fn add(
         // No memory holds as many messages.
         return Err(AllocError);
     }
-    match reader.read(alloc, &settings.schema, message.as_slice())? {
-        Some(row) => rows.index(alloc, Some(&row)),
+    match reader.read(alloc, &settings.schema, message)? {
+        Some(row) => {
+            rows.index(alloc, Some(&row))?;
+            reader.keep(row);
+            Ok(())
+        }
         None => rows.index(alloc, None),
     }
 }

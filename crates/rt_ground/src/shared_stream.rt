@@ -10,8 +10,7 @@ use crate::stream_value::StreamValue;
 use rt_base::limits::LONGEST_MESSAGE;
 use rt_base::{Offset, Partition};
 use rt_front::Front;
-use rt_lists::Items;
-use rt_stream::{Feed, FeedRefused, Message};
+use rt_stream::{Feed, FeedRefused, Messages};
 use std::alloc::{AllocError, Global};
 use std::marker::Model;
 use std::sync::Wait;
@@ -106,7 +105,7 @@ impl<R: Wait + Copy, J: Naming> Feed for SharedStream<R, J> {
         partition: Partition,
         from: Offset,
         max: u32,
-    ) -> Result<Items<Message>, FeedRefused>
+    ) -> Result<Messages, FeedRefused>
         ensures feed { Fetches (shared_meaning J.starting.partitions self.old)
             (shared_meaning J.starting.partitions self.new) partition from max result }
         ensures mine { SeesMore self.old self.new }

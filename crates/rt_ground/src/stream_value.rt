@@ -11,8 +11,7 @@ use crate::register::Register;
 use rt_base::limits::LONGEST_MESSAGE;
 use rt_base::{Offset, Partition};
 use rt_front::{Blank, Chronicle, Front, Keeper, found};
-use rt_lists::Items;
-use rt_stream::{Feed, FeedRefused, Message, StreamLog};
+use rt_stream::{Feed, FeedRefused, Message, Messages, StreamLog};
 use std::alloc::{AllocError, Global};
 use std::marker::{Model, PhantomData};
 
@@ -89,7 +88,7 @@ impl<J: Naming> StreamValue<J> {
         partition: Partition,
         from: Offset,
         max: u32,
-    ) -> Result<Items<Message>, FeedRefused>
+    ) -> Result<Messages, FeedRefused>
         requires { (chronicle.now ≡ J.names.stream) × (front.old.chronicle ≡ J.names.stream) }
         ensures name { front.new.chronicle ≡ front.old.chronicle }
         ensures looks { Looks J.starting.partitions self.old self.new front.old front.new }

@@ -8,10 +8,10 @@ ghost use Rattle.rt_schema.specs.Row.{row_in};
 ghost use Rattle.rt_schema.specs.Flat.{scalar_of, found_in, data_of, IsPlaceOf, Puts, IsRead, cells_from};
 
 use crate::row_reader::cell;
+use crate::spare::Spare;
 use crate::{Column, Row};
 use fast_float::Numeral;
 use json::{Reader, Scratch, Token};
-use rt_lists::Items;
 use serde_json::{Number, Value as Json};
 use std::alloc::{AllocError, Global};
 
@@ -21,6 +21,7 @@ pub(crate) fn read_flat(
     alloc: Global,
     columns: &[Column],
     found: &mut [Option<Json>],
+    spare: &mut Spare,
     scratch: &mut Scratch,
     text: &str,
 ) -> Result<Option<Row>, AllocError>
@@ -32,13 +33,13 @@ pub(crate) fn read_flat(
     let Some(Token::BeginObject) = reader.next() else {
         return Ok(None);
     };
-    if !read_members(alloc, columns, found, &mut reader)? {
+    if !read_members(alloc, columns, found, spare, &mut reader)? {
         return Ok(None);
     }
     if reader.next().is_some() {
         return Ok(None);
     }
-    row(alloc, columns, found)
+    row(alloc, columns, found, spare)
 }
 
 /// Reads members to the end of their object, and keeps what they have for the columns; of a key that comes twice
@@ -47,6 +48,7 @@ fn read_members(
     alloc: Global,
     columns: &[Column],
     found: &mut [Option<Json>],
+    spare: &mut Spare,
     reader: &mut Reader<'_>,
 ) -> Result<bool, AllocError>
     requires names { are_distinct (names_of columns.now) ≡ true }
@@ -65,7 +67,7 @@ fn read_members(
             return Ok(false);
         };
         let place = place_of(columns, name, likely);
-        if !put(alloc, found, place, token)? {
+        if !put(alloc, found, spare, place, token)? {
             return Ok(false);
         }
         likely = after(place, likely);
@@ -108,6 +110,7 @@ fn after(place: Option<usize>, likely: usize) -> usize {
 fn put(
     alloc: Global,
     found: &mut [Option<Json>],
+    spare: &mut Spare,
     place: Option<usize>,
     token: Token<'_>,
 ) -> Result<bool, AllocError>
@@ -117,7 +120,7 @@ fn put(
     let Some(i) = place else {
         return Ok(is_scalar(token));
     };
-    match scalar(alloc, token)? {
+    match scalar(alloc, spare, token)? {
         Some(json) => {
             found[i] = Some(json);
             Ok(true)
@@ -136,11 +139,11 @@ fn is_scalar(token: Token<'_>) -> bool
     }
 }
 
-fn scalar(alloc: Global, token: Token<'_>) -> Result<Option<Json>, AllocError>
+fn scalar(alloc: Global, spare: &mut Spare, token: Token<'_>) -> Result<Option<Json>, AllocError>
     ensures { IfOk result (λ json. option_map view json ≡ scalar_of (token_of token.entry)) }
 {
     match token {
-        Token::String(text) => Ok(Some(Json::String(String::from_str(alloc, text)?))),
+        Token::String(text) => Ok(Some(Json::String(spare.text(alloc, text)?))),
         Token::Number(text) => Ok(number(text).map(Json::Number)),
         Token::Bool(truth) => Ok(Some(Json::Bool(truth))),
         Token::Null => Ok(Some(Json::Null)),
@@ -196,11 +199,12 @@ fn row(
     alloc: Global,
     columns: &[Column],
     found: &mut [Option<Json>],
+    spare: &mut Spare,
 ) -> Result<Option<Row>, AllocError>
     requires { length found.old ≡ length columns.now }
     ensures { IfOk result (λ row. row ≡ option_map (λ vs. record { values = vs }) (cells_from columns.now (data_of found.old))) }
 {
-    let mut values = Items::new(alloc);
+    let mut values = spare.values(alloc);
     for i in 0..columns.len() {
         match cell(alloc, &columns[i], found[i].take())? {
             Some(value) => values.push(value)?,

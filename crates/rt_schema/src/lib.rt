@@ -15,6 +15,7 @@ mod schema;
 mod schema_reader;
 mod schema_refused;
 mod setting;
+mod spare;
 mod table;
 mod table_reader;
 mod value;

@@ -8,6 +8,7 @@ ghost use Rattle.rt_schema.specs.Flat.{data_of, found_in};
 ghost use Rattle.rt_schema.specs.Row.{row_in, row_of, AreTextsWithin, IsRowOf};
 
 use crate::flat_reader::read_flat;
+use crate::spare::Spare;
 use crate::{Column, Kind, Row, Schema, Value};
 use json::Scratch;
 use rt_lists::{Items, Text};
@@ -35,6 +36,7 @@ pub struct RowReader {
     scratch: Scratch,
     // what the message that is read has for each column
     found: Vec<Option<Json>>,
+    spare: Spare,
 }
 
 impl RowReader {
@@ -43,6 +45,7 @@ impl RowReader {
         RowReader {
             scratch: Scratch::new(alloc),
             found: Vec::new(alloc),
+            spare: Spare::new(alloc),
         }
     }
 
@@ -58,7 +61,19 @@ impl RowReader {
         ensures kinds { IfOk result (λ row. IfSome row (IsRowOf schema.now)) }
         ensures texts { IfOk result (λ row. IfSome row (AreTextsWithin (max 4 (length message.now)))) }
     {
-        read_message(alloc, schema, &mut self.found, &mut self.scratch, message)
+        read_message(
+            alloc,
+            schema,
+            &mut self.found,
+            &mut self.spare,
+            &mut self.scratch,
+            message,
+        )
+    }
+
+    /// Keeps the memory of a row that is no longer needed, for those that are read next.
+    pub fn keep(&mut self, row: Row) {
+        self.spare.keep(row);
     }
 }
 
@@ -66,6 +81,7 @@ fn read_message(
     alloc: Global,
     schema: &Schema,
     found: &mut Vec<Option<Json>>,
+    spare: &mut Spare,
     scratch: &mut Scratch,
     message: &[u8],
 ) -> Result<Option<Row>, AllocError>
@@ -77,7 +93,7 @@ fn read_message(
     };
     let columns = schema.columns.as_slice();
     blank(found, columns)?;
-    match read_flat(alloc, columns, found.as_mut_slice(), scratch, text)? {
+    match read_flat(alloc, columns, found.as_mut_slice(), spare, scratch, text)? {
         Some(row) => Ok(Some(row)),
         None => read_any(alloc, schema, message),
     }

@@ -2,9 +2,8 @@ ghost use Rattle.std.specs.Prelude.{◌≡◌};
 ghost use Rattle.rt_stream.specs.declared.feed.FeedRefused.TheVariants.{Memory};
 ghost use Rattle.rt_stream.specs.Feed.{FeedMeaning, Fetches, Measures};
 
-use crate::Message;
+use crate::Messages;
 use rt_base::{Offset, Partition};
-use rt_lists::Items;
 use std::alloc::{AllocError, Global};
 use thiserror::Error;
 
@@ -42,7 +41,7 @@ pub trait Feed {
         partition: Partition,
         from: Offset,
         max: u32,
-    ) -> Result<Items<Message>, FeedRefused>
+    ) -> Result<Messages, FeedRefused>
         ensures { Fetches (meaning self.old) (meaning self.new) partition from max result };
 
     /// The number of messages of a partition: the offset of the next one. It takes no memory.

@@ -1,9 +1,7 @@
 ghost use Rattle.std.specs.Prelude.{◌≡◌, ◌≤◌, ◌<◌, [], ◌∷◌, ◌++◌, length, slice_get, take, drop, IfOk, IfSome, IfNone, OnOk, OnErr};
 
-use crate::Message;
-use crate::page::Page;
+use crate::Messages;
 use rt_base::limits::LONGEST_MESSAGE;
-use rt_lists::Items;
 use std::alloc::{AllocError, Global};
 use std::marker::Model;
 use std::mem;
@@ -17,8 +15,8 @@ const MOST_PAGES: usize = 1 << 54;
 /// The messages of one partition, in pages of which only the last has room.
 #[derive(Drop)]
 pub(crate) struct PartitionLog {
-    full: Vec<Page>,
-    last: Page,
+    full: Vec<Messages>,
+    last: Messages,
 }
 
 impl Model for PartitionLog {
@@ -40,7 +38,7 @@ impl PartitionLog {
     {
         PartitionLog {
             full: Vec::new(alloc),
-            last: Page::new(alloc),
+            last: Messages::new(alloc),
         }
     }
 
@@ -63,7 +61,7 @@ impl PartitionLog {
         if self.full.len() >= MOST_PAGES {
             return Err(AllocError);
         }
-        let mut page = Page::new(alloc);
+        let mut page = Messages::new(alloc);
         page.push(message)?;
         self.full.reserve(1)?;
         self.last.compact(alloc)?;
@@ -91,21 +89,21 @@ impl PartitionLog {
         alloc: Global,
         from: u64,
         max: u32,
-    ) -> Result<Items<Message>, AllocError>
+    ) -> Result<Messages, AllocError>
         requires { from ≤ length self.now }
         ensures { IfOk result (λ messages. messages ≡ take max (drop from self.now)) }
     {
         let count = (self.len() - from).min(u64::from(max));
-        let mut messages = Vec::with_capacity(alloc, count as usize)?;
+        let mut messages = Messages::new(alloc);
         for offset in from..from + count {
-            messages.push_reserved(Message::copied_from(alloc, self.get(offset))?);
+            messages.push(self.get(offset))?;
         }
-        Ok(Items::of(messages))
+        Ok(messages)
     }
 }
 
 /// A full page, where there is one of this number.
-fn page_at(pages: &[Page], number: usize) -> Option<&Page>
+fn page_at(pages: &[Messages], number: usize) -> Option<&Messages>
     ensures some { IfSome result (λ page. slice_get pages.now number ≡ Some page.now) }
     ensures none { IfNone result (slice_get pages.now number ≡ None) }
 {

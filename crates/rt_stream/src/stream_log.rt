@@ -1,12 +1,11 @@
-ghost use Rattle.std.specs.Prelude.{◌≡◌, ◌≤◌, ◌<◌, [], ◌++◌, length, slice_get, replicate, IfOk, IfSome, IfNone};
+ghost use Rattle.std.specs.Prelude.{◌≡◌, ◌≤◌, ◌<◌, [], length, slice_get, replicate, IfOk, IfSome, IfNone};
 ghost use Rattle.rt_stream.specs.Feed.{Fetches, Measures, answered, log_meaning};
 ghost use Rattle.rt_stream.specs.Log.{Appends, messages_of, end_of, fetched, measured};
 
 use crate::partition_log::PartitionLog;
-use crate::{Feed, FeedRefused, Message};
+use crate::{Feed, FeedRefused, Messages};
 use rt_base::limits::LONGEST_MESSAGE;
 use rt_base::{Offset, Partition};
-use rt_lists::Items;
 use std::alloc::{AllocError, Global};
 use std::marker::Model;
 
@@ -93,7 +92,7 @@ impl Feed for StreamLog {
         partition: Partition,
         from: Offset,
         max: u32,
-    ) -> Result<Items<Message>, FeedRefused>
+    ) -> Result<Messages, FeedRefused>
         ensures feed { Fetches (log_meaning self.old) (log_meaning self.new) partition from max result }
         ensures answer { answered result (fetched self.old partition from max) }
         ensures same { self.new ≡ self.old }

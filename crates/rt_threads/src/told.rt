@@ -1,10 +1,9 @@
 use rt_base::{Instance, Offset, Partition};
 use rt_deep::DeepStore;
 use rt_ground::{Caller, Naming};
-use rt_lists::Items;
 use rt_model::Key;
 use rt_store::Store;
-use rt_stream::{Feed, Message};
+use rt_stream::{Feed, Messages};
 use std::alloc::{AllocError, Global};
 use std::sync::Wait;
 
@@ -77,11 +76,11 @@ pub fn path_of(alloc: Global, turn: u8) -> Result<String, AllocError> {
 }
 
 /// How many of the messages have the byte of the turn that their place names.
-fn in_turn(messages: &Items<Message>) -> u64 {
+fn in_turn(messages: &Messages) -> u64 {
     let mut count = 0u64;
     let mut turn = 0u8;
-    for message in messages.as_slice() {
-        if message.as_slice() == [turn].as_slice() {
+    for place in 0..messages.len() {
+        if messages.get(place) == [turn].as_slice() {
             count = count.saturating_add(1);
         }
         turn = turn.wrapping_add(1);

@@ -4,12 +4,7 @@ use Rattle.rt_stream.proofs.partition_log.PartitionLog.copied_from.Goals as goal
 
 pub loop-offset-preserved : goal.loop-offset-preserved
 loop-offset-preserved c = record {
-  copies = rw (
-    c.push_reserved.ensures.items,
-    c.loop-offset.invariant.copies,
-    c.in_ok-copied_from.ensures,
-  )
+  copies = rw (c.in_ok-push.ensures.ok, c.loop-offset.invariant.copies)
       (sym (slice_more c.args.self.now c.args.from c.loop-offset.offset c.get.result.now
       (omega arith) c.get.ensures.message));
-  room = omega arith;
 }

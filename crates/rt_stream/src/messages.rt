@@ -1,18 +1,22 @@
-ghost use Rattle.std.specs.Prelude.{◌≡◌, ◌≤◌, ◌<◌, [], ◌∷◌, ◌++◌, length, slice_get, slice_index, OnOk, OnErr};
+ghost use Rattle.std.specs.Prelude.{◌≡◌, ◌≤◌, ◌<◌, ◌+◌, ◌↔◌, [], ◌∷◌, ◌++◌, length, slice_get, slice_index, IfOk, IsTrue, OnOk, OnErr};
 ghost use Rattle.rt_stream.specs.Pages.{cut, AreEnds};
 
 use rt_base::limits::LONGEST_MESSAGE;
 use std::alloc::{AllocError, Global};
 use std::marker::Model;
 
-/// A few messages, one behind the other in one vector, with the places at which they end.
+/// The last place at which one more message may begin, so that each place at which one ends is a number of 32 bits.
+const LAST_START: usize = 4_294_901_759;
+
+/// Messages, one behind the other in one piece of memory, at most 4 GiB of them; contracts see them as a list.
 #[derive(Drop)]
-pub(crate) struct Page {
+pub struct Messages {
     bytes: Vec<u8>,
-    ends: Vec<usize>,
+    // where each of them ends
+    ends: Vec<u32>,
 }
 
-impl Model for Page {
+impl Model for Messages {
     ghost use Rattle.std.specs.Prelude.{List, ℕ, length};
     ghost use Rattle.rt_stream.specs.Pages.{cut, AreEnds};
 
@@ -23,35 +27,45 @@ impl Model for Page {
     ghost invariant = { λ p. AreEnds 0 p.ends.items (length p.bytes.items) };
 }
 
-impl Page {
-    pub(crate) fn new(alloc: Global) -> Page
+impl Messages {
+    /// No message. It takes no memory yet.
+    pub fn new(alloc: Global) -> Messages
         ensures { result ≡ [] }
     {
-        Page {
+        Messages {
             bytes: Vec::new(alloc),
             ends: Vec::new(alloc),
         }
     }
 
-    pub(crate) fn len(&self) -> usize
+    /// The number of messages.
+    pub fn len(&self) -> usize
         ensures { result ≡ length self.now }
     {
         self.ends.len()
     }
 
-    /// Adds a message. Where memory runs out, the page is as before.
-    pub(crate) fn push(&mut self, message: &[u8]) -> Result<(), AllocError>
+    /// Whether there is no message.
+    pub fn is_empty(&self) -> bool
+        ensures { IsTrue result ↔ (self.now ≡ []) }
+    {
+        self.len() == 0
+    }
+
+    /// Adds a message at the end. Where memory runs out, which is told beyond 4 GiB too, all is as before.
+    pub fn push(&mut self, message: &[u8]) -> Result<(), AllocError>
         requires { length message.now ≤ LONGEST_MESSAGE }
         ensures ok { OnOk result (self.new ≡ self.old ++ message.now ∷ []) }
         ensures err { OnErr result (self.new ≡ self.old) }
     {
+        let end = end_behind(self.bytes.len(), message.len())?;
         self.ends.reserve(1)?;
         self.bytes.extend_from_slice(message)?;
-        self.ends.push_reserved(self.bytes.len());
+        self.ends.push_reserved(end);
         Ok(())
     }
 
-    /// Gives back the room that no message takes. Where memory runs out, the page is as before.
+    /// Gives back the room that no message takes. Where memory runs out, all is as before.
     pub(crate) fn compact(&mut self, alloc: Global) -> Result<(), AllocError>
         ensures { self.new ≡ self.old }
     {
@@ -61,7 +75,7 @@ impl Page {
 
     /// A message by its place.
     #[tactic(auto, using(crate::proofs::Cuts::length_cut))]
-    pub(crate) fn get(&self, place: usize) -> &[u8]
+    pub fn get(&self, place: usize) -> &[u8]
         requires { place < length self.now }
         ensures message { slice_get self.now place ≡ Some result.now }
         ensures short { length result.now ≤ LONGEST_MESSAGE }
@@ -70,8 +84,19 @@ impl Page {
     }
 }
 
+/// Where a message ends that begins at a place, as far as 32 bits tell it.
+fn end_behind(start: usize, size: usize) -> Result<u32, AllocError>
+    requires { size ≤ LONGEST_MESSAGE }
+    ensures { IfOk result (λ end. end ≡ start + size) }
+{
+    if start > LAST_START {
+        return Err(AllocError);
+    }
+    Ok((start + size) as u32)
+}
+
 /// The bytes of a message.
-fn piece_of<'a>(bytes: &'a [u8], ends: &[usize], place: usize) -> &'a [u8]
+fn piece_of<'a>(bytes: &'a [u8], ends: &[u32], place: usize) -> &'a [u8]
     requires ends { AreEnds 0 ends.now (length bytes.now) }
     requires place { place < length ends.now }
     ensures message { slice_get (cut 0 ends.now bytes.now) place ≡ Some result.now }
@@ -82,11 +107,11 @@ fn piece_of<'a>(bytes: &'a [u8], ends: &[usize], place: usize) -> &'a [u8]
 }
 
 /// Where a message begins, at the end of the one before it, and where it ends.
-fn bounds_of(ends: &[usize], place: usize) -> (usize, usize)
+fn bounds_of(ends: &[u32], place: usize) -> (usize, usize)
     requires { place < length ends.now }
     ensures start { result.0 ≡ slice_index (0 ∷ ends.now) place }
     ensures end { result.1 ≡ slice_index ends.now place }
 {
     let start = if place == 0 { 0 } else { ends[place - 1] };
-    (start, ends[place])
+    (start as usize, ends[place] as usize)
 }

@@ -1,6 +1,6 @@
 use Rattle.std.proofs.Common.{length, ap, sym, ◌∙◌}
 use Rattle.rt_stream.proofs.Cuts.{length_cut}
-use Rattle.rt_stream.proofs.page.Page.len.Goals as goal
+use Rattle.rt_stream.proofs.messages.Messages.len.Goals as goal
 
 pub returns : goal.returns
 returns c =

@@ -1,7 +1,7 @@
 use Rattle.std.proofs.Common.{◌-◌, length, drop, arith}
 use Rattle.std.proofs.lemmas.List.{length-take}
 use Rattle.rt_stream.proofs.Cuts.{cut-get, AreEnds-get}
-use Rattle.rt_stream.proofs.page.piece_of.Goals as goal
+use Rattle.rt_stream.proofs.messages.piece_of.Goals as goal
 
 pub slice_bounds-result-count : goal.slice_bounds-result-count
 slice_bounds-result-count c =
