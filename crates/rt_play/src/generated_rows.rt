@@ -1,4 +1,4 @@
-ghost use Rattle.std.specs.Prelude.{◌≡◌, ◌<◌, ◌≤◌, ◌%◌, ◌^◌, false, IfOk};
+ghost use Rattle.std.specs.Prelude.{◌≡◌, ◌<◌, ◌≤◌, ◌%◌, false, IfOk};
 ghost use Rattle.rt_base.specs.declared.limits.TheConstants.{MOST_PARTITIONS};
 ghost use Rattle.rt_macros.specs.Doing.{Does};
 ghost use Rattle.rt_play.specs.Generating.{ProducesRow, ProducesRows, next_number, row_of_top, row_text};
@@ -9,6 +9,9 @@ use rt_lists::Bytes;
 use rt_macros::happen;
 use rt_world::{Event, Refusal, World};
 use std::alloc::{AllocError, Global};
+
+/// The bytes of the longest row, which are kept free for each.
+const LONGEST_ROW: usize = 19;
 
 /// Has the rows of a generated run come to the partitions in turn; the last number of the generator.
 #[tactic(auto, using(rt_macros::proofs::Doing::count_ends, rt_macros::proofs::Doing::leads_itself))]
@@ -86,6 +89,7 @@ fn row_of_top(alloc: Global, top: u64) -> Result<Bytes, AllocError>
 {
     let key = top % 16;
     let value = top / 16 % 1000;
-    let text = format!(in alloc; "{{\"k\":\"k{key}\",\"v\":{value}}}")?;
-    Bytes::copied_from(alloc, text.as_bytes())
+    let mut text = String::with_capacity(alloc, LONGEST_ROW)?;
+    write!(&mut text, "{{\"k\":\"k{key}\",\"v\":{value}}}")?;
+    Ok(Bytes::of(text.into_bytes()))
 }
