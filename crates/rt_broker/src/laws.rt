@@ -1,4 +1,4 @@
-ghost use Rattle.std.specs.Prelude.{◌≡◌, ◌<◌, ℕ, Ok, Err};
+ghost use Rattle.std.specs.Prelude.{◌<◌, ℕ, Ok, Err};
 ghost use Rattle.rt_base.specs.declared.numbers.Partition.{Partition};
 ghost use Rattle.rt_model.specs.declared.query.Query.{Query};
 ghost use Rattle.rt_model.specs.declared.setup.Setup.{Setup};

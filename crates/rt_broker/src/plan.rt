@@ -1,4 +1,4 @@
-ghost use Rattle.std.specs.Prelude.{◌≡◌, [], map, IfOk};
+ghost use Rattle.std.specs.Prelude.{◌≡◌, map, IfOk};
 ghost use Rattle.rt_model.specs.Plan.{piece_of, plan_of};
 ghost use Rattle.rt_broker.specs.Asking.{unasked};
 

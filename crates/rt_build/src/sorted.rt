@@ -1,4 +1,4 @@
-ghost use Rattle.std.specs.Prelude.{◌≡◌, ◌≤◌, ◌<◌, ◌^◌, ℕ, All, length, take, IfOk};
+ghost use Rattle.std.specs.Prelude.{◌≡◌, ◌≤◌, ◌<◌, All, length, take, IfOk};
 ghost use Rattle.rt_build.specs.Renumbered.{next_id, renumbered, AreSorted};
 
 use rt_dict::{Dict, Key};

@@ -1,4 +1,4 @@
-ghost use Rattle.std.specs.Prelude.{◌≡◌, ◌<◌};
+ghost use Rattle.std.specs.Prelude.{◌<◌};
 ghost use Rattle.rt_base.specs.declared.numbers.Moment.{Moment};
 ghost use Rattle.rt_model.specs.Lawful.{IsLawful, set};
 ghost use Rattle.rt_commit.specs.declared.job.JobStage.TheVariants as stage;

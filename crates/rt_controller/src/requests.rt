@@ -1,5 +1,4 @@
 //! A controller answers a request.
-ghost use Rattle.std.specs.Prelude.{◌≡◌};
 
 use crate::answers::{abandoned_row, claimed, committed_row, fails, first_state, replies};
 use crate::segment_machine::{add, machine_place, react_at};

@@ -1,6 +1,6 @@
 ghost use Rattle.std.specs.Prelude.{◌≡◌, ◌≤◌, IfOk, length};
 ghost use Rattle.rt_model.specs.Metadata.{IsDoneStatus};
-ghost use Rattle.rt_dryrun.specs.Peers.{FindsFile, file_at, file_by, got_from, peer_of};
+ghost use Rattle.rt_dryrun.specs.Peers.{FindsFile, file_by, got_from, peer_of};
 ghost use Rattle.rt_dryrun.specs.Telling.{Tells};
 
 use crate::PeerFile;

@@ -1,7 +1,7 @@
 ghost use Rattle.std.specs.Prelude.{◌≡◌};
 ghost use Rattle.rt_entry.specs.declared.refused.ServerRefused.TheVariants.{Memory};
 ghost use Rattle.rt_entry.specs.declared.refused.ServeRefused.TheVariants.{Memory as ServeMemory};
-ghost use Rattle.rt_entry.specs.Calls.{answered_as, refused_as};
+ghost use Rattle.rt_entry.specs.Calls.{answered_as};
 
 use rt_base::{Header, Offset};
 use rt_replica::ReplicaRefused;

@@ -1,4 +1,4 @@
-ghost use Rattle.std.specs.Prelude.{◌≡◌, ◌∷◌, [], true, ok_or};
+ghost use Rattle.std.specs.Prelude.{◌≡◌, true};
 ghost use Rattle.rt_filter.specs.Refusal.{kind_or_refused, refused_by};
 ghost use Rattle.rt_model.specs.Checked.{
   all_suit,

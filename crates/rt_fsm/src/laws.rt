@@ -1,6 +1,6 @@
 //! What holds of every life of a machine. Each law is a function without a body, and its contract is the law.
 
-ghost use Rattle.std.specs.Prelude.{◌≡◌, ℕ, List};
+ghost use Rattle.std.specs.Prelude.{ℕ, List};
 ghost use Rattle.rt_base.specs.declared.numbers.Instance.{Instance};
 ghost use Rattle.rt_base.specs.declared.numbers.Moment.{Moment};
 ghost use Rattle.rt_model.specs.declared.seg_meta.SeenMeta.{SeenMeta};

@@ -1,4 +1,4 @@
-ghost use Rattle.std.specs.Prelude.{◌≡◌, Ok};
+ghost use Rattle.std.specs.Prelude.{Ok};
 ghost use Rattle.rt_schema.specs.Schema.{IsSchema};
 ghost use Rattle.rt_grammar.specs.Run.{Gives};
 ghost use Rattle.rt_grammar.specs.Steps.{term, after_test, after_predicate, after_term};

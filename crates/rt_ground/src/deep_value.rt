@@ -1,6 +1,5 @@
 ghost use Rattle.std.specs.Prelude.{◌≡◌, [], true, IfOk};
 ghost use Rattle.rt_ground.specs.Callers.{fronts_from};
-ghost use Rattle.rt_ground.specs.Histories.{Tells};
 ghost use Rattle.rt_ground.specs.DeepCalls.{SettledBy, PutsOnce, GetsFrom};
 
 use crate::locked::Locked;

@@ -1,9 +1,8 @@
 //! The objects of a text that is pushed, and which columns they have.
 ghost use Rattle.std.specs.Prelude.{◌≡◌, [], IfOk, filter, map, option_map, option_and_then, is_some};
-ghost use Rattle.std.specs.List.{list_any};
 ghost use Rattle.serde_json.specs.Find.{get, as_array};
 ghost use Rattle.serde_json.specs.Read.{read};
-ghost use Rattle.serde_json.specs.View.{view, items_view};
+ghost use Rattle.serde_json.specs.View.{view};
 ghost use Rattle.rt_hybrid.specs.Batch.{are_few, array_in, columns_kept, if_few, is_named, or_first};
 
 use rt_lists::{Copied, Items};

@@ -1,10 +1,10 @@
 //! The rows of the objects of a text.
-ghost use Rattle.std.specs.Prelude.{◌≡◌, IfOk, map, option_map, option_and_then};
+ghost use Rattle.std.specs.Prelude.{◌≡◌, IfOk, map, option_map};
 ghost use Rattle.std.specs.List.{list_all};
 ghost use Rattle.serde_json.specs.View.{view};
 ghost use Rattle.rt_schema.specs.Row.{row_in};
 ghost use Rattle.rt_schema.specs.Value.{cell_of, in_32_bits, value_of};
-ghost use Rattle.rt_hybrid.specs.Batch.{if_short, is_short, row_pushed, rows_in};
+ghost use Rattle.rt_hybrid.specs.Batch.{is_short, row_pushed, rows_in};
 ghost use Rattle.rt_hybrid.specs.Cells.{cells_in};
 
 use rt_base::limits::LONGEST_MESSAGE;

@@ -1,10 +1,10 @@
 //! The times of rows.
-ghost use Rattle.std.specs.Prelude.{◌≡◌, ◌≤◌, fold, length, map, IfOk, IfSome};
+ghost use Rattle.std.specs.Prelude.{◌≡◌, ◌≤◌, fold, length, map, IfOk};
 ghost use Rattle.serde_json.specs.View.{view};
 ghost use Rattle.rt_base.specs.declared.limits.TheConstants.{MOST_COLUMNS as MOST};
 ghost use Rattle.rt_model.specs.Values.{number_of};
 ghost use Rattle.rt_hybrid.specs.Cells.{time_in};
-ghost use Rattle.rt_hybrid.specs.Sides.{is_before, is_past};
+ghost use Rattle.rt_hybrid.specs.Sides.{is_past};
 ghost use Rattle.rt_hybrid.specs.Table.{day_before, greater_of, is_time, is_time_column, place_of, time_of};
 
 use crate::rows::cell_of;

@@ -1,5 +1,5 @@
 ghost use Rattle.std.specs.Prelude.{◌≡◌};
-ghost use Rattle.rt_model.specs.Ideal.{is_of, is_of_instance, has_entry, has_partition, mode_of};
+ghost use Rattle.rt_model.specs.Ideal.{is_of, has_entry, has_partition, mode_of};
 
 use rt_base::{Instance, Partition, Sequence};
 use rt_model::{IdealEntry, IdealState, Mode};

@@ -1,21 +1,4 @@
-ghost use Rattle.std.specs.Prelude.{
-  ◌≡◌,
-  ◌+◌,
-  ◌<◌,
-  ◌≤◌,
-  ◌^◌,
-  ℕ,
-  List,
-  [],
-  ◌∷◌,
-  length,
-  drop,
-  IfSome,
-  IfNone,
-  IfOk,
-  IfErr,
-  IsTrue,
-};
+ghost use Rattle.std.specs.Prelude.{◌≡◌, ◌+◌, ◌<◌, ◌≤◌, ◌^◌, [], ◌∷◌, length, drop, IfSome, IfNone, IfOk, IfErr};
 ghost use Rattle.std.specs.Str.Lines.{strip_carriage_return};
 ghost use Rattle.rt_lines.specs.Lines.{script_lines, lines_of, lines_from, is_skipped, BeginsUnskipped, length_of_line};
 

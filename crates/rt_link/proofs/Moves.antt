@@ -1,20 +1,18 @@
 -- Each step on a queue keeps that it delivers.
-use Rattle.std.proofs.Common.{◌≡◌, ◌≢◌, ℕ, zero, suc, ◌+◌, ◌<◌, ◌≤◌, ◌⊎◌, ◌==◌, Bool, true, false, cond, true≢false, List, [], ◌∷◌, ◌++◌, length, set, All, sym, refl, ap, ◌∙◌, subst, ⊎_elim, arith, append-nil, append_assoc, eq-eqb, ne_eqb, length-set, lt_of_not-le}
+use Rattle.std.proofs.Common.{◌≡◌, ◌≢◌, ℕ, zero, suc, ◌+◌, ◌<◌, ◌==◌, true, false, cond, true≢false, List, [], ◌∷◌, ◌++◌, length, set, sym, refl, ap, ◌∙◌, subst, arith, append_assoc, eq-eqb, ne_eqb, lt_of_not-le}
 use Rattle.std.specs.Bool.{⊤}
-use mathlib.Core.Option.{Option, some, none, some-injective, some-ne-none}
-use mathlib.Core.Logic.{dite}
-use native.Mathlib.Decide.{ℕ_discrete}
+use mathlib.Core.Option.{some, some-injective, some-ne-none}
 use lib.ListN.{get_elem?}
-use Rattle.std.proofs.lemmas.List.Elements.{All-nil, All-push, All-weaker, All-same}
-use Rattle.atomic_table.proofs.Lists.{at_set, set_else}
+use Rattle.std.proofs.lemmas.List.Elements.{All-nil, All-push, All-weaker}
+use Rattle.atomic_table.proofs.Lists.{set_else}
 use Rattle.crossbeam_queue.specs.Fifo.{Pushes, Pops, Forks, Merges, Learns}
 use Rattle.rt_front.proofs.Views.{each_set, each_more}
 use Rattle.rt_link.specs.declared.envelope.Envelope.{Envelope}
 use Rattle.rt_link.specs.declared.rule.Sent.{Sent}
 use Rattle.rt_link.specs.declared.rule.Account.{Account}
 use Rattle.rt_link.specs.declared.rule.Knows.{Knows}
-use Rattle.rt_link.specs.Delivery.{of, sent, account, owner, sender, idle, maker, next_sender, gatherer, Accepts, TakesOne, AddsUp, FitsSender, FitsOwner, Fits, Delivers}
-use Rattle.rt_link.proofs.Counts.{of_append, of_here, of_else, of_some}
+use Rattle.rt_link.specs.Delivery.{of, account, owner, sender, idle, maker, next_sender, gatherer, Accepts, TakesOne, AddsUp, Fits, Delivers}
+use Rattle.rt_link.proofs.Counts.{of_here, of_else, of_some}
 
 -- the one view, at its place
 only : (v : Knows) (k : ℕ) (u : Knows) → get_elem? (v ∷ []) k ≡ some u → (k ≡ 0) × (v ≡ u)

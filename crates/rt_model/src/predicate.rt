@@ -1,4 +1,4 @@
-ghost use Rattle.std.specs.Prelude.{◌≡◌, IfOk};
+ghost use Rattle.std.specs.Prelude.{◌≡◌};
 ghost use Rattle.rt_model.specs.Condition.{tree_of};
 
 use crate::{ColumnAt, Comparison, Literal};

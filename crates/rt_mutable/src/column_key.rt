@@ -1,5 +1,4 @@
 ghost use Rattle.std.specs.Prelude.{◌≡◌, IsTrue};
-ghost use Rattle.std.proofs.Common.{rules};
 ghost use Rattle.rt_mutable.specs.Keys.{exact_ints, exact_bools, exact_texts};
 
 use rt_dict::Key;

@@ -1,5 +1,5 @@
 //! A row more in each of the columns, or in none.
-ghost use Rattle.std.specs.Prelude.{◌≡◌, ◌<◌, All, length, map, slice_get, slice_index_or, IfOk, OnOk, OnErr};
+ghost use Rattle.std.specs.Prelude.{◌≡◌, ◌<◌, All, length, map, IfOk, OnOk, OnErr};
 ghost use Rattle.rt_schema.specs.Schema.{is_among};
 ghost use Rattle.rt_schema.specs.Value.{kind_of};
 ghost use Rattle.rt_mutable.specs.Columns.{cell_at, empty_column, with_values, without_last, cut};

@@ -1,4 +1,4 @@
-ghost use Rattle.std.specs.Prelude.{◌≡◌, ◌<◌, ◌-◌, ◌^◌, ◌≤◌, [], true, false, nat_lt, Some, IsTrue, All, AllPairs, length, map, filter, take, count_by, slice_get, option_copied, IfOk, IfSome, OnOk, OnErr};
+ghost use Rattle.std.specs.Prelude.{◌≡◌, ◌<◌, ◌-◌, ◌^◌, ◌≤◌, [], true, false, nat_lt, Some, IsTrue, All, AllPairs, length, filter, take, count_by, slice_get, option_copied, IfOk, IfSome, OnOk, OnErr};
 ghost use Rattle.std.specs.List.Sorted.{IsPartitionPoint};
 ghost use Rattle.rt_schema.specs.Schema.{IsSchema, is_among, names_of};
 ghost use Rattle.rt_schema.specs.Value.{kind_of};

@@ -1,7 +1,7 @@
 //! The nodes that there are at first.
 ghost use Rattle.std.specs.Prelude.{◌≡◌, ◌<◌, IfOk};
 ghost use Rattle.rt_model.specs.Setup.{IsSetup};
-ghost use Rattle.rt_nodes.specs.Fresh.{fresh_server, fresh_servers, fresh_controller, fresh_controllers, fresh_upkeep};
+ghost use Rattle.rt_nodes.specs.Fresh.{fresh_servers, fresh_controller, fresh_controllers, fresh_upkeep};
 
 use crate::{ControllerNode, ServerNode, Upkeep};
 use rt_base::{ControllerId, Instance};

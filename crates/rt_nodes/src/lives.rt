@@ -1,6 +1,5 @@
 //! Nodes crash, and are up again.
 ghost use Rattle.std.specs.Prelude.{◌≡◌, IfOk};
-ghost use Rattle.rt_store.specs.Memory.{means};
 ghost use Rattle.rt_nodes.specs.Lives.{node_crashed, controller_crashed, controller_restarted, NodeRestarts};
 
 use crate::servers::failed;

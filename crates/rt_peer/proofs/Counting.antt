@@ -1,30 +1,28 @@
 -- What Nowhere and Faulted tell of the counts of faults.
-use Rattle.std.proofs.Common.{◌≡◌, ℕ, ◌+◌, ◌<◌, ◌⊎◌, inl, inr, Bool, true, false, List, [], ◌∷◌, Option, Some, None, Result, Ok, Err, refl, sym, ap, subst, ◌∙◌}
+use Rattle.std.proofs.Common.{◌≡◌, ℕ, ◌+◌, ◌<◌, ◌⊎◌, inl, inr, true, false, List, [], ◌∷◌, Option, Some, None, Result, Ok, Err, refl, sym, ap, ◌∙◌}
 use Rattle.rt_base.specs.declared.fault.Fault.{Fault}
 use Rattle.rt_base.specs.declared.fault.Fault.TheVariants as fault
 use Rattle.rt_base.specs.declared.header.Header.{Header}
-use Rattle.rt_base.specs.Faults.{Planned, answer_under, fault_of, left_under, met_by, met_fault}
-use Rattle.rt_segment.specs.Segment.{SealedSegment}
+use Rattle.rt_base.specs.Faults.{Planned, answer_under, fault_of, left_under, met_by}
 use Rattle.rt_deep.specs.declared.deep_put.DeepPut.{DeepPut}
 use Rattle.rt_deep.specs.declared.refused.DeepRefused.{DeepRefused}
 use Rattle.rt_deep.specs.declared.refused.DeepRefused.TheVariants as deep
 use Rattle.rt_deep.specs.Meaning.{Told, Meaning as DeepMeaning}
 use Rattle.rt_deep.specs.Memory.{means}
 use Rattle.rt_deep.specs.Answers.{getting}
-use Rattle.rt_deep.specs.Calls.{Gets, IsExact, answer_on, told_on}
+use Rattle.rt_deep.specs.Calls.{Gets, IsExact}
 use Rattle.rt_deep.proofs.Seeing.{told_exact}
 use Rattle.rt_deep.proofs.Told.{get_rose}
-use Rattle.rt_peer.specs.declared.got.Got.{Got}
 use Rattle.rt_peer.specs.declared.peer_fault.PeerFault.{PeerFault}
 use Rattle.rt_peer.specs.declared.peer_fault.PeerFault.TheVariants.{Failed, Memory}
 use Rattle.rt_peer.specs.declared.peer_refused.PeerRefused.{PeerRefused}
 use Rattle.rt_peer.specs.declared.peer_refused.PeerRefused.TheVariants as refused
 use Rattle.rt_peer.specs.Calls.{Copies}
 use Rattle.rt_peer.specs.Counts.{AnyRose, Rose}
-use Rattle.rt_peer.specs.Fetching.{After, AsksPeer, AsksPeers, Fetches, copied_in, found_in, unfound}
-use Rattle.rt_peer.specs.Files.{Comes, file_in}
+use Rattle.rt_peer.specs.Fetching.{After, AsksPeer, AsksPeers, Fetches, copied_in, found_in}
+use Rattle.rt_peer.specs.Files.{Comes}
 use Rattle.rt_peer.specs.Meaning.{Meaning}
-use Rattle.rt_peer.proofs.Refusing.{Answer, Came, refuse}
+use Rattle.rt_peer.proofs.Refusing.{Answer, Came}
 
 abbrev nowhere : Answer
 nowhere = Err refused.Nowhere

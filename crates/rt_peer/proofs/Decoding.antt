@@ -1,5 +1,5 @@
 -- Which bytes are the file that metadata names.
-use Rattle.std.proofs.Common.{◌≡◌, Option, Some, None, Result, Ok, Err, ap}
+use Rattle.std.proofs.Common.{Option, Result, Ok, Err, ap}
 use Rattle.rt_base.specs.declared.header.Header.{Header}
 use Rattle.rt_segment.specs.declared.segment_refused.SegmentRefused.{SegmentRefused}
 use Rattle.rt_segment.specs.declared.segment_refused.SegmentRefused.TheVariants as segment

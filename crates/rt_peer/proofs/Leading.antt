@@ -1,5 +1,5 @@
 -- The peers are asked one after the other.
-use Rattle.std.proofs.Common.{◌≡◌, ℕ, suc, ◌+◌, ◌<◌, ◌≤◌, Bool, true, false, List, [], ◌∷◌, ◌++◌, length, map, take, drop, get_or, set, Option, Some, None, Result, Ok, Err, refl, sym, ap, subst, ◌∙◌, arith, append_assoc, add-one, length-set}
+use Rattle.std.proofs.Common.{◌≡◌, ℕ, ◌+◌, ◌<◌, ◌≤◌, Bool, true, List, [], ◌∷◌, ◌++◌, length, map, take, drop, get_or, set, Option, Some, None, Result, Ok, Err, refl, sym, ap, subst, ◌∙◌, arith, append_assoc, add-one, length-set}
 use Rattle.std.proofs.lemmas.List.{drop_more, drop_all, take_all, take_more_set, set_split, drop-set-lt, map-append, append-nil}
 use Rattle.rt_base.specs.declared.header.Header.{Header}
 use Rattle.rt_segment.specs.Segment.{SealedSegment}

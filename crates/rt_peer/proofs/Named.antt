@@ -1,5 +1,5 @@
 -- Files with the wanted header.
-use Rattle.std.proofs.Common.{◌≡◌, ℕ, ◌&&◌, Bool, true, false, cond, List, Option, Some, None, Result, Ok, Err, bytes_eq, eqb, refl, sym, ap, subst, ◌∙◌}
+use Rattle.std.proofs.Common.{◌≡◌, ℕ, ◌&&◌, Bool, true, false, cond, List, Option, Some, None, Result, Ok, Err, bytes_eq, eqb, refl, ap, subst, ◌∙◌}
 use Rattle.std.proofs.lemmas.Bool.{and_parts, eqb-true, eq-eqb}
 use Rattle.std.proofs.lemmas.Slice.Eq.{bytes_eq-Decides}
 use Rattle.rt_base.specs.declared.header.Header.{Header}
@@ -8,7 +8,7 @@ use Rattle.rt_segment.specs.Reading.{read_file}
 use Rattle.rt_segment.specs.Segment.{SealedSegment, IsSealed}
 use Rattle.rt_segment.specs.Spelling.{file_of, header_of}
 use Rattle.rt_segment.proofs.FileLaws.{spelled_read}
-use Rattle.rt_peer.specs.Files.{file_in, fitting, named_in, same_header, IsWanted}
+use Rattle.rt_peer.specs.Files.{file_in, fitting, same_header, IsWanted}
 
 abbrev made : ℕ → ℕ → ℕ → ℕ → ℕ → List ℕ → Header
 made p s start end rows digest =

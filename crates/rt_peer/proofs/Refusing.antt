@@ -1,15 +1,13 @@
 -- What a refused fetch tells of those who were asked.
-use Rattle.std.proofs.Common.{◌≡◌, ℕ, zero, suc, ◌+◌, ◌<◌, ◌⊎◌, inl, inr, Bool, true, false, cond, List, [], ◌∷◌, Option, Some, None, Result, Ok, Err, slice_get, refl, sym, ap, subst, ◌∙◌}
+use Rattle.std.proofs.Common.{◌≡◌, ℕ, zero, suc, ◌+◌, ◌<◌, Bool, true, false, List, [], ◌∷◌, Option, Some, None, Result, Ok, Err, slice_get, refl, sym, ap, subst, ◌∙◌}
 use Rattle.rt_base.specs.declared.fault.Fault.{Fault}
 use Rattle.rt_base.specs.declared.header.Header.{Header}
 use Rattle.rt_base.proofs.Planned.{without_fault}
-use Rattle.rt_lists.specs.Members.{IsFront}
 use Rattle.rt_segment.specs.Segment.{SealedSegment}
 use Rattle.rt_deep.specs.declared.deep_put.DeepPut.{DeepPut}
 use Rattle.rt_deep.specs.declared.refused.DeepRefused.{DeepRefused}
 use Rattle.rt_deep.specs.declared.refused.DeepRefused.TheVariants as deep
 use Rattle.rt_deep.specs.Meaning.{Told, Meaning as DeepMeaning}
-use Rattle.rt_deep.specs.Memory.{means}
 use Rattle.rt_deep.specs.Files.{file_of}
 use Rattle.rt_deep.specs.Answers.{found_in as deep_found, getting}
 use Rattle.rt_deep.specs.Calls.{Gets, Goes, AreAll}
@@ -21,8 +19,7 @@ use Rattle.rt_peer.specs.declared.peer_fault.PeerFault.TheVariants.{Failed, Memo
 use Rattle.rt_peer.specs.declared.peer_refused.PeerRefused.{PeerRefused}
 use Rattle.rt_peer.specs.declared.peer_refused.PeerRefused.TheVariants as refused
 use Rattle.rt_peer.specs.Calls.{Copies, Holds}
-use Rattle.rt_peer.specs.Counts.{AnyRose, Rose}
-use Rattle.rt_peer.specs.Fetching.{After, AsksDeep, AsksPeer, AsksPeers, Fetches, copied_in, found_in, unfound}
+use Rattle.rt_peer.specs.Fetching.{After, AsksPeer, AsksPeers, Fetches, copied_in, found_in}
 use Rattle.rt_peer.specs.Files.{Comes, file_in, IsWanted}
 use Rattle.rt_peer.specs.Meaning.{Held, Meaning}
 use Rattle.rt_peer.specs.RightPeer.{IsHeld}

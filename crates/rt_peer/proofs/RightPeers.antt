@@ -1,5 +1,5 @@
 -- What a fetch gives: a file with the wanted header, and from a right peer the one file of the range.
-use Rattle.std.proofs.Common.{◌≡◌, ℕ, zero, suc, ◌+◌, List, [], ◌∷◌, Bool, false, true, Option, Some, None, IfSome, IfOk, Result, Ok, Err, slice_get, refl, sym, ap, subst, ◌∙◌, arith}
+use Rattle.std.proofs.Common.{◌≡◌, ℕ, suc, ◌+◌, List, [], ◌∷◌, Bool, false, true, Option, Some, None, IfSome, IfOk, Result, Ok, Err, slice_get, refl, sym, ap, subst, ◌∙◌, arith}
 use Rattle.rt_base.specs.declared.header.Header.{Header}
 use Rattle.rt_model.specs.declared.setup.Setup.{Setup}
 use Rattle.rt_segment.specs.Segment.{SealedSegment}

@@ -1,5 +1,5 @@
 -- Whose count of faults rose.
-use Rattle.std.specs.Prelude.{ℕ, ◌<◌, ◌⊎◌, List, [], ◌∷◌}
+use Rattle.std.specs.Prelude.{◌<◌, ◌⊎◌, List, [], ◌∷◌}
 use Rattle.rt_deep.specs.Meaning.{Meaning as DeepMeaning}
 use Rattle.rt_peer.specs.Meaning.{Meaning}
 

@@ -5,7 +5,6 @@ use Rattle.rt_schema.specs.Schema.{is_among}
 use Rattle.rt_model.specs.declared.setup.Setup.{Setup}
 use Rattle.rt_segment.specs.FileRight.{FileRight}
 use Rattle.rt_segment.specs.Column.{SealedColumn}
-use Rattle.rt_segment.specs.Segment.{SealedSegment}
 use Rattle.rt_segment.specs.Spelling.{header_of}
 use Rattle.rt_peer.specs.Meaning.{Held, Meaning}
 

@@ -1,5 +1,5 @@
 -- How a generated run is told.
-use Rattle.std.proofs.Common.{◌≡◌, ◌⊎◌, inl, inr, ℕ, zero, suc, ◌+◌, List, [], ◌∷◌, ◌++◌, length, Some, None, Result, Ok, Err, false, refl, ap, sym, ◌∙◌, subst, arith, append_assoc}
+use Rattle.std.proofs.Common.{◌≡◌, inl, inr, ℕ, zero, suc, ◌+◌, List, [], ◌∷◌, ◌++◌, length, Result, Ok, Err, false, refl, ap, sym, ◌∙◌, subst, arith, append_assoc}
 use Rattle.std.specs.List.{concat}
 use Rattle.std.proofs.lemmas.List.{append-nil, length-append}
 use Rattle.rt_base.specs.Sink.{SinkMeaning}
@@ -11,7 +11,7 @@ use Rattle.rt_lines.specs.declared.play_fault.PlayFault.{PlayFault}
 use Rattle.rt_lines.specs.declared.play_fault.PlayFault.TheVariants.{Usage, Refused, ReadFault, WriteFault, Memory, Limit}
 use Rattle.rt_macros.specs.Doing.{Does}
 use Rattle.rt_model.specs.declared.setup.Setup.{Setup}
-use Rattle.rt_play.proofs.Tellings.{nothing_put, put_in_part, put_text}
+use Rattle.rt_play.proofs.Tellings.{nothing_put, put_in_part}
 use Rattle.rt_play.specs.Generating.{IsGenerated, IsGeneratedBy, RunsGenerated, TellsGenerated, end_texts, generated_setup, report_by, report_texts, setup_read}
 use Rattle.rt_play.specs.Plays.{FailsWithin, Puts}
 use Rattle.rt_play.specs.Report.{fault_at, stopped}

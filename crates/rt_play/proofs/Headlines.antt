@@ -1,5 +1,5 @@
 -- Every report comes with the run of which it tells, in which every world is right.
-use Rattle.std.proofs.Common.{◌≡◌, ℕ, List, [], ◌++◌, Option, Some, None, Result, Ok, Err, refl}
+use Rattle.std.proofs.Common.{◌≡◌, ℕ, List, Result, Ok, Err, refl}
 use Rattle.rt_base.specs.declared.which.Which.TheVariants.{Input, Partitions, Servers, Controllers, Replication, Message, Events, Sent, Queries, Stored, Moment, Rows}
 use Rattle.rt_base.specs.Sink.{SinkMeaning}
 use Rattle.rt_base.specs.Source.{SourceMeaning}
@@ -10,8 +10,8 @@ use Rattle.rt_lines.specs.declared.play_fault.PlayFault.TheVariants.{Usage, Refu
 use Rattle.rt_lines.proofs.Headers.{header_taken}
 use Rattle.rt_model.specs.Setup.{IsSetup}
 use Rattle.rt_play.specs.Beginning.{beginning_of, going_from}
-use Rattle.rt_play.specs.Headline.{IsRight, IsRightFront, IsRightFrontBehind, IsRightReport, IsRightReportBehind, PlaysRightly, RunsRightly}
-use Rattle.rt_play.specs.Plays.{PlaysAllBy, PlaysBy, PlaysInput, RunsOutBy, Tells, TellsFront}
+use Rattle.rt_play.specs.Headline.{IsRightFront, IsRightFrontBehind, IsRightReport, IsRightReportBehind, PlaysRightly, RunsRightly}
+use Rattle.rt_play.specs.Plays.{PlaysAllBy, PlaysBy, PlaysInput, Tells}
 use Rattle.rt_play.specs.Report.{FrontRuns, IsFrontBehind, IsFrontOfReport, IsReport, IsReportBehind, Report}
 use Rattle.rt_play.specs.declared.beginning.Beginning.{Beginning}
 use Rattle.rt_play.specs.declared.play_end.PlayEnd.{PlayEnd}

@@ -1,6 +1,6 @@
 -- A generated run: `gen SEED PARTITIONS ROWS`. Rows are produced, the cluster settles, and a query is asked; then it is told how
 -- far each partition is committed, and the answer.
-use Rattle.std.specs.Prelude.{◌≡◌, ◌⊎◌, ℕ, zero, suc, ◌+◌, ◌*◌, ◌/◌, ◌%◌, ◌^◌, Bool, false, List, [], ◌∷◌, ◌++◌, Option, None, Some, Result, Ok, Err, codes, decimal, nat_le, ◌&&◌, if◌then◌else◌}
+use Rattle.std.specs.Prelude.{◌≡◌, ◌⊎◌, ℕ, zero, suc, ◌+◌, ◌*◌, ◌/◌, ◌%◌, ◌^◌, false, List, [], ◌∷◌, ◌++◌, Option, None, Some, Result, Ok, Err, codes, decimal, nat_le, ◌&&◌, if◌then◌else◌}
 use Rattle.rt_base.specs.declared.limits.TheConstants.{MOST_PARTITIONS, MOST_ROWS}
 use Rattle.rt_base.specs.declared.which.Which.TheVariants.{Partitions, Rows}
 use Rattle.rt_base.specs.Sink.{SinkMeaning}

@@ -1,4 +1,3 @@
-ghost use Rattle.std.specs.Prelude.{◌≡◌, ◌≤◌};
 ghost use Rattle.rt_play.specs.Generating.{end_texts, report_texts};
 ghost use Rattle.rt_play.specs.Writing.{WritesText, WritesTexts};
 ghost use Rattle.rt_report.specs.MacroTexts.{end_text};

@@ -9,7 +9,6 @@ ghost use Rattle.rt_model.specs.Setup.{IsSetup};
 ghost use Rattle.rt_play.specs.Generating.{Asks, AsksQuery, RunsGenerated, SettlesAndAsks, TellsGenerated, generated_setup, header_text, query_said, setup_read};
 ghost use Rattle.rt_lines.specs.Header.{header_of};
 ghost use Rattle.rt_lines.specs.Lines.{script_lines};
-ghost use Rattle.rt_script.specs.Line.{FitsLine};
 ghost use Rattle.rt_state.specs.Start.{start};
 
 use crate::PlayEnd;

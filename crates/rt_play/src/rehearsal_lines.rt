@@ -1,7 +1,7 @@
 ghost use Rattle.std.specs.Prelude.{◌≡◌, [], ◌++◌, false, OnOk, string_bytes};
 ghost use Rattle.rt_macros.specs.Doing.{DoesText};
 ghost use Rattle.rt_play.specs.Going.{Counts, DoesChange};
-ghost use Rattle.rt_play.specs.Rehearsing.{LoadedTold, PeerBy, PeerTold, RehearseTold, StepTold, found_text, planned_text, stepped_text};
+ghost use Rattle.rt_play.specs.Rehearsing.{LoadedTold, PeerTold, RehearseTold, StepTold, found_text, planned_text, stepped_text};
 ghost use Rattle.rt_report.specs.FurtherTexts.{rehearsed_text};
 
 use rt_base::{Instance, Partition, Sequence};

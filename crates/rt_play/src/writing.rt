@@ -1,4 +1,3 @@
-ghost use Rattle.std.specs.Prelude.{◌≡◌};
 ghost use Rattle.rt_play.specs.Plays.{WritesAll};
 
 use rt_base::{Failed, Sink};

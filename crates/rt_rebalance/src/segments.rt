@@ -1,4 +1,4 @@
-ghost use Rattle.std.specs.Prelude.{◌≡◌, ℕ, [], ◌∷◌, ◌<◌, ◌≤◌, length, take, drop, None, IfSome, IfNone};
+ghost use Rattle.std.specs.Prelude.{◌≡◌, ℕ, [], ◌∷◌, ◌<◌, ◌≤◌, length, None, IfSome, IfNone};
 ghost use Rattle.rt_rebalance.specs.Planned.{slots_of};
 ghost use Rattle.rt_rebalance.specs.Refused.{refused_of};
 ghost use Rattle.rt_rebalance.specs.Segments.{are_online, is_beside, is_moved, is_online, same_instances, segments_of};

@@ -1,18 +1,17 @@
 -- What a told step gives is one that its store could give.
-use Rattle.std.proofs.Common.{◌≡◌, ℕ, Bool, List, Option, Some, None, Result, Ok, Err, refl, sym, ◌∙◌, ap, arith}
+use Rattle.std.proofs.Common.{◌≡◌, ℕ, Bool, Option, Some, None, Result, Err, refl, sym, ap}
 use Rattle.std.proofs.lemmas.Option.{none-some, same_Some}
 use Rattle.rt_base.specs.declared.numbers.Moment.{Moment}
 use Rattle.rt_base.specs.declared.numbers.Sequence.{Sequence}
-use Rattle.rt_lists.proofs.Members.{front_same}
 use Rattle.rt_model.specs.declared.decision.Decision.{Decision}
 use Rattle.rt_model.specs.declared.decision.Decision.TheVariants as decision
 use Rattle.rt_model.specs.declared.node.Key.TheVariants as key
 use Rattle.rt_model.specs.declared.node.Seen.{Seen}
 use Rattle.rt_model.specs.Lawful.{Write}
 use Rattle.rt_store.specs.declared.refused.StoreRefused.{StoreRefused}
-use Rattle.rt_store.specs.declared.refused.StoreRefused.TheVariants.{NoNode, Exists, VersionChanged, Failed, Memory}
+use Rattle.rt_store.specs.declared.refused.StoreRefused.TheVariants.{Memory}
 use Rattle.rt_store.specs.Answers.{reading, listing, answer_of, after_call}
-use Rattle.rt_store.specs.Calls.{Calls, GoesBy, answer_on, told_on}
+use Rattle.rt_store.specs.Calls.{answer_on}
 use Rattle.rt_store.specs.Meaning.{Told}
 use Rattle.rt_store.specs.Memory.{means}
 use Rattle.rt_store.proofs.Realized.{calls_told}

@@ -1,5 +1,5 @@
 ghost use Rattle.std.specs.Prelude.{◌≡◌};
-ghost use Rattle.rt_model.specs.Repair.{decide, decide_open, are_offline, is_offline};
+ghost use Rattle.rt_model.specs.Repair.{decide, decide_open, are_offline};
 ghost use Rattle.rt_repair.specs.Decided.{decide_at};
 
 use rt_base::limits::LAST_NUMBER;

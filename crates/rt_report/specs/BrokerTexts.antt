@@ -1,6 +1,5 @@
 -- What a report tells of queries, and of nodes that are looked at.
 use Rattle.std.specs.Prelude.{ℕ, List, ◌++◌, Option, None, Some, codes, decimal}
-use Rattle.rt_base.specs.declared.numbers.Offset.{Offset}
 use Rattle.rt_base.specs.declared.range.Range.{Range}
 use Rattle.rt_events.specs.declared.event.Event.{Event}
 use Rattle.rt_ideal.specs.Text.{state_text}

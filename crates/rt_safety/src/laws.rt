@@ -1,5 +1,5 @@
 //! The laws of a cluster. Each stands on a function that does nothing: its clause is the law.
-ghost use Rattle.std.specs.Prelude.{◌≡◌, ℕ, List, Option, Some, Result, Ok, Err, slice_get};
+ghost use Rattle.std.specs.Prelude.{◌≡◌, ℕ, List, Some, Result, Ok, Err, slice_get};
 ghost use Rattle.rt_base.specs.declared.numbers.ControllerId.{ControllerId};
 ghost use Rattle.rt_controller.specs.Right.{IsTimely};
 ghost use Rattle.rt_controller.specs.declared.segment_machine.SegmentMachine.{SegmentMachine};

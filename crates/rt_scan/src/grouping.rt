@@ -1,6 +1,5 @@
 //! The groups of the rows of a set.
 ghost use Rattle.std.specs.Prelude.{◌≡◌, ◌<◌, ◌^◌, ◌∷◌, [], ℕ, All, length, map, IfOk, IfSome, OnOk};
-ghost use Rattle.rt_schema.specs.declared.row.Row.{Row as AnyRow};
 ghost use Rattle.rt_model.specs.Aggregate.{key_of, taken};
 ghost use Rattle.rt_model.specs.Match.{passes, value_in};
 ghost use Rattle.rt_agg.specs.Grouped.{AddsUnder, Fits, Holds};

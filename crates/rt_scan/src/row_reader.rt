@@ -1,4 +1,3 @@
-ghost use Rattle.std.specs.Prelude.{◌≡◌};
 ghost use Rattle.rt_seek.specs.Table.{row_at};
 
 use rt_agg::{ReadRow, Scalar};

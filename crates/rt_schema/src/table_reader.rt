@@ -5,7 +5,7 @@ ghost use Rattle.rt_names.specs.Table.{is_table_name};
 ghost use Rattle.rt_schema.specs.Json.{map_all};
 ghost use Rattle.rt_schema.specs.Schema.{names_of, is_among};
 ghost use Rattle.rt_schema.specs.SchemaText.{Answers};
-ghost use Rattle.rt_schema.specs.TableText.{is_section, inside, first_number, replication_of, row_limit, rows_of, millis_of, stream_of, texts_at, all_among, chosen_of, indexed_of, index_of, base_name, table_with, table_in, table_of, IsTable};
+ghost use Rattle.rt_schema.specs.TableText.{is_section, inside, replication_of, row_limit, rows_of, millis_of, stream_of, texts_at, all_among, chosen_of, indexed_of, index_of, base_name, table_with, table_in, table_of, IsTable};
 
 use crate::index_config::{IndexConfig, StreamConfig};
 use crate::object::{is_given, read_object, text_at};

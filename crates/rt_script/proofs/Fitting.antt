@@ -9,14 +9,12 @@ use Rattle.rt_events.specs.declared.event.Event.TheVariants.{FaultStore, FaultDe
 use Rattle.rt_events.specs.Fits.{Fits}
 use Rattle.rt_lines.specs.Words.{field_of, then_some, parted_at, number_of}
 use Rattle.rt_schema.specs.declared.schema.Schema.{Schema}
-use Rattle.rt_script.specs.BrokerLines.{route_of, piece_of, answer_of}
 use Rattle.rt_script.specs.FurtherLines.{bare_of, offline_of, plan_by}
 use Rattle.rt_script.specs.Line.{FitsFurther, FitsLine, FitsMacro, plain_of}
-use Rattle.rt_script.specs.MacroLines.{fill_of, exchange_of, settle_of}
 use Rattle.rt_script.specs.NodeLines.{crash_at, restart_at, led_partition_of}
 use Rattle.rt_script.specs.OutsideLines.{fault_by, kept_of, meta_of, on_of}
 use Rattle.rt_script.specs.ReplicaLines.{numbered_replica_of}
-use Rattle.rt_script.specs.Words.{controller_of, force_job_of, index_of, instance_of, job_of, message_of, node_of, partition_of, query_of, replica_of, segment_of}
+use Rattle.rt_script.specs.Words.{controller_of, force_job_of, instance_of, job_of, message_of, node_of, partition_of, query_of, replica_of, segment_of}
 use Rattle.rt_script.specs.declared.command.Command.{Command}
 use Rattle.rt_script.specs.declared.command.Command.TheVariants as command
 use Rattle.rt_script.specs.declared.further.Further.{Further}

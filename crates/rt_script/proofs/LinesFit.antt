@@ -1,19 +1,17 @@
 -- Whatever a line says fits the table that it is read for.
-use Rattle.std.proofs.Common.{◌≡◌, ℕ, List, Bool, true, false, Option, Some, None, Result, Ok, Err, refl, sym}
+use Rattle.std.proofs.Common.{◌≡◌, ℕ, List, Option, Some, None, Result, Ok, Err, refl, sym}
 use Rattle.std.specs.Prelude.{IfSome, option_map, codes, bytes_eq}
 use Rattle.rt_events.specs.Fits.{Fits}
-use Rattle.rt_lines.specs.Words.{then_some, parted_at}
+use Rattle.rt_lines.specs.Words.{parted_at}
 use Rattle.rt_model.specs.declared.query.Query.{Query}
 use Rattle.rt_schema.specs.declared.schema.Schema.{Schema}
 use Rattle.rt_script.specs.Command.{command_of}
-use Rattle.rt_script.specs.FurtherLines.{bare_of}
-use Rattle.rt_script.specs.Line.{FitsLine, ask_line, hybrid_line, latest_line, line_by, line_from, line_of, plain_of, query_line}
+use Rattle.rt_script.specs.Line.{FitsLine, ask_line, hybrid_line, latest_line, line_by, line_from, line_of, query_line}
 use Rattle.rt_script.specs.OutsideLines.{produce_of}
 use Rattle.rt_script.specs.QueryTexts.{FitsText, text_of, text_read}
 use Rattle.rt_script.specs.Words.{partition_of}
 use Rattle.rt_script.specs.declared.query_text.QueryText.{QueryText}
 use Rattle.rt_script.specs.declared.query_text.QueryText.TheVariants as text
-use Rattle.rt_script.specs.declared.line.Line.{Line}
 use Rattle.rt_script.proofs.Fitting.{all_some, bare_fits, either_fits, events_fit, furthers_fit, offline_fits, plain_fits}
 use Rattle.rt_sql.specs.Parsing.{query_of as query_in}
 use Rattle.rt_grammar.specs.declared.sql_refused.SqlRefused.{SqlRefused}

@@ -1,5 +1,5 @@
 //! Sets of rows by the ids of a column.
-ghost use Rattle.std.specs.Prelude.{◌≡◌, ◌^◌, ◌<◌, All, length, map, replicate, true, false, slice_set, IfOk};
+ghost use Rattle.std.specs.Prelude.{◌≡◌, ◌^◌, ◌<◌, All, length, map, replicate, true, slice_set, IfOk};
 ghost use Rattle.rt_seek.specs.RowSets.{noted, truth_at, with_rows};
 
 use rt_postings::DocSet;

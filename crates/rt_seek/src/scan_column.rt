@@ -1,4 +1,4 @@
-ghost use Rattle.std.specs.Prelude.{◌≡◌, ℕ, ◌<◌, List, length, map, slice_index_or, IfOk};
+ghost use Rattle.std.specs.Prelude.{◌≡◌, ℕ, ◌<◌, List, length, map, IfOk};
 ghost use Rattle.rt_schema.specs.declared.value.Value.{Value as AnyValue};
 ghost use Rattle.rt_agg.specs.Reading.{scalar_of};
 ghost use Rattle.rt_seek.specs.ColumnTest.{passes_test};

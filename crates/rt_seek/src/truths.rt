@@ -1,5 +1,5 @@
 //! Which values of a sorted dictionary pass a test, by their ids.
-ghost use Rattle.std.specs.Prelude.{◌≡◌, ◌+◌, map, not, length, replicate, false, IfOk, OnOk};
+ghost use Rattle.std.specs.Prelude.{◌≡◌, map, not, length, false, IfOk};
 ghost use Rattle.std.specs.List.{range_with_len};
 ghost use Rattle.rt_postings.specs.DocSet.{either};
 ghost use Rattle.rt_seek.specs.Keys.{key_accepted, compares_keys, equals_one, key_passes, lies_between_by, is_between, is_within, same_key};

@@ -1,5 +1,5 @@
 -- Bytes behind those that were read change nothing of what was read, and a breach lies before the end of the bytes.
-use Rattle.std.proofs.Common.{◌≡◌, ℕ, zero, suc, ◌+◌, ◌-◌, ◌*◌, ◌/◌, ◌<◌, ◌≤◌, Bool, true, false, cond, eqb, ltb, List, [], ◌∷◌, ◌++◌, length, get_or, take, drop, slice_get, Option, Some, None, Result, Ok, Err, refl, sym, ap, subst, ◌∙◌, append_assoc, arith, inl, inr}
+use Rattle.std.proofs.Common.{◌≡◌, ℕ, zero, suc, ◌+◌, ◌-◌, ◌*◌, ◌/◌, ◌<◌, ◌≤◌, Bool, true, false, cond, eqb, ltb, List, [], ◌∷◌, ◌++◌, length, get_or, take, drop, slice_get, Option, Some, None, Result, Ok, Err, refl, sym, ap, subst, ◌∙◌, arith, inl, inr}
 use Rattle.std.specs.Prelude.{codes, not, ◌&&◌, ◌⊎◌, int_lt}
 use Rattle.std.specs.Int.{Width, w16, w32, w64, byte_len, from_be_bytes, cast_signed}
 use Rattle.std.specs.Str.{bytes_eq, is_utf8}
@@ -24,7 +24,6 @@ use Rattle.rt_segment.specs.declared.dictionary.Dictionary.TheVariants.{Int, Lon
 use Rattle.rt_segment.specs.declared.segment_refused.SegmentRefused.{SegmentRefused}
 use Rattle.rt_segment.specs.declared.segment_refused.SegmentRefused.TheVariants.{Truncated, Magic, NotCanonical, Digest, Limit, Memory}
 use Rattle.rt_segment.specs.Cursor.{Cursor, Read, ◌>>=◌, breach, bytes_at, number_at, byte_in}
-use Rattle.rt_segment.specs.Column.{SealedColumn}
 use Rattle.rt_segment.specs.Segment.{SealedSegment, IsSealed}
 use Rattle.rt_segment.specs.Spelling.{posting_numbers, has_extremes, body_of, file_of}
 use Rattle.rt_segment.specs.Reading.{format_of, format_at, range_at, rows_at, column_count_at, int_at, long_at, bool_at, text_at, values_at, again_at, extremes_at, dictionary_of, dictionary_at, first_past, are_clear, checked_ids, ids_in, ids_at, first_unused, has_id, without, name_at, kind_at, cardinality_at, this_number, numbers_at, postings_at, column_at, columns_at, body_at, read_file}

@@ -1,8 +1,6 @@
 //! A file up to its digest.
-ghost use Rattle.std.specs.Prelude.{◌≡◌};
 ghost use Rattle.rt_segment.specs.Cursor.{Gives};
-ghost use Rattle.rt_segment.specs.Segment.{SealedSegment};
-ghost use Rattle.rt_segment.specs.Reading.{body_at, range_at, rows_at, column_count_at};
+ghost use Rattle.rt_segment.specs.Reading.{body_at};
 ghost use Rattle.rt_segment.specs.Bodies.{segment_of};
 
 use crate::column_reader::read_columns;

@@ -1,5 +1,5 @@
 //! A file up to its digest.
-ghost use Rattle.std.specs.Prelude.{◌≡◌, ◌++◌, All, IfOk, OnOk};
+ghost use Rattle.std.specs.Prelude.{◌≡◌, All, IfOk, OnOk};
 ghost use Rattle.rt_segment.specs.Column.{IsColumn};
 ghost use Rattle.rt_segment.specs.Segment.{IsSealable};
 ghost use Rattle.rt_segment.specs.Spelling.{magic, body_of};

@@ -1,5 +1,5 @@
 //! Bytes that are read from left to right.
-ghost use Rattle.std.specs.Prelude.{◌≡◌, ℕ, ◌+◌, ◌<◌, ◌^◌, ◌==◌, length};
+ghost use Rattle.std.specs.Prelude.{◌≡◌, ◌+◌, ◌<◌, ◌^◌, ◌==◌, length};
 ghost use Rattle.std.specs.Int.{w16, w32, w64};
 ghost use Rattle.rt_segment.specs.Cursor.{Gives, bytes_at, number_at, byte_in};
 

@@ -1,4 +1,4 @@
-ghost use Rattle.std.specs.Prelude.{◌≡◌, ℕ, IfOk, Ok};
+ghost use Rattle.std.specs.Prelude.{◌≡◌, IfOk, Ok};
 ghost use Rattle.rt_segment.specs.Cursor.{Answers};
 ghost use Rattle.rt_segment.specs.Segment.{SealedSegment, IsSealed};
 ghost use Rattle.rt_segment.specs.Spelling.{file_of};

@@ -1,5 +1,5 @@
 //! The fields of a file before its columns.
-ghost use Rattle.std.specs.Prelude.{◌≡◌, ◌<◌, ◌≤◌, IfOk};
+ghost use Rattle.std.specs.Prelude.{◌<◌, ◌≤◌, IfOk};
 ghost use Rattle.rt_segment.specs.Cursor.{Gives, Answers};
 ghost use Rattle.rt_segment.specs.Reading.{format_of, format_at, range_at, rows_at, column_count_at};
 

@@ -1,6 +1,5 @@
-ghost use Rattle.std.specs.Prelude.{◌≡◌, ◌<◌, ℕ, List, All, IfOk, Some, length, slice_get, slice_set};
+ghost use Rattle.std.specs.Prelude.{◌≡◌, ◌<◌, IfOk, Some, slice_get};
 ghost use Rattle.sha2.specs.Sha256.{sha256};
-ghost use Rattle.rt_segment.specs.Column.{SealedColumn, IsColumn};
 ghost use Rattle.rt_segment.specs.Segment.{SealedSegment, IsSealable, IsSealed, rows_of, are_columns};
 ghost use Rattle.rt_segment.specs.Spelling.{body_of, header_of};
 

@@ -1,4 +1,4 @@
-ghost use Rattle.std.specs.Prelude.{◌≡◌, ◌<◌, ◌≤◌, ◌^◌, ◌+◌, ◌++◌, ℕ, List, All, Contains, IfOk, IfSome, IfNone, OnOk, Some, None, true, false, length, slice_get};
+ghost use Rattle.std.specs.Prelude.{◌≡◌, ◌<◌, ◌^◌, ◌+◌, ◌++◌, ℕ, All, Contains, IfOk, IfSome, IfNone, OnOk, Some, None, true, false, length};
 ghost use Rattle.std.specs.Option.{is_some};
 ghost use Rattle.rt_postings.specs.Postings.{postings_of, rows_of};
 ghost use Rattle.rt_segment.specs.Segment.{is_column};

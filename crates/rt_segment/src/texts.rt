@@ -1,5 +1,5 @@
 //! Texts out of bytes.
-ghost use Rattle.std.specs.Prelude.{◌≡◌, ◌∷◌, [], if◌then◌else◌, Ok, Err};
+ghost use Rattle.std.specs.Prelude.{if◌then◌else◌, Ok, Err};
 ghost use Rattle.std.specs.Str.{is_utf8};
 ghost use Rattle.rt_segment.specs.Cursor.{Answers};
 

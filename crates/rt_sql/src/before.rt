@@ -1,5 +1,4 @@
 ghost use Rattle.std.specs.Prelude.{◌≡◌};
-ghost use Rattle.rt_schema.specs.Schema.{IsSchema};
 ghost use Rattle.rt_sql.specs.Checks.{before_next, is_known, are_known, is_within, are_within};
 ghost use Rattle.rt_sql.specs.declared.before.Before.TheVariants.{Other};
 

@@ -1,9 +1,9 @@
 -- How a world goes on where one of its queries was routed, asked or answered.
-use Rattle.std.proofs.Common.{◌≡◌, ℕ, slice_get, slice_set, Option, Some, None, Ok, refl, sym, ap, subst, ◌∙◌}
+use Rattle.std.proofs.Common.{◌≡◌, ℕ, slice_get, slice_set, Some, Ok, refl, sym, ap, subst, ◌∙◌}
 use Rattle.rt_base.specs.declared.numbers.Instance.{Instance}
 use Rattle.rt_base.specs.declared.numbers.Partition.{Partition}
 use Rattle.rt_base.specs.declared.numbers.Sequence.{Sequence}
-use Rattle.rt_broker.specs.Asking.{Asking, piece_at}
+use Rattle.rt_broker.specs.Asking.{Asking}
 use Rattle.rt_broker.specs.Noting.{Notes}
 use Rattle.rt_broker.specs.declared.piece_got.PieceGot.{PieceGot}
 use Rattle.rt_events.specs.declared.outcome.Outcome.{Outcome}
@@ -16,7 +16,6 @@ use Rattle.rt_state.specs.Finding.{query_at, query_in}
 use Rattle.rt_state.specs.Queries.{Answers, AnswersAt, GivesPiece, IsAnswerOf, Pieces, PiecesAt, PiecesOf, QueryRoutes, Routes, RoutesAt, closed, piece_outcome, with_query}
 use Rattle.rt_state.specs.Room.{counted}
 use Rattle.rt_state.specs.declared.cost.Cost.{Cost}
-use Rattle.rt_nodes.specs.declared.server_node.ServerNode.{ServerNode}
 use Rattle.rt_state.specs.declared.state.State.{State}
 
 pub query_stands : (w : State) (q : ℕ) (a : Asking) → slice_get w.queries q ≡ Some (Some a) → query_at w q ≡ Some a

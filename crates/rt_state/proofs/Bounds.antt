@@ -1,5 +1,5 @@
 -- What a world holds is far below what its numbers can count.
-use Rattle.std.proofs.Common.{◌≡◌, ℕ, zero, suc, ◌+◌, ◌<◌, ◌≤◌, ◌^◌, List, [], ◌∷◌, ◌++◌, length, arith, length-append}
+use Rattle.std.proofs.Common.{◌≡◌, ℕ, zero, suc, ◌+◌, ◌<◌, ◌^◌, [], ◌∷◌, ◌++◌, length, arith, length-append}
 use Rattle.rt_model.specs.Starting.{Starting, starting_boot, starting_meta, starting_ideal, starting_boots, starting_metas, starting_contents}
 use Rattle.rt_store.specs.Contents.{starting_of}
 use Rattle.rt_state.specs.IsSafeWorld.{IsSafeWorld}

@@ -1,5 +1,5 @@
 -- How a world goes on where one of its controllers took a step, in the words of the step.
-use Rattle.std.proofs.Common.{◌≡◌, ◌+◌, ◌++◌, ◌∷◌, [], ℕ, List, length, slice_get, slice_set, Option, Some, None, Ok, refl, sym, ap, subst, ◌∙◌}
+use Rattle.std.proofs.Common.{◌≡◌, ℕ, length, slice_get, slice_set, Option, Some, None, Ok, refl, sym, ap, subst, ◌∙◌}
 use Rattle.rt_base.specs.declared.numbers.ControllerId.{ControllerId}
 use Rattle.rt_base.specs.declared.numbers.Partition.{Partition}
 use Rattle.rt_controller.specs.Controller.{Controlling}
@@ -20,7 +20,7 @@ use Rattle.rt_state.specs.Finding.{request_at}
 use Rattle.rt_state.specs.Jobs.{JobSteps, JobStepsAt, job_told, noted_set, stepped}
 use Rattle.rt_state.specs.Messages.{Delivers, DeliversAt, after_step, handed, tells}
 use Rattle.rt_state.specs.Nodes.{ControllerDoes, ControllerDoesAt, with_controller}
-use Rattle.rt_state.specs.Repairs.{NodeRepairs, NodeRepairsAt, NodeRetires, NodeRetiresAt, Repairs, RepairsAt, Retires, RetiresAt, upkeep_at, upkeep_in}
+use Rattle.rt_state.specs.Repairs.{NodeRepairs, NodeRepairsAt, NodeRetires, NodeRetiresAt, Repairs, RepairsAt, Retires, RetiresAt, upkeep_in}
 use Rattle.rt_state.specs.Room.{counted, spent, with_set}
 use Rattle.rt_nodes.specs.declared.controller_node.ControllerNode.{ControllerNode}
 use Rattle.rt_state.specs.declared.cost.Cost.{Cost}

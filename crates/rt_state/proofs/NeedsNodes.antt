@@ -1,13 +1,12 @@
 -- What the events of the clock, the stream, lives, controllers and queries need, and find in a safe world.
-use Rattle.std.proofs.Common.{◌≡◌, ◌+◌, ◌<◌, ◌≤◌, ◌^◌, ◌&&◌, ℕ, Bool, true, false, not, List, length, slice_get, Option, Some, None, Ok, Err, refl, sym, ap, subst, ◌∙◌, arith, is_some, IsNone, IsSome, IfSome, unwrap_or}
+use Rattle.std.proofs.Common.{◌≡◌, ◌+◌, ◌<◌, ◌≤◌, ◌^◌, ◌&&◌, ℕ, true, not, List, length, slice_get, Option, Some, None, Ok, refl, sym, ap, subst, ◌∙◌, arith, is_some, IsNone, IsSome, IfSome, unwrap_or}
 use Rattle.std.proofs.lemmas.Bool.{ltb-true}
 use Rattle.std.proofs.lemmas.Option.{slice_get_within}
 use Rattle.rt_nodes.specs.declared.server_node.ServerNode.{ServerNode}
-use Rattle.rt_base.specs.declared.limits.TheConstants.{LONGEST_MESSAGE, LAST_MOMENT, MOST_EVENTS}
+use Rattle.rt_base.specs.declared.limits.TheConstants.{LONGEST_MESSAGE, LAST_MOMENT}
 use Rattle.rt_base.specs.declared.numbers.ControllerId.{ControllerId}
 use Rattle.rt_base.specs.declared.numbers.Instance.{Instance}
 use Rattle.rt_base.specs.declared.numbers.Partition.{Partition}
-use Rattle.rt_base.specs.declared.numbers.Sequence.{Sequence}
 use Rattle.rt_events.specs.declared.refusal.Refusal.TheVariants.{NoSuchNode, NoSuchMessage, NodeDown, NothingToDo}
 use Rattle.rt_model.specs.Starting.{Starting}
 use Rattle.rt_store.specs.Contents.{starting_of}
@@ -16,11 +15,10 @@ use Rattle.rt_controller.proofs.Lasts.{ready_over}
 use Rattle.rt_repair.specs.Repairing.{Repairing, set_entries, beginning as repair_beginning}
 use Rattle.rt_repair.specs.Retirement.{Retirement, set_entries as retire_sets, beginning as retire_beginning}
 use Rattle.rt_repair.proofs.Growing.{repair_begins_over, retire_begins_over, repair_ready, retire_ready}
-use Rattle.rt_broker.specs.Asking.{Asking, is_tried, is_piece_due, is_answer_due}
-use Rattle.rt_state.proofs.Dues.{IsThere, Spends, both, controller_there, priced_spends, server_there}
+use Rattle.rt_state.proofs.Dues.{Spends, both, controller_there, priced_spends}
 use Rattle.rt_state.proofs.Possible.{only_passed, priced_room, then_passed}
 use Rattle.rt_state.specs.Clock.{tick_due, lead_due}
-use Rattle.rt_state.specs.Finding.{find_controller, has_controller, has_partition, has_server, is_controller_up, is_server_up, is_up, request_at, reply_at, query_at}
+use Rattle.rt_state.specs.Finding.{find_controller, has_controller, has_partition, has_server, is_controller_up, is_server_up, is_up, request_at, reply_at}
 use Rattle.rt_state.specs.IsSafe.{IsControllerAt, IsUpkeepOver, past_of}
 use Rattle.rt_state.specs.IsSafeWorld.{IsSafeWorld}
 use Rattle.rt_state.specs.Jobs.{has_job, job_due, sets_of_job, job_told, job_told_by, stepped, stepped_by}
@@ -31,10 +29,10 @@ use Rattle.rt_model.specs.declared.reply.Reply.{Reply}
 use Rattle.rt_repair.specs.Lasting.{IsRepairOver, IsRetireOver}
 use Rattle.rt_repair.specs.Repairing.{IsUnended as repair_unended}
 use Rattle.rt_repair.specs.Retirement.{IsUnended as retire_unended}
-use Rattle.rt_state.specs.Lives.{crash_server_due, crash_controller_due, restart_server_due, restart_controller_due}
+use Rattle.rt_state.specs.Lives.{crash_server_due, restart_server_due, restart_controller_due}
 use Rattle.rt_state.specs.Messages.{deliver_due, reply_by, reply_due}
 use Rattle.rt_state.specs.Repairs.{IsReadyRepair, IsReadyRetirement, begun, believes_at, find_upkeep, repair_by, repair_due, repair_in, retain_by, retain_due, retirement_in, retiring, upkeep_at, upkeep_in}
-use Rattle.rt_state.specs.Room.{counted, message_cost, no_cost, only_if, priced, set_cost, time_cost}
+use Rattle.rt_state.specs.Room.{counted, message_cost, no_cost, priced, set_cost, time_cost}
 use Rattle.rt_state.specs.Stream.{produce_due}
 use Rattle.rt_nodes.specs.declared.controller_node.ControllerNode.{ControllerNode}
 use Rattle.rt_state.specs.declared.cost.Cost.{Cost}

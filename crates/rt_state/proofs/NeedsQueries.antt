@@ -1,10 +1,8 @@
 -- What the events of queries need, and find in a safe world.
-use Rattle.std.proofs.Common.{◌≡◌, ◌+◌, ◌<◌, ◌≤◌, ◌^◌, ◌&&◌, ℕ, Bool, true, false, not, map, option_map, ◌==◌, if◌then◌else◌, length, slice_get, Option, Some, None, Ok, Err, IfSome, is_some, zero, suc, List, [], ◌∷◌, refl, sym, ap, subst, ◌∙◌, arith}
+use Rattle.std.proofs.Common.{◌≡◌, ◌<◌, ◌&&◌, ℕ, Bool, true, false, not, map, option_map, ◌==◌, if◌then◌else◌, length, slice_get, Option, Some, None, Ok, List, [], ◌∷◌, refl, sym, ap, subst, ◌∙◌, arith}
 use Rattle.std.proofs.lemmas.Bool.{eqb-true, ltb-true}
 use Rattle.std.proofs.lemmas.Option.{slice_get_within}
-use Rattle.std.specs.List.{count_by}
 use Rattle.rt_base.specs.declared.numbers.Instance.{Instance}
-use Rattle.rt_state.specs.IsSafeWorld.{open_in}
 use Rattle.rt_base.specs.declared.numbers.Partition.{Partition}
 use Rattle.rt_base.specs.declared.numbers.Sequence.{Sequence}
 use Rattle.rt_broker.specs.Asking.{Asking, asked_at, asked_for, assigned_at, is_answer_due, is_due_of, is_piece_due, is_tried, piece_at, plan_at, plan_in, route_at}
@@ -31,7 +29,7 @@ use Rattle.rt_state.specs.Finding.{has_partition, has_server, query_at, query_in
 use Rattle.rt_state.specs.IsSafe.{IsQueryAsked, past_of}
 use Rattle.rt_state.specs.IsSafeWorld.{IsSafeWorld}
 use Rattle.rt_state.specs.Queries.{AsksRightly, GivesPiece, answer_by, answer_due, ask_due, piece_by, piece_due, route_by, route_due}
-use Rattle.rt_state.specs.Room.{no_cost, only_if, priced, query_cost}
+use Rattle.rt_state.specs.Room.{no_cost, priced, query_cost}
 use Rattle.rt_state.specs.declared.cost.Cost.{Cost}
 use Rattle.rt_state.specs.declared.state.State.{State}
 

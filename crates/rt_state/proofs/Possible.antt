@@ -1,5 +1,5 @@
 -- What is known of a state where an event is found to be possible.
-use Rattle.std.proofs.Common.{◌≡◌, ℕ, ◌+◌, ◌<◌, ◌≤◌, Bool, true, false, cond, nat_lt, nat_le, Result, Ok, Err, Option, Some, None, refl, sym, ◌∙◌, ap, subst}
+use Rattle.std.proofs.Common.{◌≡◌, ◌+◌, ◌<◌, ◌≤◌, Bool, true, false, nat_lt, nat_le, Result, Ok, Err, refl}
 use Rattle.std.proofs.lemmas.Bool.{ltb-true, leb-true}
 use Rattle.rt_base.specs.declared.limits.TheConstants.{LONGEST_MESSAGE, MOST_EVENTS, MOST_SENT, MOST_QUERIES, MOST_STORED, LAST_MOMENT}
 use Rattle.rt_base.specs.declared.which.Which.TheVariants as which

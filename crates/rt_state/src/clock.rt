@@ -1,6 +1,6 @@
 //! What lies outside the nodes: the clock, who believes that it leads, and the faults to come.
 ghost use Rattle.std.specs.Prelude.{◌≡◌};
-ghost use Rattle.rt_state.specs.Clock.{tick_due, ticked, lead_due, Believes, fault_due, store_faulted, deep_faulted, pass_due, passed, Passes};
+ghost use Rattle.rt_state.specs.Clock.{tick_due, ticked, lead_due, Believes, fault_due, store_faulted, deep_faulted, pass_due, Passes};
 ghost use Rattle.rt_state.specs.Applying.{Applies, comes};
 ghost use Rattle.rt_state.specs.IsSafeWorld.{IsSafeWorld};
 

@@ -8,10 +8,10 @@ use Rattle.rt_model.specs.declared.node.Seen.{Seen}
 use Rattle.rt_model.specs.declared.node.Listed.{Listed}
 use Rattle.rt_lists.specs.Members.{Has}
 use Rattle.rt_model.specs.History.{HasVersion, value_of}
-use Rattle.rt_model.specs.Metadata.{node_key, listed_by, listed_in, metadata_below, metadata_of, sequences_of}
+use Rattle.rt_model.specs.Metadata.{metadata_of}
 use Rattle.rt_model.specs.Starting.{Starting}
 use Rattle.rt_model.specs.Lawful.{Write, create, set, delete, create_after, bump, IsLawful, TakesEffect, written_by, IsLawfulStep, IsLawfulHistory}
-use Rattle.rt_lists.proofs.Members.{Has-append_cases, Has-same}
+use Rattle.rt_lists.proofs.Members.{Has-same}
 use Rattle.rt_model.proofs.Lawful.{step_is_lawful}
 use Rattle.rt_store.specs.declared.refused.StoreRefused.{StoreRefused}
 use Rattle.rt_store.specs.declared.refused.StoreRefused.TheVariants.{NoNode, Exists, VersionChanged, Failed, Memory}

@@ -1,22 +1,5 @@
-ghost use Rattle.std.specs.Prelude.{
-  ◌≡◌,
-  ◌+◌,
-  ◌≤◌,
-  ◌++◌,
-  ◌∷◌,
-  [],
-  Bool,
-  Some,
-  None,
-  IfOk,
-  OnOk,
-  OnErr,
-  option_copied,
-  option_to_list,
-  slice_get,
-};
+ghost use Rattle.std.specs.Prelude.{◌≡◌, ◌+◌, ◌++◌, ◌∷◌, [], Some, None, IfOk, OnOk, OnErr, option_copied, option_to_list};
 ghost use Rattle.rt_model.specs.History.{value_of, value_by, last_write, next_version};
-ghost use Rattle.rt_model.specs.Lawful.{write_of};
 ghost use Rattle.rt_model.specs.Metadata.{metadata_of, listed_in, listed_by, node_key};
 ghost use Rattle.rt_store.specs.Answers.{change_in, presence_in};
 ghost use Rattle.rt_base.specs.Faults.{fault_of, met_fault};

@@ -1,4 +1,3 @@
-ghost use Rattle.std.specs.Prelude.{◌≡◌};
 ghost use Rattle.rt_lists.specs.Members.{Has, IsFront};
 
 use rt_base::{Instance, Offset, Partition, Sequence};

@@ -1,5 +1,5 @@
 -- A server's own step, with a call of a store or without one, keeps a world safe.
-use Rattle.std.proofs.Common.{◌≡◌, ℕ, ◌+◌, ◌≤◌, Ok, Option, Some, None, refl, sym, ap, subst, arith, slice_get, length}
+use Rattle.std.proofs.Common.{◌≡◌, ℕ, Ok, Option, Some, None, refl, sym, ap, subst, arith, slice_get}
 use Rattle.std.specs.Prelude.{slice_set}
 use Rattle.rt_base.specs.declared.numbers.Instance.{Instance}
 use Rattle.rt_deep.specs.Meaning.{Told as ToldDeep}
@@ -14,7 +14,7 @@ use Rattle.rt_state.specs.Room.{no_cost, priced, spent, counted}
 use Rattle.rt_state.specs.declared.cost.Cost.{Cost}
 use Rattle.rt_nodes.specs.declared.server_node.ServerNode.{ServerNode}
 use Rattle.rt_state.specs.declared.state.State.{State}
-use Rattle.rt_world.proofs.Few.{GrowsFew, few_after, none_started}
+use Rattle.rt_world.proofs.Few.{few_after, none_started}
 use Rattle.rt_world.proofs.KeepsClock.{free_keeps}
 use Rattle.rt_state.proofs.Possible.{HasRoom, priced_room}
 use Rattle.rt_world.proofs.Sets.{drawn_same, safe_grows, server_set}

@@ -1,5 +1,5 @@
 -- What a world holds stays bounded by the events that it counts.
-use Rattle.std.proofs.Common.{◌≡◌, ℕ, ◌+◌, ◌≤◌, Bool, Result, Ok, Err, sym, ap, subst, length, arith}
+use Rattle.std.proofs.Common.{◌≡◌, ℕ, ◌+◌, ◌≤◌, Result, Ok, Err, sym, ap, subst, length, arith}
 use Rattle.std.specs.Prelude.{slice_set}
 use Rattle.rt_base.specs.declared.numbers.ControllerId.{ControllerId}
 use Rattle.rt_state.specs.Nodes.{with_controller}
@@ -13,7 +13,6 @@ use Rattle.rt_events.specs.declared.refusal.Refusal.TheVariants.{NoSuchMessage, 
 use Rattle.rt_model.specs.Starting.{starting_contents}
 use Rattle.rt_store.specs.Contents.{starting_of}
 use Rattle.rt_state.specs.Applying.{Next, Applies}
-use Rattle.rt_state.specs.IsSafe.{IsSafe}
 use Rattle.rt_state.specs.IsSafeWorld.{open_in, HasStarted, IsFew, IsSafeWorld}
 use Rattle.rt_state.specs.Room.{Due}
 use Rattle.rt_state.specs.declared.cost.Cost.{Cost}

@@ -1,8 +1,7 @@
 -- There is always an ideal state.
-use Rattle.std.proofs.Common.{◌≡◌, Option, Some, refl, ap, ◌∙◌}
+use Rattle.std.proofs.Common.{◌≡◌, Some, ap, ◌∙◌}
 use Rattle.rt_model.proofs.Lawful.{has_ideal_state}
 use Rattle.rt_model.specs.declared.ideal_state.IdealState.{IdealState}
-use Rattle.rt_model.specs.declared.node.Seen.{Seen}
 use Rattle.rt_store.specs.Contents.{starting_of}
 use Rattle.rt_state.specs.IsSafeWorld.{IsSafeWorld}
 use Rattle.rt_world.specs.Reading.{ideal_by, ideal_in, ideal_seen}

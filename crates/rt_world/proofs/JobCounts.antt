@@ -1,9 +1,9 @@
 -- A controller starts one job at most as it takes a request, and none as a job of its own steps.
-use Rattle.std.proofs.Common.{◌≡◌, ◌+◌, ◌≤◌, ℕ, List, Option, Some, None, Result, Ok, Err, refl, sym, ap, subst, arith, slice_get}
+use Rattle.std.proofs.Common.{◌≡◌, ◌+◌, ◌≤◌, ℕ, List, Option, Some, None, Result, Ok, Err, refl, subst, arith, slice_get}
 use Rattle.std.proofs.lemmas.Option.{same_Some, none-some}
 use Rattle.rt_base.specs.declared.numbers.Moment.{Moment}
 use Rattle.rt_commit.specs.Calls.{Answer, Call, DeepMeaning, Makes, calls_nothing, created, creates, got, gets, nothing, put, puts, read, reads, set, sets}
-use Rattle.rt_controller.specs.Answers.{Handling, after_put, fails, follows_by, replies}
+use Rattle.rt_controller.specs.Answers.{Handling, after_put, follows_by}
 use Rattle.rt_controller.specs.Requests.{Turn, after_read, at_machine, by_node, by_status, call_of, handled_at, has_machine, has_none, not_assigned, not_leading, past_last, turn_of, uploads}
 use Rattle.rt_controller.specs.Working.{Working, job_place, settled, with_stage, work, work_at, work_call, work_on, worked}
 use Rattle.rt_controller.specs.Controller.{Controlling}
@@ -12,7 +12,6 @@ use Rattle.rt_controller.specs.Steps.{Handles, Works}
 use Rattle.rt_controller.specs.declared.handled.Handled.{Handled}
 use Rattle.rt_commit.specs.declared.job.Job.{Job}
 use Rattle.rt_commit.specs.declared.job.JobStage.{JobStage}
-use Rattle.rt_commit.specs.declared.stepped.Stepped.{Stepped}
 use Rattle.rt_controller.specs.declared.segment_machine.SegmentMachine.{SegmentMachine}
 use Rattle.rt_deep.specs.declared.refused.DeepRefused.{DeepRefused}
 use Rattle.rt_deep.specs.declared.refused.DeepRefused.TheVariants as deep

@@ -1,12 +1,10 @@
 -- A step of a job keeps a world safe, and the reply with which the job ends is right.
-use Rattle.std.proofs.Common.{◌≡◌, ℕ, ◌+◌, ◌≤◌, Bool, true, false, List, [], ◌∷◌, ◌++◌, Ok, Option, Some, None, refl, sym, ◌∙◌, ap, subst, slice_get, length, nat_lt, cond, arith, length-append}
+use Rattle.std.proofs.Common.{◌≡◌, ℕ, ◌+◌, ◌≤◌, Bool, true, false, List, [], ◌∷◌, Ok, Option, Some, None, refl, sym, ap, subst, slice_get, length, nat_lt, cond, arith, length-append}
 use Rattle.std.specs.Prelude.{slice_set}
 use Rattle.rt_base.specs.declared.numbers.ControllerId.{ControllerId}
 use Rattle.rt_controller.specs.Controller.{Controlling}
 use Rattle.rt_controller.specs.Right.{IsReplied, WorksOver}
-use Rattle.rt_controller.specs.Steps.{Works}
 use Rattle.rt_controller.proofs.CallsOver.{works_over}
-use Rattle.rt_deep.specs.declared.deep_put.DeepPut.{DeepPut}
 use Rattle.rt_deep.specs.Meaning.{Told as ToldDeep}
 use Rattle.rt_deep.specs.Memory.{means as deep_means}
 use Rattle.rt_events.specs.declared.refusal.Refusal.TheVariants.{NoSuchNode, NoSuchMessage, NodeDown}

@@ -1,5 +1,5 @@
 -- Crashes and restarts keep a world safe.
-use Rattle.std.proofs.Common.{◌≡◌, ℕ, Bool, true, false, Result, Ok, Err, Option, Some, None, refl, sym, ◌∙◌, ap, subst, slice_get, not}
+use Rattle.std.proofs.Common.{◌≡◌, ℕ, Bool, true, false, Result, Ok, Err, Some, None, refl, sym, ◌∙◌, ap, subst, slice_get, not}
 use Rattle.rt_base.specs.declared.numbers.ControllerId.{ControllerId}
 use Rattle.rt_base.specs.declared.numbers.Instance.{Instance}
 use Rattle.rt_controller.proofs.Lasts.{crashes_over}
@@ -10,7 +10,7 @@ use Rattle.rt_events.specs.declared.outcome.Outcome.TheVariants as told
 use Rattle.rt_events.specs.declared.refusal.Refusal.TheVariants.{NoSuchNode, NodeDown, NothingToDo}
 use Rattle.rt_model.specs.Lawful.{bump}
 use Rattle.rt_past.specs.Past.{with_history}
-use Rattle.rt_server.specs.Calls.{crashed as server_crashed, Restarts}
+use Rattle.rt_server.specs.Calls.{Restarts}
 use Rattle.rt_server.specs.Lasting.{IsEmpty}
 use Rattle.rt_server.specs.Table.{ServerState}
 use Rattle.rt_server.proofs.LastingCalls.{came, crashed_over, restarts_over}
@@ -20,17 +20,17 @@ use Rattle.rt_store.specs.Meaning.{Meaning, Told}
 use Rattle.rt_store.specs.Memory.{means}
 use Rattle.rt_state.specs.Applying.{Next}
 use Rattle.rt_state.specs.Finding.{has_server, is_server_up, is_up, has_controller, is_controller_up, find_controller}
-use Rattle.rt_state.specs.IsSafe.{IsServerAt, IsControllerAt, past_of}
+use Rattle.rt_state.specs.IsSafe.{past_of}
 use Rattle.rt_state.specs.IsSafeWorld.{IsSafeWorld}
 use Rattle.rt_state.specs.Lives.{crash_server_due, node_crashed, NodeCrashes, ServerCrashes, crash_controller_due, controller_crashed, ControllerCrashes, restart_server_due, NodeRestarts, ServerRestarts, restart_controller_due, controller_restarted, ControllerRestarts}
-use Rattle.rt_state.specs.Room.{only_if, no_cost, priced}
+use Rattle.rt_state.specs.Room.{no_cost, priced}
 use Rattle.rt_state.specs.declared.cost.Cost.{Cost}
 use Rattle.rt_nodes.specs.declared.server_node.ServerNode.{ServerNode}
 use Rattle.rt_state.specs.declared.state.State.{State}
 use Rattle.rt_world.proofs.Does.{IsServerOf, server_does_keeps, ServerWrites, server_calls_keeps}
 use Rattle.rt_world.proofs.KeepsClock.{controller_does_keeps}
 use Rattle.rt_state.proofs.Possible.{only_passed, then_passed}
-use Rattle.rt_world.proofs.Stores.{WritesOn, wrote_told, writes_called}
+use Rattle.rt_world.proofs.Stores.{wrote_told, writes_called}
 
 -- ---- crashes
 

@@ -1,12 +1,10 @@
 -- A message that is taken keeps a world safe, and what is answered is right.
-use Rattle.std.proofs.Common.{◌≡◌, ℕ, ◌+◌, ◌<◌, ◌≤◌, Bool, true, false, List, [], ◌∷◌, ◌++◌, Ok, Option, Some, None, refl, sym, ◌∙◌, ap, subst, slice_get, length, arith, length-append}
+use Rattle.std.proofs.Common.{◌≡◌, ℕ, ◌+◌, ◌≤◌, List, [], ◌∷◌, Ok, Option, Some, None, refl, sym, ◌∙◌, ap, subst, slice_get, length, arith, length-append}
 use Rattle.std.specs.Prelude.{slice_set, is_some}
 use Rattle.rt_base.specs.declared.numbers.ControllerId.{ControllerId}
-use Rattle.rt_base.specs.declared.numbers.Instance.{Instance}
 use Rattle.rt_controller.specs.Controller.{Controlling}
 use Rattle.rt_controller.specs.Right.{HandlesOver, IsHandled}
 use Rattle.rt_controller.specs.Lasting.{IsControllerOver}
-use Rattle.rt_controller.specs.Steps.{Handles}
 use Rattle.rt_controller.specs.declared.handled.Handled.{Handled}
 use Rattle.rt_controller.specs.declared.handled.Handled.TheVariants as handled
 use Rattle.rt_controller.proofs.CallsOver.{handles_over}
@@ -20,7 +18,6 @@ use Rattle.rt_model.specs.declared.reply.Reply.{Reply}
 use Rattle.rt_model.specs.declared.request.Request.{Request}
 use Rattle.rt_model.specs.declared.sent.Sent.{Sent}
 use Rattle.rt_model.specs.declared.sent.Sent.TheVariants as sent
-use Rattle.rt_past.specs.IsPast.{IsPast}
 use Rattle.rt_past.specs.Past.{Past, Grows, with_files, with_history, with_reply as past_with_reply}
 use Rattle.rt_past.specs.Replies.{IsReply}
 use Rattle.rt_past.proofs.Ways.{past_replies}
@@ -35,7 +32,7 @@ use Rattle.rt_state.specs.Finding.{has_controller, is_controller_up, is_server_u
 use Rattle.rt_state.specs.IsSafe.{IsControllerAt, IsSafeOver, IsSafe, past_of}
 use Rattle.rt_state.specs.IsSafeWorld.{IsFew, IsSafeWorld}
 use Rattle.rt_state.specs.Messages.{deliver_due, handed, after_step, DeliversAt, Delivers, reply_by, reply_due, node_took, RepliesAt, Replies}
-use Rattle.rt_state.specs.Room.{only_if, no_cost, priced}
+use Rattle.rt_state.specs.Room.{no_cost, priced}
 use Rattle.rt_nodes.specs.declared.controller_node.ControllerNode.{ControllerNode}
 use Rattle.rt_state.specs.declared.cost.Cost.{Cost}
 use Rattle.rt_nodes.specs.declared.server_node.ServerNode.{ServerNode}

@@ -1,5 +1,5 @@
 -- A message that comes to the end of a partition keeps a world safe, and so does a look at a node.
-use Rattle.std.proofs.Common.{◌≡◌, ℕ, zero, suc, ◌+◌, ◌<◌, ◌≤◌, List, [], ◌∷◌, ◌++◌, Ok, refl, sym, ◌∙◌, ap, subst, length, nat_lt, arith, length-append}
+use Rattle.std.proofs.Common.{◌≡◌, ℕ, zero, suc, ◌+◌, ◌<◌, ◌≤◌, List, [], ◌∷◌, Ok, refl, sym, ap, subst, length, arith, length-append}
 use Rattle.std.proofs.lemmas.Bool.{ltb-true}
 use Rattle.rt_base.specs.declared.numbers.Partition.{Partition}
 use Rattle.rt_base.specs.declared.numbers.Sequence.{Sequence}
@@ -13,7 +13,7 @@ use Rattle.rt_state.specs.Applying.{Next, comes}
 use Rattle.rt_state.specs.Finding.{has_partition}
 use Rattle.rt_state.specs.IsSafe.{past_of}
 use Rattle.rt_state.specs.IsSafeWorld.{IsSafeWorld}
-use Rattle.rt_state.specs.Room.{only_if, no_cost, message_cost, priced}
+use Rattle.rt_state.specs.Room.{no_cost, message_cost, priced}
 use Rattle.rt_state.specs.Shows.{show_meta_due, meta_shown, show_ideal_due, ideal_shown}
 use Rattle.rt_state.specs.Stream.{produce_due, produced}
 use Rattle.rt_state.specs.declared.cost.Cost.{Cost}
@@ -21,7 +21,7 @@ use Rattle.rt_state.specs.declared.state.State.{State}
 use Rattle.rt_world.proofs.Few.{few_after, none_started}
 use Rattle.rt_world.proofs.KeepsClock.{free_keeps}
 use Rattle.rt_state.proofs.Possible.{only_passed, HasRoom, priced_room}
-use Rattle.rt_world.proofs.Sets.{drawn_same, safe_grows}
+use Rattle.rt_world.proofs.Sets.{safe_grows}
 
 abbrev numbered : ℕ → Partition
 numbered n = record { 0 = n }

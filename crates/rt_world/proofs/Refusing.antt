@@ -8,7 +8,7 @@ use Rattle.rt_events.specs.declared.event.Event.TheVariants as event
 use Rattle.rt_events.specs.declared.refusal.Refusal.{Refusal}
 use Rattle.rt_events.specs.declared.refusal.Refusal.TheVariants.{NoSuchMessage, NoSuchNode, NodeDown, NothingToDo, Limit, Memory}
 use Rattle.rt_state.specs.Applying.{Applies, Next, comes}
-use Rattle.rt_state.specs.Clock.{tick_due, ticked, lead_due, Believes, fault_due, store_faulted, deep_faulted, pass_due, Passes}
+use Rattle.rt_state.specs.Clock.{tick_due, ticked, lead_due, Believes, fault_due, store_faulted, deep_faulted, Passes}
 use Rattle.rt_state.specs.Jobs.{job_due, JobSteps}
 use Rattle.rt_state.specs.Lives.{crash_server_due, ServerCrashes, crash_controller_due, ControllerCrashes, restart_server_due, ServerRestarts, restart_controller_due, ControllerRestarts}
 use Rattle.rt_state.specs.Messages.{deliver_due, Delivers, reply_due, Replies}

@@ -1,16 +1,13 @@
 -- Every event that happens leaves a safe world.
-use Rattle.std.proofs.Common.{◌≡◌, ℕ, Result, Ok, Err}
+use Rattle.std.proofs.Common.{◌≡◌, Result}
 use Rattle.rt_events.specs.declared.event.Event.{Event}
 use Rattle.rt_events.specs.declared.event.Event.TheVariants as event
 use Rattle.rt_events.specs.declared.outcome.Outcome.{Outcome}
 use Rattle.rt_events.specs.declared.refusal.Refusal.{Refusal}
 use Rattle.rt_events.specs.declared.refusal.Refusal.TheVariants.{Memory}
-use Rattle.rt_state.specs.Applying.{Next, Applies}
 use Rattle.rt_events.specs.Fits.{Fits}
 use Rattle.rt_state.specs.IsSafeWorld.{IsSafeWorld}
-use Rattle.rt_state.specs.Room.{Due}
 use Rattle.rt_world.specs.Step.{Steps}
-use Rattle.rt_state.specs.declared.cost.Cost.{Cost}
 use Rattle.rt_state.specs.declared.state.State.{State}
 use Rattle.rt_world.proofs.Few.{refused, applied_is_safe}
 use Rattle.rt_world.proofs.KeepsClock.{tick_keeps, fault_keeps, deep_fault_keeps, lead_keeps}

@@ -1,12 +1,10 @@
 -- The first world of a cluster is safe.
-use Rattle.std.proofs.Common.{◌≡◌, ℕ, zero, suc, ◌+◌, ◌<◌, ◌≤◌, ◌==◌, Bool, true, false, cond, List, [], ◌∷◌, ◌++◌, refl, sym, ◌∙◌, ap, subst, length, arith, length-append}
-use Rattle.std.specs.Prelude.{replicate, slice_get, Some}
+use Rattle.std.proofs.Common.{◌≡◌, ℕ, zero, suc, ◌≤◌, ◌==◌, Bool, true, false, cond, [], ◌∷◌, refl, sym, subst, length, arith, length-append}
+use Rattle.std.specs.Prelude.{replicate}
 use Rattle.std.proofs.lemmas.Bool.{true≢false}
 use Rattle.std.proofs.lemmas.List.{length-replicate}
 use Rattle.std.proofs.lemmas.Nat.{mul-le}
 use Rattle.std.proofs.lemmas.Option.{none-some, same_Some}
-use Rattle.rt_base.specs.declared.numbers.ControllerId.{ControllerId}
-use Rattle.rt_base.specs.declared.numbers.Instance.{Instance}
 use Rattle.rt_broker.specs.IsAsked.{messages_in}
 use Rattle.rt_controller.specs.Controller.{Controlling, beginning, believing}
 use Rattle.rt_controller.specs.Lasting.{IsControllerOver}
@@ -20,7 +18,6 @@ use Rattle.rt_state.specs.IsSafe.{IsServerAt, HasDrawn, IsUpkeepAt, IsController
 use Rattle.rt_state.specs.IsSafeWorld.{HasStarted, IsSafeWorld}
 use Rattle.rt_state.specs.Places.{AreAt}
 use Rattle.rt_state.specs.Start.{start, fresh_server, fresh_servers, fresh_upkeep, fresh_controlling, fresh_controller, fresh_controllers}
-use Rattle.rt_nodes.specs.declared.upkeep.Upkeep.{Upkeep}
 use Rattle.rt_world.proofs.Places.{at_none, at_push}
 
 -- ---- servers

@@ -1,6 +1,5 @@
 -- What a call leaves of a store that tells everything, and that all that was written, put and sent grows by it.
-use Rattle.std.proofs.Common.{◌≡◌, ℕ, ◌+◌, ◌≤◌, inl, inr, List, [], ◌∷◌, ◌++◌, Result, length, sym, ◌∙◌, ap, subst, refl, arith, length-append}
-use Rattle.rt_lists.specs.Members.{IsFront}
+use Rattle.std.proofs.Common.{◌≡◌, ◌+◌, ◌≤◌, inl, inr, List, [], ◌∷◌, Result, length, sym, ◌∙◌, ap, subst, arith, length-append}
 use Rattle.rt_model.specs.declared.node.Seen.{Seen}
 use Rattle.rt_model.specs.declared.setup.Setup.{Setup}
 use Rattle.rt_model.specs.Lawful.{Write, IsLawful, written_by}
@@ -11,7 +10,7 @@ use Rattle.rt_past.proofs.Growth.{grows_same}
 use Rattle.rt_past.proofs.Ways.{past_called}
 use Rattle.rt_store.specs.declared.refused.StoreRefused.{StoreRefused}
 use Rattle.rt_store.specs.Answers.{answer_of, after_call, Leaves}
-use Rattle.rt_store.specs.Calls.{Calls, told_on, IsExact}
+use Rattle.rt_store.specs.Calls.{Calls, IsExact}
 use Rattle.rt_store.specs.Meaning.{Told}
 use Rattle.rt_store.specs.Memory.{means}
 use Rattle.rt_store.proofs.Seeing.{told_exact}

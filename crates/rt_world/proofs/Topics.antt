@@ -1,5 +1,5 @@
 -- Each topic of what is true of every world stays so as all that was produced, written, put and sent grows.
-use Rattle.std.proofs.Common.{◌≡◌, ℕ, List, Option, Some, None}
+use Rattle.std.proofs.Common.{ℕ, List, Option, Some, None}
 use Rattle.std.specs.Prelude.{IfSome}
 use Rattle.rt_broker.specs.Asking.{Asking}
 use Rattle.rt_broker.proofs.Lasting.{asked_grows}

@@ -1,4 +1,4 @@
-use Rattle.std.proofs.Common.{◌≡◌, Err, sym, subst, map, arith}
+use Rattle.std.proofs.Common.{Err, sym, subst, map, arith}
 use Rattle.rt_peer.specs.Fetching.{AsksPeers}
 use Rattle.rt_peer.proofs.Leading.{ends_found, ends_memory, leads_last}
 use Rattle.rt_peer.proofs.fetching.ask_peers.Goals as goal

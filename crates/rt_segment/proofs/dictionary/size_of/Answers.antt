@@ -1,4 +1,4 @@
-use Rattle.std.proofs.Common.{length, take_all, sym, ap, ◌∙◌, arith}
+use Rattle.std.proofs.Common.{length, take_all, ap, ◌∙◌, arith}
 use Rattle.std.specs.List.{flat_map}
 use Rattle.rt_segment.specs.Spelling.{capped}
 use Rattle.rt_segment.proofs.Rows.{fits_more, fits_all}

@@ -1,7 +1,7 @@
 use Rattle.std.proofs.Common.{subst, sym}
 use Rattle.rt_link.specs.declared.rule.Knows.{Knows}
-use Rattle.rt_link.specs.Delivery.{TookInOrder, TookOfSenders}
-use Rattle.rt_link.proofs.Counts.{in_order, of_senders}
+use Rattle.rt_link.specs.Delivery.{TookInOrder}
+use Rattle.rt_link.proofs.Counts.{in_order}
 use Rattle.rt_link.proofs.Moves.{gathers_as, adds_up_as}
 use Rattle.rt_link.proofs.inbox.Inbox.gather.Goals as goal
 

@@ -1,4 +1,4 @@
-use Rattle.std.proofs.Common.{◌≡◌, sym, ap, subst, ◌∙◌}
+use Rattle.std.proofs.Common.{sym, ap, subst, ◌∙◌}
 use Rattle.rt_events.specs.declared.outcome.Outcome.TheVariants as told
 use Rattle.rt_state.proofs.Asking.{query_answered}
 use Rattle.rt_state.proofs.NeedsQueries.{answer_needs}
