@@ -30,7 +30,7 @@ use Rattle.rt_schema.proofs.Lists.{drop_next}
 same_bytes : (xs ys : List ℕ) → xs ≡ ys → bytes_eq xs ys ≡ true
 same_bytes xs ys e = (bytes_eq-Decides xs ys).1 e
 
-apart_bytes : (xs ys : List ℕ) → bytes_eq xs ys ≡ false → ys ≡ xs → ⊥
+pub apart_bytes : (xs ys : List ℕ) → bytes_eq xs ys ≡ false → ys ≡ xs → ⊥
 apart_bytes xs ys e same = true≢false (sym (same_bytes xs ys (sym same)) ∙ e)
 
 -- a member of another name changes no place
@@ -45,10 +45,10 @@ among_at name [] i is = absurd (none-some name is)
 among_at name (other ∷ names) zero is = or_left (bytes_eq name other) (is_among name names) (same_bytes name other (sym (same_Some other name is)))
 among_at name (other ∷ names) (suc i) is = or_right (bytes_eq name other) (is_among name names) (among_at name names i is)
 
-none_later : (column : Column) (columns : List Column) → are_distinct (names_of (column ∷ columns)) ≡ true → is_among column.name (names_of columns) ≡ false
+pub none_later : (column : Column) (columns : List Column) → are_distinct (names_of (column ∷ columns)) ≡ true → is_among column.name (names_of columns) ≡ false
 none_later column columns e = not-true _ (and_parts (not (is_among column.name (names_of columns))) (are_distinct (names_of columns)) e).0
 
-distinct_later : (column : Column) (columns : List Column) → are_distinct (names_of (column ∷ columns)) ≡ true → are_distinct (names_of columns) ≡ true
+pub distinct_later : (column : Column) (columns : List Column) → are_distinct (names_of (column ∷ columns)) ≡ true → are_distinct (names_of columns) ≡ true
 distinct_later column columns e = (and_parts (not (is_among column.name (names_of columns))) (are_distinct (names_of columns)) e).1
 
 -- a member of a column's name changes that column's place

@@ -7,6 +7,7 @@ pub mod Lists
 pub mod Members
 pub mod Names
 pub mod Picks
+pub mod Plain
 pub mod RowTexts
 pub mod Rows
 pub mod Schemas

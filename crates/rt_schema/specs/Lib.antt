@@ -1,6 +1,7 @@
 pub mod Field
 pub mod Flat
 pub mod Json
+pub mod Plain
 pub mod Refused
 pub mod Row
 pub mod Schema

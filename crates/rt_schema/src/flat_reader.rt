@@ -139,7 +139,12 @@ fn is_scalar(token: Token<'_>) -> bool
     }
 }
 
-fn scalar(alloc: Global, spare: &mut Spare, token: Token<'_>) -> Result<Option<Json>, AllocError>
+/// The value that one token is; None where it is none by itself.
+pub(crate) fn scalar(
+    alloc: Global,
+    spare: &mut Spare,
+    token: Token<'_>,
+) -> Result<Option<Json>, AllocError>
     ensures { IfOk result (λ json. option_map view json ≡ scalar_of (token_of token.entry)) }
 {
     match token {

@@ -9,6 +9,7 @@ mod flat_reader;
 mod index_config;
 mod laws;
 mod object;
+mod plain_reader;
 mod row;
 mod row_reader;
 mod schema;

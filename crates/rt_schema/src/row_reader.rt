@@ -8,6 +8,7 @@ ghost use Rattle.rt_schema.specs.Flat.{data_of, found_in};
 ghost use Rattle.rt_schema.specs.Row.{row_in, row_of, AreTextsWithin, IsRowOf};
 
 use crate::flat_reader::read_flat;
+use crate::plain_reader::read_plain;
 use crate::spare::Spare;
 use crate::{Column, Kind, Row, Schema, Value};
 use json::Scratch;
@@ -92,6 +93,9 @@ fn read_message(
         return Ok(None);
     };
     let columns = schema.columns.as_slice();
+    if let Some(plain) = read_plain(alloc, columns, spare, message)? {
+        return Ok(Some(plain));
+    }
     blank(found, columns)?;
     match read_flat(alloc, columns, found.as_mut_slice(), spare, scratch, text)? {
         Some(row) => Ok(Some(row)),

@@ -1,4 +1,4 @@
-use Rattle.std.proofs.Common.{◌≡◌, Option, Some, IfSome, option_and_then, subst}
+use Rattle.std.proofs.Common.{◌≡◌, Option, Some, IfSome, option_and_then, refl, subst}
 use Rattle.serde_json.specs.Read.{read}
 use Rattle.rt_schema.specs.Row.{row_in}
 use Rattle.rt_schema.specs.declared.row.Row.{Row}
@@ -11,6 +11,13 @@ returns-in_default c = no_row c.args.schema.now c.args.message.now (λ utf8. abs
 pub returns-in-Some : goal.returns-in-Some
 returns-in-Some c =
     let columns = c.as_slice-columns.result.now in
+    let message = c.args.message.now in
+    let found = subst (λ (o : Option Row). IfSome o (λ row. option_and_then (row_in columns) (read message) ≡ Some row)) c.in-Some.is (c.in_ok-plain.ensures {u = tt}) in
+    row_of_flat c.args.schema.now columns message message c.in-Some.plain c.as_slice-columns.ensures refl c.in-Ok.ensures.cases.1 found
+
+pub returns-in-Some-2 : goal.returns-in-Some-2
+returns-in-Some-2 c =
+    let columns = c.as_slice-columns.result.now in
     let text = c.in-Ok.text.now in
-    let found = subst (λ (o : Option Row). IfSome o (λ row. option_and_then (row_in columns) (read text) ≡ Some row)) c.in-Some.is (c.in_ok-row.ensures {u = tt}) in
-    row_of_flat c.args.schema.now columns text c.args.message.now c.in-Some.row c.as_slice-columns.ensures c.in-Ok.ensures.cases.0 c.in-Ok.ensures.cases.1 found
+    let found = subst (λ (o : Option Row). IfSome o (λ row. option_and_then (row_in columns) (read text) ≡ Some row)) c.in-Some-2.is (c.in_ok-row.ensures {u = tt}) in
+    row_of_flat c.args.schema.now columns text c.args.message.now c.in-Some-2.row c.as_slice-columns.ensures c.in-Ok.ensures.cases.0 c.in-Ok.ensures.cases.1 found

@@ -1,0 +1,252 @@
+-- Plain messages: what was matched member by member is what the whole text reads as.
+use Rattle.std.proofs.Common.{◌≡◌, ℕ, zero, suc, ◌+◌, ◌-◌, ◌<◌, ◌≤◌, List, [], ◌∷◌, ◌++◌, length, get_or, take, drop, map, fold, Option, Some, None, option_map, option_and_then, Bool, true, false, not, cond, nat_lt, bytes_eq, true≢false, append_assoc, append-nil, refl, sym, ap, ap₂, ◌∙◌, arith, subst}
+use Rattle.std.specs.Prelude.{IfSome, ◌&&◌, ◌==◌, nat_le}
+use Rattle.std.proofs.lemmas.Bool.{and_from, and_parts, eq-eqb, leb-true, lt-ltb, not-true, or_parts}
+use Rattle.std.proofs.lemmas.List.{length-map, length-take, map-append, take-append-drop, take_all, take_more}
+use Rattle.std.proofs.lemmas.Option.{none-some, same_Some}
+use Rattle.json.specs.Token.{Token}
+use Rattle.json.specs.Json.{members, value}
+use Rattle.json.specs.Lex.{tokens}
+use Rattle.json.specs.Print.{escape, escape_byte, quoted, token_text, begins, ends, separator, print_from, print, ArePrintable, IsPrintable}
+use Rattle.json.proofs.Printed.Strings.{escape_byte_plain}
+use Rattle.json.proofs.Printed.Tokens.{tokens-print, print_from-append}
+use Rattle.serde_json.specs.Data.{Data, object, Members, no_members, put}
+use Rattle.serde_json.specs.Find.{get_member}
+use Rattle.serde_json.specs.Read.{of_members, converted, read}
+use Rattle.serde_json.proofs.Views.{get_member-put, get_member-put_other}
+use Rattle.rt_schema.specs.Flat.{scalar_of, found_in, cells_from}
+use Rattle.rt_schema.specs.Plain.{comma_if, is_plain, are_plain, IsTokenAt, Piece, ArePieces, tokens_of, ArePlain}
+use Rattle.rt_schema.specs.Row.{row_in}
+use Rattle.rt_schema.specs.Schema.{is_among, names_of, are_distinct}
+use Rattle.rt_schema.specs.Value.{cell_of}
+use Rattle.rt_schema.specs.declared.column.Column.{Column}
+use Rattle.rt_schema.specs.declared.row.Row.{Row}
+use Rattle.rt_schema.specs.declared.value.Value.{Value as Cell}
+use Rattle.rt_schema.proofs.Flat.{apart_bytes, cells_found, distinct_later, flat_read, member_read, members_over, none_later, scalar_read}
+
+-- ---- bytes that stand for themselves
+
+other_byte : (x y : ℕ) → not (x == y) ≡ true → x ≡ y → ⊥
+other_byte x y e same = true≢false (sym (eq-eqb x y same) ∙ not-true (x == y) e)
+
+plain_byte : (x : ℕ) → is_plain x ≡ true → escape_byte x ≡ x ∷ []
+plain_byte x e =
+    let parts = and_parts (not (x == 34) && not (x == 92)) (nat_le 32 x) e in
+    let former = and_parts (not (x == 34)) (not (x == 92)) parts.0 in
+    escape_byte_plain x (other_byte x 34 former.0) (other_byte x 92 former.1) (leb-true 32 x parts.1)
+
+-- plain bytes are written as they are
+pub plain_escape : (xs : List ℕ) → are_plain xs ≡ true → escape xs ≡ xs
+plain_escape [] e = refl
+plain_escape (x ∷ xs) e =
+    let parts = and_parts (is_plain x) (are_plain xs) e in
+    ap₂ (λ first later. first ++ later) (plain_byte x parts.0) (plain_escape xs parts.1)
+
+-- one plain byte more
+are_plain_more : (xs : List ℕ) (x : ℕ) → are_plain xs ≡ true → is_plain x ≡ true → are_plain (xs ++ x ∷ []) ≡ true
+are_plain_more [] x e h = and_from (is_plain x) true h refl
+are_plain_more (y ∷ ys) x e h =
+    let parts = and_parts (is_plain y) (are_plain ys) e in
+    and_from (is_plain y) (are_plain (ys ++ x ∷ [])) parts.0 (are_plain_more ys x parts.1 h)
+
+pub plain_next : (text : List ℕ) (at : ℕ) → at < length text → is_plain (get_or text at 0) ≡ true → are_plain (take at text) ≡ true → are_plain (take (at + 1) text) ≡ true
+plain_next text at within h e = ap are_plain (take_more text at 0 within) ∙ are_plain_more (take at text) (get_or text at 0) e h
+
+-- a text in quotes, from its bytes between them
+pub quoted_front : (text inner rest : List ℕ) (end : ℕ) → text ≡ 34 ∷ inner → are_plain (take end inner) ≡ true → drop end inner ≡ 34 ∷ rest → text ≡ quoted (take end inner) ++ rest
+quoted_front text inner rest end first plain last =
+    let whole : inner ≡ take end inner ++ 34 ∷ rest = sym (take-append-drop end inner) ∙ ap (λ xs. take end inner ++ xs) last in
+    let back : (take end inner ++ 34 ∷ []) ++ rest ≡ take end inner ++ 34 ∷ rest = append_assoc (take end inner) (34 ∷ []) rest in
+    first ∙ ap (λ xs. 34 ∷ xs) (whole ∙ sym back ∙ ap (λ xs. (xs ++ 34 ∷ []) ++ rest) (sym (plain_escape (take end inner) plain)))
+
+-- a key, from its text in quotes
+pub key_front : (later : Bool) (name key text inner behind rest : List ℕ) → text ≡ comma_if later ++ inner → inner ≡ quoted key ++ behind → key ≡ name → behind ≡ 58 ∷ rest
+    → text ≡ comma_if later ++ (quoted name ++ 58 ∷ rest)
+key_front later name key text inner behind rest first quotes same colon =
+    first ∙ ap (λ xs. comma_if later ++ xs) (quotes ∙ ap₂ (λ k xs. quoted k ++ xs) same colon)
+
+-- ---- one member more
+
+ends_scalar : (t : Token) (d : Data) → scalar_of t ≡ Some d → ends t ≡ true
+ends_scalar Token.begin_object d e = absurd (none-some d e)
+ends_scalar Token.end_object d e = absurd (none-some d e)
+ends_scalar Token.begin_array d e = absurd (none-some d e)
+ends_scalar Token.end_array d e = absurd (none-some d e)
+ends_scalar (Token.key s) d e = absurd (none-some d e)
+ends_scalar (Token.string s) d e = refl
+ends_scalar (Token.number s) d e = refl
+ends_scalar (Token.boolean b) d e = refl
+ends_scalar Token.null d e = refl
+ends_scalar Token.bad d e = absurd (none-some d e)
+
+-- whether a value has just ended
+abbrev after_value : Bool → List Token → Bool
+after_value c ts = fold (λ _ u. ends u) c ts
+
+after_pieces : (c : Bool) (p : Piece) (ps : List Piece) → ArePieces (p ∷ ps) → after_value c (tokens_of (p ∷ ps)) ≡ true
+after_pieces c p [] are = ends_scalar p.1.0 p.1.1 are.0.0
+after_pieces c p (q ∷ qs) are = after_pieces (ends p.1.0) q qs are.1
+
+after_front : (ps : List Piece) → ArePieces ps → after_value false (Token.begin_object ∷ tokens_of ps) ≡ nat_lt 0 (length ps)
+after_front [] are = refl
+after_front (p ∷ ps) are = after_pieces false p ps are ∙ sym (lt-ltb 0 (length (p ∷ ps)) (omega arith))
+
+tokens_more : (ps : List Piece) (p : Piece) → tokens_of (ps ++ p ∷ []) ≡ tokens_of ps ++ (Token.key p.0 ∷ p.1.0 ∷ [])
+tokens_more [] p = refl
+tokens_more (q ∷ qs) p = ap (λ ts. Token.key q.0 ∷ q.1.0 ∷ ts) (tokens_more qs p)
+
+pieces_more : (ps : List Piece) (p : Piece) → ArePieces ps → (scalar_of p.1.0 ≡ Some p.1.1) × IsPrintable p.1.0 → ArePieces (ps ++ p ∷ [])
+pieces_more [] p are is = (is, tt)
+pieces_more (q ∷ qs) p are is = (are.0, pieces_more qs p are.1 is)
+
+member_behind : (name : List ℕ) (t : Token) (rest : List ℕ) → ((quoted name ++ 58 ∷ []) ++ (token_text t ++ [])) ++ rest ≡ quoted name ++ 58 ∷ (token_text t ++ rest)
+member_behind name t rest =
+    append_assoc (quoted name ++ 58 ∷ []) (token_text t ++ []) rest ∙ append_assoc (quoted name) (58 ∷ []) ((token_text t ++ []) ++ rest)
+    ∙ ap (λ xs. quoted name ++ 58 ∷ (xs ++ rest)) (append-nil (token_text t))
+
+-- a key and its value, as they are written
+member_text : (later : Bool) (name : List ℕ) (t : Token) (rest : List ℕ)
+    → print_from later (Token.key name ∷ t ∷ []) ++ rest ≡ comma_if later ++ (quoted name ++ 58 ∷ (token_text t ++ rest))
+unfolding print_from
+member_text true name t rest = ap (λ xs. 44 ∷ xs) (member_behind name t rest)
+member_text false name t rest = member_behind name t rest
+
+front_more : (ps : List Piece) (p : Piece) (text rest behind later : List ℕ) → ArePieces ps → text ≡ print (Token.begin_object ∷ tokens_of ps) ++ rest
+    → rest ≡ comma_if (nat_lt 0 (length ps)) ++ (quoted p.0 ++ 58 ∷ behind) → behind ≡ token_text p.1.0 ++ later
+    → text ≡ print (Token.begin_object ∷ tokens_of (ps ++ p ∷ [])) ++ later
+front_more ps p text rest behind later are was key is =
+    let front = Token.begin_object ∷ tokens_of ps in
+    let member = Token.key p.0 ∷ p.1.0 ∷ [] in
+    let comma = nat_lt 0 (length ps) in
+    let written : rest ≡ print_from comma member ++ later = key ∙ ap (λ xs. comma_if comma ++ (quoted p.0 ++ 58 ∷ xs)) is ∙ sym (member_text comma p.0 p.1.0 later) in
+    let whole : print (Token.begin_object ∷ tokens_of (ps ++ p ∷ [])) ≡ print front ++ print_from comma member =
+    ap (λ ts. print (Token.begin_object ∷ ts)) (tokens_more ps p) ∙ print_from-append false front member ∙ ap (λ c. print front ++ print_from c member) (after_front ps are) in
+    was ∙ ap (λ xs. print front ++ xs) written ∙ sym (append_assoc (print front) (print_from comma member) later) ∙ ap (λ xs. xs ++ later) (sym whole)
+
+-- what the later columns give with one column more
+abbrev EndsWith : List Column → List (Option Data) → Column → Option Data → Cell → Type 0
+EndsWith columns ds column d v = (vs : List Cell) → cells_from columns ds ≡ Some vs → cells_from (columns ++ column ∷ []) (ds ++ d ∷ []) ≡ Some (vs ++ v ∷ [])
+
+cells_with : (u : Cell) (o : Option (List Cell)) (columns : List Column) (ds : List (Option Data)) (values : List Cell) (column : Column) (d : Option Data) (v : Cell) → cells_from columns ds ≡ o
+    → EndsWith columns ds column d v → option_map (λ vs. u ∷ vs) o ≡ Some values → option_map (λ vs. u ∷ vs) (cells_from (columns ++ column ∷ []) (ds ++ d ∷ [])) ≡ Some (values ++ v ∷ [])
+cells_with u None columns ds values column d v are later e = absurd (none-some values e)
+cells_with u (Some vs) columns ds values column d v are later e = ap (option_map (λ vs. u ∷ vs)) (later vs are) ∙ ap (λ ws. Some (ws ++ v ∷ [])) (same_Some (u ∷ vs) values e)
+
+cells_behind : (o : Option Cell) (columns : List Column) (ds : List (Option Data)) (values : List Cell) (column : Column) (d : Option Data) (v : Cell) → EndsWith columns ds column d v
+    → option_and_then (λ v. option_map (λ vs. v ∷ vs) (cells_from columns ds)) o ≡ Some values
+    → option_and_then (λ v. option_map (λ vs. v ∷ vs) (cells_from (columns ++ column ∷ []) (ds ++ d ∷ []))) o ≡ Some (values ++ v ∷ [])
+cells_behind None columns ds values column d v later e = absurd (none-some values e)
+cells_behind (Some u) columns ds values column d v later e = cells_with u (cells_from columns ds) columns ds values column d v refl later e
+
+cells_more : (columns : List Column) (ds : List (Option Data)) (column : Column) (d : Option Data) (v : Cell) → length columns ≡ length ds → cell_of column d ≡ Some v → EndsWith columns ds column d v
+cells_more [] [] column d v same is values e = ap (λ o. option_and_then (λ v. option_map (λ vs. v ∷ vs) (Some [])) o) is ∙ ap (λ vs. Some (vs ++ v ∷ [])) (same_Some [] values e)
+cells_more [] (o ∷ ds) column d v same is values e = absurd (omega (arith, same))
+cells_more (c ∷ cs) [] column d v same is values e = absurd (omega (arith, same))
+cells_more (c ∷ cs) (o ∷ ds) column d v same is values e = cells_behind (cell_of c o) cs ds values column d v (cells_more cs ds column d v (omega (arith, same)) is) e
+
+abbrev names_in : List Piece → List (List ℕ)
+names_in ps = map (λ p. p.0) ps
+
+abbrev data_in : List Piece → List (Option Data)
+data_in ps = map (λ p. Some p.1.1) ps
+
+front_length : (columns : List Column) (i : ℕ) → i < length columns → length (take i columns) ≡ i
+front_length columns i within = omega (arith, length-take i columns)
+
+-- one column more has its value
+pub plain_more : (columns : List Column) (i : ℕ) (column : Column) (text : List ℕ) (values : List Cell) (rest behind later : List ℕ) (t : Token) (d : Data) (v : Cell) → i < length columns → column ≡ get_or columns i column
+    → ArePlain (take i columns) text values rest → rest ≡ comma_if (nat_lt 0 i) ++ (quoted column.name ++ 58 ∷ behind) → IsTokenAt behind t later → scalar_of t ≡ Some d → Some v ≡ cell_of column (Some d)
+    → ArePlain (take (i + 1) columns) text (values ++ v ∷ []) later
+plain_more columns i column text values rest behind later t d v within is was key token scalar cell =
+    let ps = was.0 in
+    let p : Piece = (column.name, (t, d)) in
+    let front = take i columns in
+    let more : take (i + 1) columns ≡ front ++ column ∷ [] = take_more columns i column within ∙ ap (λ c. front ++ c ∷ []) (sym is) in
+    let count : length ps ≡ i = sym (length-map ps (λ p. p.0)) ∙ ap length was.2 ∙ length-map front (λ column. column.name) ∙ front_length columns i within in
+    let same : length front ≡ length (data_in ps) = front_length columns i within ∙ sym count ∙ sym (length-map ps (λ p. Some p.1.1)) in (
+      ps ++ p ∷ [],
+      pieces_more ps p was.1 (scalar, token.1),
+      map-append (λ p. p.0) ps (p ∷ []) ∙ ap (λ ns. ns ++ column.name ∷ []) was.2 ∙ sym (map-append (λ column. column.name) front (column ∷ [])) ∙ ap names_of (sym more),
+      front_more ps p (123 ∷ text) rest behind later was.1 was.3 (key ∙ ap (λ n. comma_if (nat_lt 0 n) ++ (quoted column.name ++ 58 ∷ behind)) (sym count)) token.0,
+      ap₂ cells_from more (map-append (λ p. Some p.1.1) ps (p ∷ [])) ∙ cells_more front (data_in ps) column (Some d) v same (sym cell) values was.4,
+    )
+
+-- nothing was read yet
+pub plain_none : (columns : List Column) (text : List ℕ) → ArePlain (take 0 columns) text [] text
+unfolding print_from
+plain_none columns text = ([], tt, refl, refl, refl)
+
+pub plain_all : (columns : List Column) (n : ℕ) (text : List ℕ) (values : List Cell) (rest : List ℕ) → length columns ≤ n → ArePlain (take n columns) text values rest → ArePlain columns text values rest
+plain_all columns n text values rest all are = subst (λ cs. ArePlain cs text values rest) (take_all n columns all) are
+
+-- ---- the whole text
+
+-- the members one after another
+abbrev put_all : List Piece → Members → Members
+put_all [] ms = ms
+put_all (p ∷ ps) ms = put_all ps (put p.0 p.1.1 ms)
+
+abbrev over : List Piece → List Token
+over ps = tokens_of ps ++ Token.end_object ∷ []
+
+members_all : (ps : List Piece) (old : Members) (n : ℕ) → ArePieces ps → length (over ps) ≤ n → converted (λ js. of_members js old) (members (value 126) n (over ps)) ≡ Some (put_all ps old, [])
+members_all [] old n are enough = members_over (value 126) old n (Token.end_object ∷ []) [] enough refl
+members_all (p ∷ ps) old n are enough =
+    let t = p.1.0 in
+    let token = scalar_read 126 t p.1.1 (over ps) are.0.0 in
+    let some : 0 < n = omega (arith, enough) in
+    let fewer : length (over ps) ≤ n - 1 = omega (arith, enough) in
+    member_read (value 126) old n p.0 (over (p ∷ ps)) (t ∷ over ps) (over ps) token.0 p.1.1 some refl token.1 token.2 ∙ members_all ps (put p.0 p.1.1 old) (n - 1) are.1 fewer
+
+-- members of other names change nothing at a name
+put_others : (ps : List Piece) (name : List ℕ) (ms : Members) → is_among name (names_in ps) ≡ false → get_member name (put_all ps ms) ≡ get_member name ms
+put_others [] name ms e = refl
+put_others (p ∷ ps) name ms e =
+    let parts = or_parts (bytes_eq name p.0) (is_among name (names_in ps)) e in
+    put_others ps name (put p.0 p.1.1 ms) parts.1 ∙ get_member-put_other name p.0 p.1.1 ms (λ same. apart_bytes name p.0 parts.0 (sym same))
+
+first_same : (x y : List ℕ) (xs ys : List (List ℕ)) → x ∷ xs ≡ y ∷ ys → x ≡ y
+first_same x y xs ys e = ap (λ l. get_or l 0 x) e
+
+later_same : (x y : List ℕ) (xs ys : List (List ℕ)) → x ∷ xs ≡ y ∷ ys → xs ≡ ys
+later_same x y xs ys e = ap (λ l. drop 1 l) e
+
+found_all : (columns : List Column) (ps : List Piece) (ms : Members) → are_distinct (names_of columns) ≡ true → names_in ps ≡ names_of columns → found_in columns (put_all ps ms) ≡ data_in ps
+found_all [] [] ms distinct same = refl
+found_all [] (p ∷ ps) ms distinct same = absurd (omega (arith, ap length same))
+found_all (c ∷ cs) [] ms distinct same = absurd (omega (arith, ap length same))
+found_all (c ∷ cs) (p ∷ ps) ms distinct same =
+    let first : p.0 ≡ c.name = first_same p.0 c.name (names_in ps) (names_of cs) same in
+    let later : names_in ps ≡ names_of cs = later_same p.0 c.name (names_in ps) (names_of cs) same in
+    let apart : is_among c.name (names_in ps) ≡ false = ap (is_among c.name) later ∙ none_later c cs distinct in
+    ap₂ (λ x xs. x ∷ xs)
+    (put_others ps c.name (put p.0 p.1.1 ms) apart ∙ ap (λ n. get_member c.name (put n p.1.1 ms)) first ∙ get_member-put c.name p.1.1 ms)
+    (found_all cs ps (put p.0 p.1.1 ms) (distinct_later c cs distinct) later)
+
+printable : (ps : List Piece) → ArePieces ps → ArePrintable (over ps)
+unfolding ArePrintable
+printable [] are = (tt, tt)
+printable (p ∷ ps) are = (tt, (are.0.1, printable ps are.1))
+
+all_printable : (ps : List Piece) → ArePieces ps → ArePrintable (Token.begin_object ∷ over ps)
+unfolding ArePrintable
+all_printable ps are = (tt, printable ps are)
+
+closed : (c : Bool) → print_from c (Token.end_object ∷ []) ≡ 125 ∷ []
+unfolding print_from
+closed true = refl
+closed false = refl
+
+-- the row of a text that was read to its end
+pub plain_row : (columns : List Column) (message text : List ℕ) (values : List Cell) (rest : List ℕ) → are_distinct (names_of columns) ≡ true → message ≡ 123 ∷ text → ArePlain columns text values rest → rest ≡ 125 ∷ []
+    → option_and_then (row_in columns) (read message) ≡ Some (record { values = values })
+plain_row columns message text values rest distinct first are ends =
+    let ps = are.0 in
+    let front = Token.begin_object ∷ tokens_of ps in
+    let ms = put_all ps no_members in
+    let written : message ≡ print (Token.begin_object ∷ over ps) =
+    first ∙ are.3 ∙ ap (λ xs. print front ++ xs) (ends ∙ sym (closed (after_value false front))) ∙ sym (print_from-append false front (Token.end_object ∷ [])) in
+    let starts : tokens message ≡ Token.begin_object ∷ over ps = ap tokens written ∙ tokens-print (Token.begin_object ∷ over ps) (all_printable ps are.1) in
+    let whole : read message ≡ Some (object ms) = flat_read message (over ps) ms starts (members_all ps no_members (length (over ps)) are.1 (omega arith)) in
+    let cells = sym (cells_found columns ms) ∙ ap (cells_from columns) (found_all columns ps no_members distinct are.2) ∙ are.4 in
+    ap (option_and_then (row_in columns)) whole ∙ ap (option_map (λ vs. record { values = vs })) cells
