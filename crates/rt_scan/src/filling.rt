@@ -25,14 +25,9 @@ pub fn scan_as(
     requires { IsQuery schema.now query.now }
     ensures { IfOk result (Holds query.now (taken query.now (rows_as schema.now sealed.now))) }
 {
-    let header = sealed.header();
-    let columns = columns_as(
-        alloc,
-        schema.columns.as_slice(),
-        sealed.columns(),
-        header.rows,
-    )?;
-    groups_taken(alloc, query, &columns, header.rows)
+    let rows = sealed.rows();
+    let columns = columns_as(alloc, schema.columns.as_slice(), sealed.columns(), rows)?;
+    groups_taken(alloc, query, &columns, rows)
 }
 
 // The columns of a schema in a file.

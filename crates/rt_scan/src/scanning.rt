@@ -27,12 +27,12 @@ pub fn scan(alloc: Global, query: &Query, sealed: &Sealed) -> Result<Groups, All
     requires { FitsSealed query.now sealed.now }
     ensures { IfOk result (Holds query.now (taken query.now (rows_of sealed.now))) }
 {
-    let header = sealed.header();
+    let rows = sealed.rows();
     if skips(query, sealed) {
         return Groups::make(alloc, query);
     }
     let columns = held_columns(alloc, sealed.columns())?;
-    groups_taken(alloc, query, &columns, header.rows)
+    groups_taken(alloc, query, &columns, rows)
 }
 
 /// The groups of the rows of a consuming segment that a query takes, those of earlier offsets than this one. The query's

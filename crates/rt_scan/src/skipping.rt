@@ -19,8 +19,7 @@ use std::cmp::Ordering;
 pub fn skips(query: &Query, sealed: &Sealed) -> bool
     ensures { result ≡ skips_of query.now.filter sealed.now }
 {
-    sealed.format() == 2
-        && (sealed.header().rows == 0 || !can_pass(sealed.columns(), &query.filter))
+    sealed.format() == 2 && (sealed.rows() == 0 || !can_pass(sealed.columns(), &query.filter))
 }
 
 fn can_pass(columns: &[SegmentColumn], filter: &Option<Predicate>) -> bool

@@ -1,7 +1,9 @@
--- How many bytes values take in a file.
+-- How many bytes values take in a file, and a file itself.
 use Rattle.std.proofs.Common.{◌≡◌, ℕ, ◌+◌, false, List, [], ◌++◌, Some, length, slice_get, take, refl, ap, arith}
 use Rattle.std.specs.List.{flat_map}
 use Rattle.std.proofs.lemmas.List.{append-nil, length-append}
+use Rattle.sha2.specs.Sha256.{sha256}
+use Rattle.sha2.proofs.Facts256.{length-sha256}
 use Rattle.rt_segment.specs.Spelling.{capped, values_spelled}
 use Rattle.rt_segment.proofs.Rows.{written_more}
 
@@ -13,3 +15,7 @@ pub size_more : {K : Type 0} (spelled : K → List ℕ) (vs : List K) (i : ℕ) 
 size_more spelled vs i v size one at so_far e =
     let whole = written_more spelled [] (flat_map spelled (take i vs)) (flat_map spelled (take i vs) ++ spelled v) vs i v at refl refl in
     omega (arith, so_far, e, length-append (flat_map spelled (take i vs)) (spelled v), ap length whole)
+
+-- a body, and its digest behind it
+pub with_digest : (body : List ℕ) → length (body ++ sha256 body) ≡ length body + 32
+with_digest body = omega (arith, length-append body (sha256 body), length-sha256 body)

@@ -1,7 +1,7 @@
-ghost use Rattle.std.specs.Prelude.{◌≡◌, ◌<◌, IfOk, Some, slice_get};
+ghost use Rattle.std.specs.Prelude.{◌≡◌, ◌+◌, ◌<◌, IfOk, Some, length, slice_get};
 ghost use Rattle.sha2.specs.Sha256.{sha256};
 ghost use Rattle.rt_segment.specs.Segment.{SealedSegment, IsSealable, IsSealed, rows_of, are_columns};
-ghost use Rattle.rt_segment.specs.Spelling.{body_of, header_of};
+ghost use Rattle.rt_segment.specs.Spelling.{body_of, file_of, header_of};
 
 use crate::body_writer::write_body;
 use crate::segment_column::SegmentColumn;
@@ -13,29 +13,38 @@ use sha2::{Digest, Sha256};
 use std::alloc::{AllocError, Global};
 use std::marker::Model;
 
+// The bytes of a digest.
+const DIGEST_SIZE: u64 = 32;
+
 /// A sealed segment: a format, a header and a table of columns.
 #[derive(Drop)]
 pub struct Sealed {
     format: u8,
-    header: Header,
+    partition: Partition,
+    sequence: Sequence,
+    range: Range,
+    rows: u32,
     columns: Items<SegmentColumn>,
-    // What stands before the digest in the file, kept where it was written for the digest's sake.
+    // The digest of the file, where it was read with it.
+    digest: Option<[u8; 32]>,
+    // What stands before the digest in the file, where it was written here: it says the digest to those who ask.
     body: Option<Bytes>,
 }
 
 impl Model for Sealed {
-    ghost use Rattle.std.specs.Prelude.{◌≡◌, IfSome};
+    ghost use Rattle.std.specs.Prelude.{◌≡◌, None, Some, IfSome};
     ghost use Rattle.sha2.specs.Sha256.{sha256};
     ghost use Rattle.rt_segment.specs.Segment.{SealedSegment, IsSealed};
     ghost use Rattle.rt_segment.specs.Spelling.{body_of};
 
     ghost Value = { SealedSegment };
 
-    ghost view = { λ a. record { format = a.format; partition = a.header.partition; sequence = a.header.sequence; range = a.header.range; rows = a.header.rows; columns = a.columns } };
+    ghost view = { λ a. record { format = a.format; partition = a.partition; sequence = a.sequence; range = a.range; rows = a.rows; columns = a.columns } };
 
-    ghost invariant = { λ a. IsSealed (record { format = a.format; partition = a.header.partition; sequence = a.header.sequence; range = a.header.range; rows = a.header.rows; columns = a.columns })
-        × (a.header.digest ≡ sha256 (body_of (record { format = a.format; partition = a.header.partition; sequence = a.header.sequence; range = a.header.range; rows = a.header.rows; columns = a.columns })))
-        × IfSome a.body (λ bytes. bytes ≡ body_of (record { format = a.format; partition = a.header.partition; sequence = a.header.sequence; range = a.header.range; rows = a.header.rows; columns = a.columns })) };
+    ghost invariant = { λ a. IsSealed (record { format = a.format; partition = a.partition; sequence = a.sequence; range = a.range; rows = a.rows; columns = a.columns })
+        × IfSome a.digest (λ digest. digest ≡ sha256 (body_of (record { format = a.format; partition = a.partition; sequence = a.sequence; range = a.range; rows = a.rows; columns = a.columns })))
+        × IfSome a.body (λ bytes. bytes ≡ body_of (record { format = a.format; partition = a.partition; sequence = a.sequence; range = a.range; rows = a.rows; columns = a.columns }))
+        × (a.digest ≡ None → a.body ≡ Some (body_of (record { format = a.format; partition = a.partition; sequence = a.sequence; range = a.range; rows = a.rows; columns = a.columns }))) };
 }
 
 impl Sealed {
@@ -61,17 +70,14 @@ impl Sealed {
             rows,
             columns.as_slice(),
         )?;
-        let header = Header {
+        Ok(Sealed {
+            format,
             partition,
             sequence,
             range,
             rows,
-            digest: Sha256::digest(body.as_slice()),
-        };
-        Ok(Sealed {
-            format,
-            header,
             columns,
+            digest: None,
             body: Some(Bytes::of(body)),
         })
     }
@@ -84,8 +90,12 @@ impl Sealed {
     {
         Sealed {
             format,
-            header,
+            partition: header.partition,
+            sequence: header.sequence,
+            range: header.range,
+            rows: header.rows,
             columns,
+            digest: Some(header.digest),
             body: None,
         }
     }
@@ -102,7 +112,40 @@ impl Sealed {
         ensures header { result ≡ header_of self.now }
         ensures right { IsSealed self.now }
     {
-        self.header
+        Header {
+            partition: self.partition,
+            sequence: self.sequence,
+            range: self.range,
+            rows: self.rows,
+            digest: self.digest(),
+        }
+    }
+
+    // The digest of the file, taken anew where it isn't known.
+    fn digest(&self) -> [u8; 32]
+        ensures { result ≡ sha256 (body_of self.now) }
+    {
+        match (&self.digest, &self.body) {
+            (Some(digest), _) => *digest,
+            (None, Some(body)) => Sha256::digest(body.as_slice()),
+            (None, None) => unreachable!(),
+        }
+    }
+
+    /// The offsets that the segment covers.
+    pub fn range(&self) -> Range
+        ensures range { result ≡ self.now.range }
+        ensures right { IsSealed self.now }
+    {
+        self.range
+    }
+
+    /// The number of rows.
+    pub fn rows(&self) -> u32
+        ensures rows { result ≡ self.now.rows }
+        ensures right { IsSealed self.now }
+    {
+        self.rows
     }
 
     /// The columns, in the order of the file.
@@ -112,23 +155,40 @@ impl Sealed {
         self.columns.as_slice()
     }
 
+    /// The number of bytes of the segment's file. Fails only where memory is refused.
+    #[tactic(auto, using(crate::proofs::Sizes::with_digest))]
+    pub fn size(&self, alloc: Global) -> Result<u64, AllocError>
+        ensures { IfOk result (λ size. size ≡ length (file_of self.now)) }
+    {
+        match &self.body {
+            Some(body) => Ok(size_with(body.as_slice())),
+            None => Ok(size_with(self.written(alloc)?.as_slice())),
+        }
+    }
+
     /// The bytes before the digest of the segment's file. Fails only where memory is refused.
     pub(crate) fn body(&self, alloc: Global) -> Result<Vec<u8>, AllocError>
         ensures { IfOk result (λ bytes. bytes.items ≡ body_of self.now) }
     {
-        let header = self.header;
         match &self.body {
             Some(body) => body.as_slice().to_vec(alloc),
-            None => write_body(
-                alloc,
-                self.format,
-                header.partition,
-                header.sequence,
-                header.range,
-                header.rows,
-                self.columns.as_slice(),
-            ),
+            None => self.written(alloc),
         }
+    }
+
+    // The same bytes, written anew.
+    fn written(&self, alloc: Global) -> Result<Vec<u8>, AllocError>
+        ensures { IfOk result (λ bytes. bytes.items ≡ body_of self.now) }
+    {
+        write_body(
+            alloc,
+            self.format,
+            self.partition,
+            self.sequence,
+            self.range,
+            self.rows,
+            self.columns.as_slice(),
+        )
     }
 
     /// The row of a number, counted from 0. Fails only where memory is refused.
@@ -152,15 +212,21 @@ impl Sealed {
     {
         let columns = copies_of(alloc, self.columns.as_slice())?;
         let format = 2;
-        let header = self.header;
         Sealed::make(
             alloc,
             format,
-            header.partition,
-            header.sequence,
-            header.range,
-            header.rows,
+            self.partition,
+            self.sequence,
+            self.range,
+            self.rows,
             columns,
         )
     }
+}
+
+// The number of bytes of a file with these before its digest.
+fn size_with(body: &[u8]) -> u64
+    ensures { result ≡ length body.now + 32 }
+{
+    body.len() as u64 + DIGEST_SIZE
 }

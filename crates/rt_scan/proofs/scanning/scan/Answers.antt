@@ -19,30 +19,30 @@ use Rattle.rt_scan.proofs.scanning.scan.Goals.{After-deref}
 held : (c : After-deref) → map file_values c.deref.result.now ≡ map values_of c.args.sealed.now.columns
 held c = ap (map file_values) c.deref.ensures.value ∙ c.in_ok-columns.ensures {u = tt} ∙ ap (map values_of) c.columns.ensures
 
-count : (c : After-deref) → c.header-header.result.rows ≡ c.args.sealed.now.rows
-count c = ap (λ h. h.rows) c.header-header.ensures.header
+count : (c : After-deref) → c.rows-rows.result ≡ c.args.sealed.now.rows
+count c = c.rows-rows.ensures.rows
 
 pub groups_taken-requires-clause-full : goal.groups_taken-requires-clause-full
 groups_taken-requires-clause-full c =
     let at = (goal.at.groups_taken-requires-clause-full c).After-deref in
-    let P = λ (vs : List Value). length vs ≡ c.header-header.result.rows in
+    let P = λ (vs : List Value). length vs ≡ c.rows-rows.result in
     unmapped P file_values c.deref.result.now (subst (All P) (sym (held at)) (All-map P values_of c.args.sealed.now.columns
-    (subst (λ (n : ℕ). All (λ column. length (values_of column) ≡ n) c.args.sealed.now.columns) (sym (count at)) (full_columns c.args.sealed.now c.header-header.ensures.right))))
+    (subst (λ (n : ℕ). All (λ column. length (values_of column) ≡ n) c.args.sealed.now.columns) (sym (count at)) (full_columns c.args.sealed.now c.rows-rows.ensures.right))))
 
 pub groups_taken-requires-clause-fits : goal.groups_taken-requires-clause-fits
 groups_taken-requires-clause-fits c row h =
     let at = (goal.at.groups_taken-requires-clause-fits c).After-deref in
     let this = same_row file_values values_of c.deref.result.now c.args.sealed.now.columns (held at) row in
     rows_fit c.requires.schema (row_at file_values c.deref.result.now row)
-    (subst (IsRowOf c.requires.schema) (sym this) (row_of_schema c.requires.schema c.args.sealed.now c.header-header.ensures.right c.requires.columns row (omega (arith, h, count at))))
+    (subst (IsRowOf c.requires.schema) (sym this) (row_of_schema c.requires.schema c.args.sealed.now c.rows-rows.ensures.right c.requires.columns row (omega (arith, h, count at))))
     c.args.query.now c.requires.parsed
 
 pub returns-then-skips : goal.returns-then-skips
 returns-then-skips c =
-    subst (λ (rs : List Row). IfOk c.make.result (Holds c.args.query.now rs)) (sym (none_taken c.args.query.now c.args.sealed.now c.header-header.ensures.right c.requires (sym c.skips.ensures ∙ c.if-skips.true))) c.make.ensures
+    subst (λ (rs : List Row). IfOk c.make.result (Holds c.args.query.now rs)) (sym (none_taken c.args.query.now c.args.sealed.now c.rows-rows.ensures.right c.requires (sym c.skips.ensures ∙ c.if-skips.true))) c.make.ensures
 
 pub returns : goal.returns
 returns c =
     let at = (goal.at.returns c).After-deref in
-    let rows = same_rows file_values values_of c.deref.result.now c.args.sealed.now.columns (held at) c.header-header.result.rows ∙ ap (rows_by values_of c.args.sealed.now.columns) (count at) in
+    let rows = same_rows file_values values_of c.deref.result.now c.args.sealed.now.columns (held at) c.rows-rows.result ∙ ap (rows_by values_of c.args.sealed.now.columns) (count at) in
     subst (λ (rs : List Row). IfOk c.groups_taken.result (Holds c.args.query.now (taken c.args.query.now rs))) rows c.groups_taken.ensures

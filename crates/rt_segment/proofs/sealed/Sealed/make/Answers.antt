@@ -1,6 +1,5 @@
-use Rattle.std.proofs.Common.{◌≡◌, Fits, w32, w64, ap, subst, ◌∙◌, rules}
+use Rattle.std.proofs.Common.{◌≡◌, Fits, Some, w32, w64, ap, subst, ◌∙◌, rules}
 use Rattle.std.specs.List.{All}
-use Rattle.sha2.specs.Sha256.{sha256}
 use Rattle.rt_segment.specs.Column.{IsColumn}
 use Rattle.rt_segment.specs.Spelling.{body_of}
 use Rattle.rt_segment.proofs.sealed.Sealed.make.Goals as goal
@@ -13,6 +12,7 @@ invariant_of-result c =
     let columns : c.as_slice.result.now ≡ c.args.columns = c.as_slice.ensures in
     let written = c.in_ok-body.ensures.written ∙ ap (λ cs. body_of (record { format = c.args.format; partition = c.args.partition; sequence = c.args.sequence; range = c.args.range; rows = c.args.rows; columns = cs })) columns in (
       record { sealable = c.requires; columns = subst (All IsColumn) columns c.in_ok-body.ensures.columns; partition = p.fits; sequence = q.fits; end = b.fits },
-      c.digest.ensures ∙ ap sha256 (c.as_slice-2.ensures.value ∙ written),
+      tt,
       c.of.ensures ∙ written,
+      λ none. ap Some (c.of.ensures ∙ written),
     )
