@@ -1,7 +1,7 @@
 ghost use Rattle.std.specs.Prelude.{◌≡◌, true, IfOk};
 ghost use Rattle.rt_model.specs.Setup.{IsSetup};
 ghost use Rattle.rt_consumer.specs.Consumer.{IsConsumer, IsStage, IsBuilt, AreSettings, HaveColumns, started_of, cur, state_of};
-ghost use Rattle.rt_consumer.specs.Replies.{is_answer, replied};
+ghost use Rattle.rt_consumer.specs.Replies.{is_answer, replied, turn_by, turned};
 ghost use Rattle.rt_consumer.specs.Requests.{Does, Builds, forced, stopped, builds_at, filed, filed_at};
 
 use crate::replies::{Turn, answered, extended};
@@ -11,7 +11,7 @@ use crate::{
 use rt_base::{Moment, Offset, Partition, Sequence};
 use rt_build::seal_as;
 use rt_lists::Text;
-use rt_model::{Reason, ReplicaState, Reply, SegMeta, Setup};
+use rt_model::{Reason, ReplicaState, Reply, ReplyStatus, SegMeta, Setup};
 use rt_mutable::MutableSegment;
 use rt_segment::Sealed;
 use std::alloc::{AllocError, Global};
@@ -103,7 +103,8 @@ impl Consumer {
             Phase::Unsealed(unsealed) if unsealed.stage.stops() => unsealed.rows.end(),
             _ => return Err(ReplicaRefused::NotDue),
         };
-        self.phase = Phase::Discarded(Discarded { cur, stopped: true });
+        let stopped = Phase::Discarded(Discarded { cur, stopped: true });
+        drop(mem::replace(&mut self.phase, stopped));
         self.waited = None;
         Ok(())
     }
@@ -129,7 +130,7 @@ impl Consumer {
         )?;
         let file = BuiltFile::make(alloc, file)?;
         let phase = mem::replace(&mut self.phase, gone(self.start));
-        self.phase = with_file(phase, file);
+        drop(mem::replace(&mut self.phase, with_file(phase, file)));
         self.waited = None;
         Ok(())
     }
@@ -147,18 +148,30 @@ impl Consumer {
             return false;
         }
         let phase = mem::replace(&mut self.phase, gone(self.start));
-        let turn = match waited {
-            Waited::Step(_) => answered(phase, reply.status),
-            Waited::Extend(_) => extended(phase, reply.status),
-        };
-        match turn {
-            Turn::Stays(phase) => self.phase = phase,
-            Turn::Goes(phase) => {
-                self.phase = phase;
-                self.waited = None;
-            }
-        }
+        self.turn(turn_by(phase, waited, reply.status));
         true
+    }
+
+    /// Takes what an answer made of the replica: a change of state or stage ends the waiting.
+    fn turn(&mut self, turn: Turn)
+        ensures { self.new ≡ turned self.old turn }
+    {
+        let (phase, waited) = match turn {
+            Turn::Stays(phase) => (phase, self.waited),
+            Turn::Goes(phase) => (phase, None),
+        };
+        drop(mem::replace(&mut self.phase, phase));
+        self.waited = waited;
+    }
+}
+
+/// What the answer to a request makes of a replica.
+fn turn_by(phase: Phase, waited: Waited, status: ReplyStatus) -> Turn
+    ensures { result ≡ turn_by phase waited status }
+{
+    match waited {
+        Waited::Step(_) => answered(phase, status),
+        Waited::Extend(_) => extended(phase, status),
     }
 }
 

@@ -83,7 +83,8 @@ impl Consumer {
         let phase = mem::replace(&mut self.phase, gone(self.start));
         match phase {
             Phase::Unsealed(unsealed) => {
-                self.phase = learned_at(unsealed.rows, done, end);
+                let learned = learned_at(unsealed.rows, done, end);
+                drop(mem::replace(&mut self.phase, learned));
                 self.waited = None;
             }
             _ => unreachable!(),
