@@ -149,7 +149,7 @@ fn size(
     answer: &mut Answer,
 ) -> Result<(), Stop> {
     words.ended()?;
-    answer.number(encode(alloc, sealed)?.len() as u64);
+    answer.number(sealed.size(alloc)?);
     Ok(())
 }
 
@@ -170,7 +170,7 @@ fn fits(
 fn row(alloc: Global, sealed: &Sealed, words: &mut Words, answer: &mut Answer) -> Result<(), Stop> {
     let number = words.count();
     words.ended()?;
-    if number >= sealed.header().rows {
+    if number >= sealed.rows() {
         return Err(Stop::Refused);
     }
     let row = sealed.row(alloc, number)?;
@@ -186,7 +186,7 @@ fn rows(
     answer: &mut Answer,
 ) -> Result<(), Stop> {
     words.ended()?;
-    let count = sealed.header().rows;
+    let count = sealed.rows();
     if count == 0 {
         answer.add("-");
     }

@@ -30,7 +30,7 @@ impl BuiltFile {
     pub fn make(alloc: Global, file: Sealed) -> Result<BuiltFile, AllocError>
         ensures { IfOk result (λ built. built ≡ file) }
     {
-        let size = encode(alloc, &file)?.len() as u64;
+        let size = file.size(alloc)?;
         Ok(BuiltFile { file, size })
     }
 

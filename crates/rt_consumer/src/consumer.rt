@@ -207,8 +207,8 @@ fn seal(
         settings.indexed.as_slice(),
         settings.format,
     )?;
-    // That a file is whole is told with its header.
-    let _header = file.header();
+    // That a file is whole is told with its rows.
+    let _rows = file.rows();
     Ok(file)
 }
 

@@ -54,8 +54,8 @@ impl Phase {
     {
         match self {
             Phase::Unsealed(unsealed) => unsealed.rows.end(),
-            Phase::Retained(committed) => committed.file.header().range.end,
-            Phase::Committed(committed) => committed.file.header().range.end,
+            Phase::Retained(committed) => committed.file.range().end,
+            Phase::Committed(committed) => committed.file.range().end,
             Phase::Discarded(discarded) => discarded.cur,
         }
     }

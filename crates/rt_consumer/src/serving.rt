@@ -18,8 +18,8 @@ impl Consumer {
     {
         match &self.phase {
             Phase::Unsealed(unsealed) => unsealed.rows.len(),
-            Phase::Retained(kept) => kept.file.header().rows,
-            Phase::Committed(kept) => kept.file.header().rows,
+            Phase::Retained(kept) => kept.file.rows(),
+            Phase::Committed(kept) => kept.file.rows(),
             Phase::Discarded(_) => 0,
         }
     }

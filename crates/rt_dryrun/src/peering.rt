@@ -96,6 +96,6 @@ fn got_from(others: &[Instance], got: &Got) -> Option<PeerFile>
     let from = *others.get(place as usize)?;
     Some(PeerFile {
         from,
-        rows: got.sealed.header().rows,
+        rows: got.sealed.rows(),
     })
 }

@@ -48,7 +48,7 @@ impl CommittedSegment {
             return Err(ServerRefused::NotDue);
         }
         let file = load_done(alloc, deep, schema, partition, sequence, &self.done)?;
-        let rows = file.header().rows;
+        let rows = file.rows();
         self.file = Some(file);
         Ok(rows)
     }

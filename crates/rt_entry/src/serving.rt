@@ -114,7 +114,7 @@ fn rows_range(piece: Piece, rows: &MutableSegment) -> Result<Range, ServeRefused
 fn file_range(piece: Piece, file: &Sealed) -> Result<Range, ServeRefused>
     ensures { result ≡ file_range piece file.now }
 {
-    let held = file.header().range;
+    let held = file.range();
     let end = piece.end.unwrap_or(held.end);
     if end != held.end || piece.start != held.start {
         return Err(ServeRefused::NotServed {
@@ -145,7 +145,7 @@ fn rows_before(alloc: Global, rows: &MutableSegment, end: Offset) -> Result<Item
 fn rows_of(alloc: Global, file: &Sealed) -> Result<Items<Row>, AllocError>
     ensures { IfOk result (λ copies. copies ≡ rows_of file.now) }
 {
-    let count = file.header().rows;
+    let count = file.rows();
     let mut copies = Items::new(alloc);
     for number in 0..count {
         copies.push(file.row(alloc, number)?)?;

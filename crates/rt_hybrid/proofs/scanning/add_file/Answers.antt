@@ -9,7 +9,7 @@ pub returns-then-skips : goal.returns-then-skips
 returns-then-skips c =
     adds_same c.args.query.now [] (taken c.args.query.now (rows_as c.args.schema.now c.args.file.now)) c.args.groups.now c.args.groups.now
     (sym (none_taken c.args.query.now (rows_as c.args.schema.now c.args.file.now)
-    (none_filled_passes c.args.query.now c.args.schema.now c.args.file.now c.header.ensures.right c.requires.query c.requires.kinds (sym c.skips.ensures ∙ c.if-skips.true))))
+    (none_filled_passes c.args.query.now c.args.schema.now c.args.file.now c.rows.ensures.right c.requires.query c.requires.kinds (sym c.skips.ensures ∙ c.if-skips.true))))
     (adds_none c.args.query.now c.args.groups.now)
 
 pub returns : goal.returns
