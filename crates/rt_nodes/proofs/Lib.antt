@@ -1,4 +1,5 @@
 pub mod Failures
+pub mod Resting
 pub mod SeenReplicas
 pub mod Standing
 pub mod Starting

@@ -4,7 +4,6 @@ use Rattle.rt_base.specs.declared.numbers.Instance.{Instance}
 use Rattle.rt_base.specs.declared.numbers.Partition.{Partition}
 use Rattle.rt_base.specs.declared.numbers.Sequence.{Sequence}
 use Rattle.rt_model.specs.declared.piece.Piece.{Piece}
-use Rattle.rt_model.specs.declared.replica_state.ReplicaState.{ReplicaState}
 use Rattle.rt_pause.specs.declared.replica_seen.ReplicaSeen.{ReplicaSeen}
 use Rattle.rt_consumer.specs.Consumer.{cur, state_of}
 use Rattle.rt_consumer.specs.declared.consumer.Consumer.{Consumer}
@@ -17,6 +16,7 @@ use Rattle.rt_entry.specs.declared.refused.ServeRefused.{ServeRefused}
 use Rattle.rt_entry.specs.declared.served_rows.ServedRows.{ServedRows}
 use Rattle.rt_nodes.specs.declared.controller_node.ControllerNode.{ControllerNode}
 use Rattle.rt_nodes.specs.declared.server_node.ServerNode.{ServerNode}
+pub use Rattle.rt_server.specs.Resting.{rests_by, stage_of}
 
 abbrev pub leads : ControllerNode → Bool
 leads n = n.up && n.controller.leads
@@ -49,9 +49,9 @@ abbrev pub replica_up : Option ServerNode → Partition → Sequence → Option 
 replica_up None p q = None
 replica_up (Some n) p q = if n.up then replica_of n.server.table p q else None
 
-abbrev pub stage_of : Option Consumer → Option ReplicaState
-stage_of None = None
-stage_of (Some r) = Some (state_of r.phase)
+-- whether a segment has a replica at rest, at a server that is up
+abbrev pub rests_up : Option ServerNode → Segment → Bool
+rests_up o s = rests_by (replica_up o s.0 s.1)
 
 abbrev pub file_in : Option ServerNode → Partition → Sequence → Option SealedSegment
 file_in None p q = None

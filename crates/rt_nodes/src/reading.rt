@@ -1,7 +1,8 @@
 //! What is told of a node.
 ghost use Rattle.std.specs.Prelude.{◌≡◌, ◌≤◌, ◌++◌, IfOk, IfSome, OnOk, Some, option_map};
+ghost use Rattle.std.specs.List.{prefix_len};
 ghost use Rattle.rt_server.specs.Table.{replica_of};
-ghost use Rattle.rt_nodes.specs.Reading.{leads, rows_of_node, seen_of, seen_as, replica_up, stage_of, file_bytes, file_in};
+ghost use Rattle.rt_nodes.specs.Reading.{leads, rows_of_node, seen_of, seen_as, replica_up, rests_up, stage_of, file_bytes, file_in};
 
 use crate::{ControllerNode, ServerNode};
 use rt_base::{Instance, Partition, Sequence};
@@ -88,6 +89,18 @@ impl ServerNode {
         match self.server.replica(partition, sequence) {
             Some(replica) => Some(replica.state()),
             None => None,
+        }
+    }
+
+    /// How many of the first segments of a list have replicas at rest, at a server that is up.
+    #[tactic(auto, using(crate::proofs::Resting::up_rests, crate::proofs::Resting::down_rests))]
+    pub fn resting(&self, segments: &[(Partition, Sequence)]) -> usize
+        ensures { result ≡ prefix_len (rests_up (Some self.now)) segments.now }
+    {
+        if self.up {
+            self.server.resting(segments)
+        } else {
+            0
         }
     }
 

@@ -23,4 +23,5 @@ pub mod LastingStarts
 pub mod LastingTold
 pub mod LastingCopies
 pub mod Targets
+pub mod Walks
 pub mod Merge

@@ -2,6 +2,7 @@ pub mod Table
 pub mod Transition
 pub mod Calls
 pub mod Due
+pub mod Resting
 pub mod Seen
 pub mod Download
 pub mod Serving

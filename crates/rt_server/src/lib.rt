@@ -9,6 +9,7 @@ mod lasting_told;
 mod laws;
 mod lists;
 mod replicas;
+mod resting;
 mod seen;
 mod server;
 mod serving;
@@ -27,5 +28,6 @@ pub use laws::{
     a_refused_call_changes_nothing, a_store_fault_raises_the_count,
     calls_over_told_stores_are_exact,
 };
+pub use resting::rests_in;
 pub use rt_entry::{ServeRefused, ServedRows, ServerRefused};
 pub use server::Server;

@@ -15,6 +15,7 @@ pub mod KeepsStream
 pub mod Places
 pub mod Quiet
 pub mod Refusing
+pub mod Resting
 pub mod SafeSteps
 pub mod Sets
 pub mod StartSafe

@@ -24,6 +24,7 @@ use Rattle.rt_pause.specs.declared.replica_seen.ReplicaSeen.{ReplicaSeen}
 use Rattle.rt_consumer.specs.Requests.{is_ready}
 use Rattle.rt_consumer.specs.declared.consumer.Consumer.{Consumer}
 use Rattle.rt_server.specs.Due.{due_of as due_segments, wanted_of, held_of}
+use Rattle.rt_server.specs.Resting.{rests_in, stands_so}
 use Rattle.rt_server.specs.Table.{Segment, Segments}
 use Rattle.rt_entry.specs.declared.served_rows.ServedRows.{ServedRows}
 use Rattle.rt_stream.specs.Log.{messages_of, end_of}
@@ -134,6 +135,10 @@ replicas_seen w = seen_below w w.setup.servers
 
 abbrev pub stage_at : State → Instance → Partition → Sequence → Option ReplicaState
 stage_at w i p q = stage_of (replica_up (slice_get w.servers i.0) p q)
+
+-- whether the replica of a segment is at rest
+abbrev pub at_rest : State → Instance → Segment → Bool
+at_rest w i s = stands_so rests_in (stage_at w i s.0 s.1)
 
 abbrev pub copy_in : State → Instance → Partition → Sequence → Option (List ℕ)
 copy_in w i p q = file_bytes (file_in (slice_get w.servers i.0) p q)

@@ -1,5 +1,6 @@
 //! What a world tells. Each call changes nothing.
 ghost use Rattle.std.specs.Prelude.{◌≡◌, ◌≤◌, IfOk, IfSome, IsFalse, Some, option_map};
+ghost use Rattle.std.specs.List.{prefix_len};
 ghost use Rattle.rt_model.specs.Metadata.{metadata_of};
 ghost use Rattle.rt_model.specs.Plan.{plan_of};
 ghost use Rattle.rt_world.specs.Reading.{
@@ -16,6 +17,7 @@ ghost use Rattle.rt_world.specs.Reading.{
   ServesRows,
   replicas_seen,
   stage_at,
+  at_rest,
   copy_in,
   ideal_in,
 };
@@ -191,6 +193,18 @@ impl World {
         match self.state.servers.get(instance.0 as usize) {
             Some(node) => node.stage(partition, sequence),
             None => None,
+        }
+    }
+
+    /// How many of the first segments of a list have replicas at rest at a server: RETAINED or COMMITTED, as `stage` tells.
+    /// It costs a step for each whose entry follows that of the one before, and a search for any other.
+    #[tactic(auto, using(crate::proofs::Resting::rests_there, crate::proofs::Resting::rests_nowhere))]
+    pub fn resting(&self, instance: Instance, segments: &[(Partition, Sequence)]) -> usize
+        ensures { result ≡ prefix_len (at_rest self.now.state instance) segments.now }
+    {
+        match self.state.servers.get(instance.0 as usize) {
+            Some(node) => node.resting(segments),
+            None => 0,
         }
     }
 
