@@ -1,33 +1,17 @@
 -- Replicas to which no turn comes, or a part of it alone: what they are in tells that they have nothing to do.
-use Rattle.std.specs.Prelude.{Bool, true, false, Option, None, Some, if◌then◌else◌}
+use Rattle.std.specs.Prelude.{Bool, Option, None, if◌then◌else◌}
 use Rattle.rt_base.specs.declared.numbers.Instance.{Instance}
 use Rattle.rt_macros.specs.Settling.{SegmentAt}
 use Rattle.rt_model.specs.declared.replica_state.ReplicaState.{ReplicaState}
-use Rattle.rt_model.specs.declared.replica_state.ReplicaState.TheVariants as state
 use Rattle.rt_state.specs.Finding.{has_partition}
 use Rattle.rt_state.specs.Replicas.{takes_in}
 use Rattle.rt_state.specs.declared.state.State.{State}
 use Rattle.rt_world.specs.Reading.{stage_at}
-
--- the states in which a replica has the file of its committed segment
-abbrev pub rests_in : ReplicaState → Bool
-rests_in state.Retained = true
-rests_in state.Committed = true
-rests_in state.InitialConsuming = false
-rests_in state.CatchingUp = false
-rests_in state.Holding = false
-rests_in state.ConsumingToOnline = false
-rests_in state.Retaining = false
-rests_in state.Committing = false
-rests_in state.Discarded = false
+pub use Rattle.rt_server.specs.Resting.{rests_in, stands_so}
 
 -- where the replica of a segment stands, at a server that is up
 abbrev pub standing_in : State → Instance → SegmentAt → Option ReplicaState
 standing_in w instance segment = if has_partition w segment.0 then stage_at w instance segment.0 segment.1 else None
-
-abbrev pub stands_so : (ReplicaState → Bool) → Option ReplicaState → Bool
-stands_so test None = false
-stands_so test (Some stage) = test stage
 
 -- a replica that neither takes, builds nor asks any more
 abbrev pub rests_at : State → Instance → SegmentAt → Bool

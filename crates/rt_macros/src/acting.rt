@@ -7,15 +7,13 @@ use rt_world::{Event, Outcome, Refusal, World};
 use std::alloc::Global;
 
 /// Has an event happen, which is looked at.
+#[tactic(auto, using(crate::proofs::Applied::event_happens))]
 pub fn apply(alloc: Global, world: &mut World, event: &Event) -> Result<Outcome, Refusal>
     requires unspent { world.old.spent ≡ false }
     requires fits { Fits world.old.state.setup.schema event.now }
     ensures { Does (Happens event.now world.old.state) world.new result }
 {
-    match world.apply(alloc, event) {
-        Ok(outcome) => Ok(outcome),
-        Err(refusal) => Err(refusal),
-    }
+    world.apply(alloc, event)
 }
 
 /// Has an event happen.
@@ -44,7 +42,16 @@ pub fn happen(alloc: Global, world: &mut World, event: Event) -> Result<(), Refu
     requires fits { Fits world.old.state.setup.schema event }
     ensures { Does (Passed event world.old.state) world.new result }
 {
-    match act(alloc, world, event) {
+    happen_as(alloc, world, &event)
+}
+
+/// The same for an event that the caller keeps.
+pub fn happen_as(alloc: Global, world: &mut World, event: &Event) -> Result<(), Refusal>
+    requires unspent { world.old.spent ≡ false }
+    requires fits { Fits world.old.state.setup.schema event.now }
+    ensures { Does (Passed event.now world.old.state) world.new result }
+{
+    match apply(alloc, world, event) {
         Ok(_) => Ok(()),
         Err(refusal) => Err(refusal),
     }

@@ -1,5 +1,5 @@
 ghost use Rattle.std.specs.Prelude.{◌≡◌, ◌<◌, false};
-ghost use Rattle.rt_macros.specs.Doing.{Does};
+ghost use Rattle.rt_macros.specs.Doing.{Does, Each};
 ghost use Rattle.rt_macros.specs.Settling.{
   BuildAndExchange,
   ConsumeTurn,
@@ -24,7 +24,7 @@ ghost use Rattle.rt_macros.specs.Settling.{
 
 use crate::acting::{act, attempt, happen};
 use crate::exchanging::finish_exchange;
-use crate::resting::{rests, takes};
+use crate::resting::{resting, takes};
 use rt_base::{ControllerId, Instance, NodeId, Partition, Sequence};
 use rt_pause::Pause;
 use rt_world::{Event, Outcome, Refusal, World};
@@ -224,7 +224,6 @@ fn replicas_turn(
     held_turn(alloc, world, pause, instance, noted)
 }
 
-#[tactic(auto, using(crate::proofs::Doing::list_goes_on, crate::proofs::Doing::list_stops))]
 fn held_turn(
     alloc: Global,
     world: &mut World,
@@ -236,19 +235,38 @@ fn held_turn(
     ensures { Does (ReplicasHeld pause.now instance noted world.old.state) world.new result }
 {
     let held = world.held(alloc, instance)?;
+    turn_all(alloc, world, pause, instance, held.as_slice(), noted)
+}
+
+// Each replica has its turn; those at rest are passed together, since theirs comes to nothing.
+#[tactic(auto, using(crate::proofs::Passed::list_ends, crate::proofs::Passed::pass_within))]
+fn turn_all(
+    alloc: Global,
+    world: &mut World,
+    pause: &Pause,
+    instance: Instance,
+    segments: &[(Partition, Sequence)],
+    noted: bool,
+) -> Result<bool, Refusal>
+    requires { world.old.spent ≡ false }
+    ensures { Does (Each (ReplicaTurn pause.now instance) segments.now noted world.old.state) world.new result }
+{
     let mut busy = noted;
-    for segment in held.as_slice() {
-        let (partition, sequence) = *segment;
+    let mut at = resting(world, instance, segments);
+    while at < segments.len() {
+        let (partition, sequence) = segments[at];
         match replica_turn(alloc, world, pause, instance, partition, sequence, busy) {
             Ok(now) => busy = now,
             Err(refusal) => return Err(refusal),
         }
+        at += 1;
+        at += resting(world, instance, &segments[at..]);
     }
     Ok(busy)
 }
 
-// A replica consumes, builds and makes an exchange, each where it is due; one at rest is left out.
-#[tactic(auto, using(crate::proofs::Idle::rests_turn, crate::proofs::Doing::does_then, crate::proofs::Doing::does_refused, crate::proofs::Doing::does_told))]
+// A replica consumes, builds and makes an exchange, each where it is due.
+#[tactic(auto, using(crate::proofs::Doing::does_then, crate::proofs::Doing::does_refused, crate::proofs::Doing::does_told))]
 fn replica_turn(
     alloc: Global,
     world: &mut World,
@@ -261,9 +279,6 @@ fn replica_turn(
     requires { world.old.spent ≡ false }
     ensures { Does (ReplicaTurn pause.now instance (partition, sequence) busy world.old.state) world.new result }
 {
-    if rests(world, instance, partition, sequence) {
-        return Ok(busy);
-    }
     let busy = consume_turn(alloc, world, pause, instance, partition, sequence, busy)?;
     build_and_exchange(alloc, world, instance, partition, sequence, busy)
 }

@@ -1,17 +1,16 @@
-ghost use Rattle.std.specs.Prelude.{◌≡◌, ◌<◌, ◌≤◌, ◌%◌, false, IfOk};
+ghost use Rattle.std.specs.Prelude.{◌≡◌, ◌<◌, ◌≤◌, ◌%◌, [], false, IfOk};
 ghost use Rattle.rt_base.specs.declared.limits.TheConstants.{MOST_PARTITIONS};
 ghost use Rattle.rt_macros.specs.Doing.{Does};
 ghost use Rattle.rt_play.specs.Generating.{ProducesRow, ProducesRows, next_number, row_of_top, row_text};
 
 use crate::generating::Generated;
+use itoa::Buffer;
 use rt_base::Partition;
 use rt_lists::Bytes;
-use rt_macros::happen;
+use rt_macros::happen_as;
 use rt_world::{Event, Refusal, World};
 use std::alloc::{AllocError, Global};
-
-/// The bytes of the longest row, which are kept free for each.
-const LONGEST_ROW: usize = 19;
+use std::mem;
 
 /// Has the rows of a generated run come to the partitions in turn; the last number of the generator.
 #[tactic(auto, using(rt_macros::proofs::Doing::count_ends, rt_macros::proofs::Doing::leads_itself))]
@@ -25,10 +24,11 @@ pub(crate) fn produce_rows(
     requires few { asked.partitions ≤ MOST_PARTITIONS }
     ensures { Does (ProducesRows asked world.old.state) world.new result }
 {
+    let mut spare = Bytes::new(alloc);
     let mut x = asked.seed;
     let mut at = 0;
     while at < asked.rows {
-        match produce_row(alloc, world, asked.partitions, at, x) {
+        match produce_row(alloc, world, asked.partitions, at, x, &mut spare) {
             Ok(next) => x = next,
             Err(refusal) => return Err(refusal),
         }
@@ -37,7 +37,7 @@ pub(crate) fn produce_rows(
     Ok(x)
 }
 
-// Has the row of the next number come to its partition.
+// Has the row of the next number come to its partition. The row is written into spare memory, which is given back.
 #[tactic(auto, using(rt_macros::proofs::Doing::does_then, rt_macros::proofs::Doing::does_refused, rt_macros::proofs::Doing::does_told))]
 fn produce_row(
     alloc: Global,
@@ -45,6 +45,7 @@ fn produce_row(
     partitions: u64,
     at: u64,
     x: u64,
+    spare: &mut Bytes,
 ) -> Result<u64, Refusal>
     requires unspent { world.old.spent ≡ false }
     requires some { 1 ≤ partitions }
@@ -54,10 +55,20 @@ fn produce_row(
     let next = next_number(x);
     let produce = Event::Produce {
         partition: partition_of(at, partitions),
-        message: row_text(alloc, next)?,
+        message: row_text(alloc, next, spare)?,
     };
-    happen(alloc, world, produce)?;
+    let produced = happen_as(alloc, world, &produce);
+    *spare = message_of(alloc, produce);
+    produced?;
     Ok(next)
+}
+
+// The message of an event that has one.
+fn message_of(alloc: Global, event: Event) -> Bytes {
+    match event {
+        Event::Produce { message, .. } => message,
+        _ => Bytes::new(alloc),
+    }
 }
 
 // The partition of a row's place.
@@ -77,19 +88,25 @@ fn next_number(x: u64) -> u64
         .wrapping_add(1_442_695_040_888_963_407)
 }
 
-fn row_text(alloc: Global, x: u64) -> Result<Bytes, AllocError>
+// The row of a number, in spare memory.
+fn row_text(alloc: Global, x: u64, spare: &mut Bytes) -> Result<Bytes, AllocError>
     ensures { IfOk result (λ text. text ≡ row_text x) }
 {
-    row_of_top(alloc, x / 8_589_934_592)
+    let mut text = mem::replace(spare, Bytes::new(alloc)).into_vec();
+    text.clear();
+    row_of_top(x / 8_589_934_592, text)
 }
 
-// The row of a number's upper bits: the last four choose the key, and those above them the value.
-fn row_of_top(alloc: Global, top: u64) -> Result<Bytes, AllocError>
+// Writes the row of a number's upper bits: the last four choose the key, and those above them the value.
+fn row_of_top(top: u64, mut text: Vec<u8>) -> Result<Bytes, AllocError>
+    requires { text.items ≡ [] }
     ensures { IfOk result (λ text. text ≡ row_of_top top) }
 {
-    let key = top % 16;
-    let value = top / 16 % 1000;
-    let mut text = String::with_capacity(alloc, LONGEST_ROW)?;
-    write!(&mut text, "{{\"k\":\"k{key}\",\"v\":{value}}}")?;
-    Ok(Bytes::of(text.into_bytes()))
+    let mut digits = Buffer::new();
+    text.extend_from_slice(b"{\"k\":\"k")?;
+    text.extend_from_slice(digits.format(top % 16).as_bytes())?;
+    text.extend_from_slice(b"\",\"v\":")?;
+    text.extend_from_slice(digits.format(top / 16 % 1000).as_bytes())?;
+    text.extend_from_slice(b"}")?;
+    Ok(Bytes::of(text))
 }
