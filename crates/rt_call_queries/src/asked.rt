@@ -1,5 +1,6 @@
 use rt_agg::Groups;
 use std::alloc::Global;
+use std::mem;
 
 /// What lines about queries leave to later ones.
 pub struct Asked {
@@ -26,5 +27,16 @@ impl Asked {
             query: String::new(alloc),
             groups: None,
         }
+    }
+
+    /// Keeps a query's text; nothing was scanned since.
+    pub(crate) fn begin(&mut self, query: String) {
+        drop(mem::replace(&mut self.query, query));
+        drop(mem::replace(&mut self.groups, None));
+    }
+
+    /// Keeps what was scanned.
+    pub(crate) fn keep(&mut self, groups: Groups) {
+        drop(mem::replace(&mut self.groups, Some(groups)));
     }
 }

@@ -1,7 +1,10 @@
+ghost use Rattle.rt_schema.specs.Schema.{IsSchema};
+
 use crate::asked::Asked;
 use crate::trees::write_query;
 use rt_call_schemas::{Tables, schema};
 use rt_call_words::{Answer, Stop, Words};
+use rt_schema::Schema;
 use rt_sql::{SqlRefused, parse};
 use std::alloc::Global;
 
@@ -45,15 +48,24 @@ fn take_query(
     text: &str,
     answer: &mut Answer,
 ) -> Result<(), Stop> {
-    match parse(alloc, text, &tables.schema()?.schema, tables.table()) {
-        Ok(_query) => {
+    match read_query(alloc, text, &tables.schema()?.schema, tables.table()) {
+        Ok(()) => {
             answer.add("ok");
             answer.written()?;
-            asked.query = String::from_str(alloc, text)?;
-            asked.groups = None;
+            asked.begin(String::from_str(alloc, text)?);
             Ok(())
         }
         Err(refused) => refuse(refused, answer),
+    }
+}
+
+// Reads a query for its refusal alone.
+fn read_query(alloc: Global, text: &str, schema: &Schema, table: &str) -> Result<(), SqlRefused>
+    requires { IsSchema schema.now }
+{
+    match parse(alloc, text, schema, table) {
+        Ok(_query) => Ok(()),
+        Err(refused) => Err(refused),
     }
 }
 

@@ -30,10 +30,15 @@ pub fn scan(
     answer: &mut Answer,
 ) -> Result<(), Stop> {
     let groups = scan_by(alloc, tables, segments, asked.query.as_str(), words)?;
-    write_groups(alloc, &groups, answer)?;
-    answer.written()?;
-    asked.groups = Some(groups);
+    write_whole(alloc, &groups, answer)?;
+    asked.keep(groups);
     Ok(())
+}
+
+// Adds the result rows, and looks whether there was room for them.
+fn write_whole(alloc: Global, groups: &Groups, answer: &mut Answer) -> Result<(), Stop> {
+    write_groups(alloc, groups, answer)?;
+    answer.written()
 }
 
 /// `merge WAY`: the result rows of what was scanned since the query, and of this.
@@ -46,9 +51,19 @@ pub fn merge(
     answer: &mut Answer,
 ) -> Result<(), Stop> {
     let groups = scan_by(alloc, tables, segments, asked.query.as_str(), words)?;
-    match &mut asked.groups {
+    merge_into(alloc, &mut asked.groups, &groups, answer)
+}
+
+// Merges groups into those that were scanned, and adds the result rows.
+fn merge_into(
+    alloc: Global,
+    scanned: &mut Option<Groups>,
+    groups: &Groups,
+    answer: &mut Answer,
+) -> Result<(), Stop> {
+    match scanned {
         Some(merged) => {
-            merged.merge(alloc, &groups)?;
+            merged.merge(alloc, groups)?;
             write_groups(alloc, merged, answer)
         }
         None => Err(Stop::Refused),
@@ -111,11 +126,22 @@ fn scan_file(
 ) -> Result<Groups, Stop> {
     let known = tables.schema()?;
     let query = query_over(alloc, tables, text, &known.schema)?;
+    scan_if_fitting(alloc, &query, &known.schema, segments)
+}
+
+fn scan_if_fitting(
+    alloc: Global,
+    query: &Query,
+    schema: &Schema,
+    segments: &HeldSegments,
+) -> Result<Groups, Stop>
+    requires { IsQuery schema.now query.now }
+{
     let sealed = segments.sealed()?;
-    if !sealed.fits(&known.schema) {
+    if !sealed.fits(schema) {
         return Err(Stop::Refused);
     }
-    scan_fitting(alloc, &query, &known.schema, sealed)
+    scan_fitting(alloc, query, schema, sealed)
 }
 
 #[tactic(auto, using(crate::proofs::Fitting::fits_sealed))]
@@ -139,7 +165,18 @@ fn scan_filled(
 ) -> Result<Groups, Stop> {
     let known = tables.schema()?;
     let query = query_over(alloc, tables, text, &known.schema)?;
-    Ok(scan_as(alloc, &query, &known.schema, segments.sealed()?)?)
+    scan_sealed_as(alloc, &query, &known.schema, segments)
+}
+
+fn scan_sealed_as(
+    alloc: Global,
+    query: &Query,
+    schema: &Schema,
+    segments: &HeldSegments,
+) -> Result<Groups, Stop>
+    requires { IsQuery schema.now query.now }
+{
+    Ok(scan_as(alloc, query, schema, segments.sealed()?)?)
 }
 
 fn scan_rows(
@@ -206,6 +243,10 @@ pub fn skips(
     words.ended()?;
     let known = tables.schema()?;
     let query = query_over(alloc, tables, asked.query.as_str(), &known.schema)?;
-    answer.truth(rt_scan::skips(&query, segments.sealed()?));
+    skips_by(&query, segments, answer)
+}
+
+fn skips_by(query: &Query, segments: &HeldSegments, answer: &mut Answer) -> Result<(), Stop> {
+    answer.truth(rt_scan::skips(query, segments.sealed()?));
     Ok(())
 }
