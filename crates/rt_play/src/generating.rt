@@ -9,6 +9,7 @@ ghost use Rattle.rt_model.specs.Setup.{IsSetup};
 ghost use Rattle.rt_play.specs.Generating.{Asks, AsksQuery, RunsGenerated, SettlesAndAsks, TellsGenerated, generated_setup, header_text, query_said, setup_read};
 ghost use Rattle.rt_lines.specs.Header.{header_of};
 ghost use Rattle.rt_lines.specs.Lines.{script_lines};
+ghost use Rattle.rt_script.specs.declared.line.Line.TheVariants as line;
 ghost use Rattle.rt_state.specs.Start.{start};
 
 use crate::PlayEnd;
@@ -52,7 +53,7 @@ pub(crate) fn generate<K: Sink>(
     }
 }
 
-// Runs from the first world of the cluster.
+// Runs in a cluster.
 fn generate_from<K: Sink>(
     alloc: Global,
     setup: Setup,
@@ -65,22 +66,31 @@ fn generate_from<K: Sink>(
     requires few { asked.partitions ≤ MOST_PARTITIONS }
     ensures { TellsGenerated asked (K.meaning sink.old) (K.meaning sink.new) result }
 {
-    let mut world = match World::make(alloc, setup) {
-        Ok(world) => world,
-        Err(_) => return Err(PlayFault::Memory),
-    };
+    match World::make(alloc, setup) {
+        Ok(mut world) => generate_in(alloc, &mut world, asked, sink),
+        Err(_) => Err(PlayFault::Memory),
+    }
+}
+
+// Runs from the first world of a cluster.
+fn generate_in<K: Sink>(
+    alloc: Global,
+    world: &mut World,
+    asked: Generated,
+    sink: &mut K,
+) -> Result<PlayEnd, PlayFault>
+    requires first { world.old ≡ record { state = start world.old.state.setup; spent = false } }
+    requires is { generated_setup asked ≡ Ok world.old.state.setup }
+    requires some { 1 ≤ asked.partitions }
+    requires few { asked.partitions ≤ MOST_PARTITIONS }
+    ensures { TellsGenerated asked (K.meaning sink.old) (K.meaning sink.new) result }
+{
     let mut answer = String::new(alloc);
-    match run(alloc, &mut world, asked, &mut answer) {
+    match run(alloc, world, asked, &mut answer) {
         Ok(()) => {}
         Err(refusal) => return Err(fault(0, refusal)),
     }
-    match write_report(
-        alloc,
-        &world,
-        asked.partitions as u32,
-        answer.as_str(),
-        sink,
-    ) {
+    match write_report(alloc, world, asked.partitions as u32, answer.as_str(), sink) {
         Ok(()) => Ok(PlayEnd {
             lines: asked.partitions + 1,
         }),
@@ -199,7 +209,16 @@ fn query_said(said: Option<Line>) -> Option<Query>
     ensures { result ≡ query_said said }
 {
     match said {
-        Some(Line::Macro(Macro::Query { query })) => Some(query),
+        Some(Line::Macro(said)) => query_in(said),
+        _ => None,
+    }
+}
+
+fn query_in(said: Macro) -> Option<Query>
+    ensures { result ≡ query_said (Some (line.Macro said)) }
+{
+    match said {
+        Macro::Query { query } => Some(query),
         _ => None,
     }
 }
