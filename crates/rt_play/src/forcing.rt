@@ -166,7 +166,10 @@ fn force_one(
         sequence: replica.sequence,
     };
     match act(alloc, world, force) {
-        Ok(_) => Ok(noted_more(noted, replica)?),
+        Ok(outcome) => {
+            drop(outcome);
+            Ok(noted_more(noted, replica)?)
+        }
         Err(Refusal::NothingToDo) => Ok(noted),
         Err(Refusal::NoSuchMessage) => Err(Refusal::NoSuchMessage),
         Err(Refusal::NoSuchNode) => Err(Refusal::NoSuchNode),

@@ -67,7 +67,10 @@ fn produce_row(
 fn message_of(alloc: Global, event: Event) -> Bytes {
     match event {
         Event::Produce { message, .. } => message,
-        _ => Bytes::new(alloc),
+        other => {
+            drop(other);
+            Bytes::new(alloc)
+        }
     }
 }
 

@@ -210,7 +210,10 @@ fn query_said(said: Option<Line>) -> Option<Query>
 {
     match said {
         Some(Line::Macro(said)) => query_in(said),
-        _ => None,
+        other => {
+            drop(other);
+            None
+        }
     }
 }
 
@@ -219,6 +222,9 @@ fn query_in(said: Macro) -> Option<Query>
 {
     match said {
         Macro::Query { query } => Some(query),
-        _ => None,
+        other => {
+            drop(other);
+            None
+        }
     }
 }

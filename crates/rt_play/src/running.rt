@@ -13,6 +13,7 @@ use crate::saying::play_said;
 use crate::writing::write_all;
 use rt_base::Sink;
 use rt_lines::{LineReason, Lines, PlayFault};
+use rt_model::Setup;
 use rt_script::read_line;
 use rt_world::{Refusal, World};
 use std::alloc::Global;
@@ -33,7 +34,6 @@ pub(crate) fn play_input<K: Sink>(
 }
 
 // Runs the lines behind a header.
-#[tactic(auto, using(crate::proofs::Beginnings::none_told, rt_world::proofs::StartSafe::start_safe))]
 fn play_from_start<K: Sink>(
     alloc: Global,
     beginning: Beginning,
@@ -46,8 +46,24 @@ fn play_from_start<K: Sink>(
     ensures { TellsFrom lines.old.lines (going_from beginning) (K.meaning sink.old) (K.meaning sink.new) result }
 {
     let Beginning { setup, mut desk } = beginning;
+    play_from(alloc, setup, &mut desk, lines, sink)
+}
+
+#[tactic(auto, using(crate::proofs::Beginnings::none_told, rt_world::proofs::StartSafe::start_safe))]
+fn play_from<K: Sink>(
+    alloc: Global,
+    setup: Setup,
+    desk: &mut Desk,
+    lines: &mut Lines<'_>,
+    sink: &mut K,
+) -> Result<PlayEnd, PlayFault>
+    requires setup { IsSetup setup }
+    requires desk { IsDesk setup.schema desk.old }
+    requires few { length lines.old.lines < 2 ^ 64 }
+    ensures { TellsFrom lines.old.lines (going_from (record { setup = setup; desk = desk.old })) (K.meaning sink.old) (K.meaning sink.new) result }
+{
     match World::make(alloc, setup) {
-        Ok(mut world) => play_lines(alloc, &mut world, &mut desk, lines, sink),
+        Ok(mut world) => play_lines(alloc, &mut world, desk, lines, sink),
         Err(_) => Err(PlayFault::Memory),
     }
 }

@@ -191,6 +191,8 @@ fn play_event(
     ensures { DoesText (EventTold event.now world.old.state) world.new (string_bytes text.new) result }
 {
     let outcome = apply(alloc, world, event)?;
-    write_outcome(alloc, text, event, &outcome)?;
+    let written = write_outcome(alloc, text, event, &outcome);
+    drop(outcome);
+    written?;
     Ok(())
 }
