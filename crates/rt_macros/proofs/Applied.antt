@@ -1,5 +1,5 @@
 -- An event of a world, as what comes of one thing.
-use Rattle.std.proofs.Common.{◌≡◌, Result, Ok, Err, false, sym, ap, subst, ◌∙◌}
+use Rattle.std.proofs.Common.{Result, Ok, Err, ap, ◌∙◌}
 use Rattle.rt_events.specs.declared.event.Event.{Event}
 use Rattle.rt_events.specs.declared.outcome.Outcome.{Outcome}
 use Rattle.rt_events.specs.declared.refusal.Refusal.{Refusal}

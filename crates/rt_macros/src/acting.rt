@@ -52,7 +52,10 @@ pub fn happen_as(alloc: Global, world: &mut World, event: &Event) -> Result<(), 
     ensures { Does (Passed event.now world.old.state) world.new result }
 {
     match apply(alloc, world, event) {
-        Ok(_) => Ok(()),
+        Ok(outcome) => {
+            drop(outcome);
+            Ok(())
+        }
         Err(refusal) => Err(refusal),
     }
 }
@@ -64,7 +67,10 @@ pub fn attempt(alloc: Global, world: &mut World, event: Event, busy: bool) -> Re
     ensures { Does (Attempted event busy world.old.state) world.new result }
 {
     match act(alloc, world, event) {
-        Ok(_) => Ok(true),
+        Ok(outcome) => {
+            drop(outcome);
+            Ok(true)
+        }
         Err(Refusal::NothingToDo) => Ok(busy),
         Err(Refusal::NoSuchMessage) => Err(Refusal::NoSuchMessage),
         Err(Refusal::NoSuchNode) => Err(Refusal::NoSuchNode),

@@ -27,7 +27,10 @@ pub fn sent(outcome: Outcome) -> Option<u64>
 {
     match outcome {
         Outcome::Sent { message, .. } => Some(message),
-        _ => None,
+        other => {
+            drop(other);
+            None
+        }
     }
 }
 
@@ -38,7 +41,10 @@ pub fn handled(outcome: Outcome) -> Delivered
     match outcome {
         Outcome::Replied { message, reply } => Delivered::Replied(answer_to(message, reply)),
         Outcome::Started { job } => Delivered::Started(job),
-        _ => Delivered::Neither,
+        other => {
+            drop(other);
+            Delivered::Neither
+        }
     }
 }
 
@@ -48,7 +54,10 @@ pub fn ended(outcome: Outcome) -> Option<Replied>
 {
     match outcome {
         Outcome::Stepped { step, message } => ending(message, step),
-        _ => None,
+        other => {
+            drop(other);
+            None
+        }
     }
 }
 
@@ -75,7 +84,10 @@ pub fn state(outcome: Outcome) -> Option<ReplicaState>
 {
     match outcome {
         Outcome::Took { state, .. } => Some(state),
-        _ => None,
+        other => {
+            drop(other);
+            None
+        }
     }
 }
 
@@ -85,7 +97,10 @@ pub fn asked(outcome: Outcome) -> Option<u32>
 {
     match outcome {
         Outcome::Asked(query) => Some(query),
-        _ => None,
+        other => {
+            drop(other);
+            None
+        }
     }
 }
 
@@ -95,7 +110,10 @@ pub fn is_served(outcome: Outcome) -> bool
 {
     match outcome {
         Outcome::Served(_) => true,
-        _ => false,
+        other => {
+            drop(other);
+            false
+        }
     }
 }
 
@@ -105,6 +123,9 @@ pub fn answer(outcome: Outcome) -> Option<Answer>
 {
     match outcome {
         Outcome::Answered(answer) => Some(answer),
-        _ => None,
+        other => {
+            drop(other);
+            None
+        }
     }
 }
