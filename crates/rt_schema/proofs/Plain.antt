@@ -1,26 +1,34 @@
 -- Plain messages: what was matched member by member is what the whole text reads as.
-use Rattle.std.proofs.Common.{◌≡◌, ℕ, zero, suc, ◌+◌, ◌-◌, ◌<◌, ◌≤◌, List, [], ◌∷◌, ◌++◌, length, get_or, take, drop, map, fold, Option, Some, None, option_map, option_and_then, Bool, true, false, not, cond, nat_lt, bytes_eq, true≢false, append_assoc, append-nil, refl, sym, ap, ap₂, ◌∙◌, arith, subst}
-use Rattle.std.specs.Prelude.{IfSome, ◌&&◌, ◌==◌, nat_le}
+use Rattle.std.proofs.Common.{rules, ◌≡◌, ℕ, ◌+◌, ◌-◌, ◌<◌, ◌≤◌, List, [], ◌∷◌, ◌++◌, length, get_or, take, drop, map, fold, Option, Some, None, option_map, option_and_then, Bool, true, false, not, nat_lt, bytes_eq, true≢false, append_assoc, append-nil, refl, sym, ap, ap₂, ◌∙◌, arith, subst}
+use Rattle.std.specs.Prelude.{◌&&◌, ◌==◌, ◌*◌, ◌/◌, ◌%◌, ◌^◌, decimal, nat_le, slice_get}
+use Rattle.std.specs.Str.{IsUtf8, is_utf8}
+use Rattle.std.proofs.lemmas.Fmt.{IsAscii-decimal, decimal_digit, decimal_step}
+use Rattle.std.proofs.lemmas.Str.{IsUtf8-append, IsUtf8-from_ascii, IsUtf8-nil, is_utf8-from_IsUtf8}
 use Rattle.std.proofs.lemmas.Bool.{and_from, and_parts, eq-eqb, leb-true, lt-ltb, not-true, or_parts}
 use Rattle.std.proofs.lemmas.List.{length-map, length-take, map-append, take-append-drop, take_all, take_more}
 use Rattle.std.proofs.lemmas.Option.{none-some, same_Some}
 use Rattle.json.specs.Token.{Token}
 use Rattle.json.specs.Json.{members, value}
 use Rattle.json.specs.Lex.{tokens}
-use Rattle.json.specs.Print.{escape, escape_byte, quoted, token_text, begins, ends, separator, print_from, print, ArePrintable, IsPrintable}
+use Rattle.json.specs.Print.{escape, escape_byte, quoted, token_text, ends, print_from, print, ArePrintable, IsPrintable}
+use Rattle.json.proofs.Printed.Decimals.{IsNumber-decimal}
 use Rattle.json.proofs.Printed.Strings.{escape_byte_plain}
 use Rattle.json.proofs.Printed.Tokens.{tokens-print, print_from-append}
-use Rattle.serde_json.specs.Data.{Data, object, Members, no_members, put}
+use Rattle.json.proofs.Printed.Utf8.{IsUtf8-are_ascii, IsUtf8-key}
+use Rattle.serde_json.specs.Data.{Data, object, number, unsigned, Members, no_members, put}
 use Rattle.serde_json.specs.Find.{get_member}
 use Rattle.serde_json.specs.Read.{of_members, converted, read}
+use Rattle.serde_json.specs.View.{view, number_view}
+use Rattle.serde_json.specs.declared.number.Number.{Number}
+use Rattle.serde_json.specs.declared.value.Value.{the_lemmas, Number as JsonNumber}
+use Rattle.serde_json.proofs.Numbers.{number_of-decimal}
 use Rattle.serde_json.proofs.Views.{get_member-put, get_member-put_other}
 use Rattle.rt_schema.specs.Flat.{scalar_of, found_in, cells_from}
-use Rattle.rt_schema.specs.Plain.{comma_if, is_plain, are_plain, IsTokenAt, Piece, ArePieces, tokens_of, ArePlain}
+use Rattle.rt_schema.specs.Plain.{comma_if, is_plain, are_plain, IsScalarAt, Piece, ArePieces, tokens_of, ArePlain}
 use Rattle.rt_schema.specs.Row.{row_in}
 use Rattle.rt_schema.specs.Schema.{is_among, names_of, are_distinct}
 use Rattle.rt_schema.specs.Value.{cell_of}
 use Rattle.rt_schema.specs.declared.column.Column.{Column}
-use Rattle.rt_schema.specs.declared.row.Row.{Row}
 use Rattle.rt_schema.specs.declared.value.Value.{Value as Cell}
 use Rattle.rt_schema.proofs.Flat.{apart_bytes, cells_found, distinct_later, flat_read, member_read, members_over, none_later, scalar_read}
 
@@ -64,6 +72,47 @@ pub key_front : (later : Bool) (name key text inner behind rest : List ℕ) → 
     → text ≡ comma_if later ++ (quoted name ++ 58 ∷ rest)
 key_front later name key text inner behind rest first quotes same colon =
     first ∙ ap (λ xs. comma_if later ++ xs) (quotes ∙ ap₂ (λ k xs. quoted k ++ xs) same colon)
+
+-- ---- numbers without a sign
+
+above_ten : (n d : ℕ) → 0 < n → 10 ≤ n * 10 + d
+above_ten n d some = omega arith
+
+tens_of : (n d : ℕ) → d < 10 → (n * 10 + d) / 10 ≡ n
+tens_of n d below = omega arith
+
+last_of : (n d : ℕ) → d < 10 → (n * 10 + d) % 10 ≡ d
+last_of n d below = omega arith
+
+-- one digit more
+pub decimal_more : (text : List ℕ) (at n d : ℕ) → at < length text → 0 < n → d < 10 → n * 10 + d < 2 ^ 64 → get_or text at 0 ≡ 48 + d → take at text ≡ decimal n → take (at + 1) text ≡ decimal (n * 10 + d)
+decimal_more text at n d within some below fits is was =
+    let step : decimal (n * 10 + d) ≡ decimal n ++ ((48 + d) ∷ []) =
+    decimal_step (n * 10 + d) (above_ten n d some) fits ∙ ap₂ (λ m e. decimal m ++ ((48 + e) ∷ [])) (tens_of n d below) (last_of n d below) in
+    take_more text at 0 within ∙ ap₂ (λ xs x. xs ++ x ∷ []) was is ∙ sym step
+
+-- the first digit
+pub decimal_first : (text : List ℕ) (x d : ℕ) → Some x ≡ slice_get text 0 → d < 10 → x ≡ 48 + d → take 1 text ≡ decimal d
+decimal_first [] x d is below same = absurd (none-some x (sym is))
+decimal_first (y ∷ ys) x d is below same = ap (λ z. z ∷ []) (sym (same_Some x y is) ∙ same) ∙ sym (decimal_digit d below)
+
+-- the number behind whose digits a text goes on
+pub decimal_front : (text : List ℕ) (at n : ℕ) → take at text ≡ decimal n → text ≡ decimal n ++ drop at text
+decimal_front text at n is = sym (take-append-drop at text) ∙ ap (λ xs. xs ++ drop at text) is
+
+view_number : (n : Number) → view (JsonNumber n) ≡ number (number_view n)
+view_number n = search (rules, the_lemmas)
+
+integer_token : (text rest : List ℕ) (n : ℕ) → n < 2 ^ 64 → text ≡ decimal n ++ rest → IsScalarAt text (number (unsigned n)) rest
+integer_token text rest n fits is = (
+  Token.number (decimal n),
+  (is, IsNumber-decimal n fits, IsUtf8-from_ascii (decimal n) (IsAscii-decimal n fits)),
+  ap (option_map number) (number_of-decimal n fits),
+)
+
+-- the value that is made of a number's digits
+pub integer_at : (text rest : List ℕ) (n : ℕ) (made : Number) → n < 2 ^ 64 → text ≡ decimal n ++ rest → number_view made ≡ unsigned n → IsScalarAt text (view (JsonNumber made)) rest
+integer_at text rest n made fits is same = subst (λ d. IsScalarAt text d rest) (ap number (sym same) ∙ sym (view_number made)) (integer_token text rest n fits is)
 
 -- ---- one member more
 
@@ -111,6 +160,14 @@ unfolding print_from
 member_text true name t rest = ap (λ xs. 44 ∷ xs) (member_behind name t rest)
 member_text false name t rest = member_behind name t rest
 
+-- what is written of the members with one more
+printed_more : (ps : List Piece) (p : Piece) → ArePieces ps
+    → print (Token.begin_object ∷ tokens_of (ps ++ p ∷ [])) ≡ print (Token.begin_object ∷ tokens_of ps) ++ print_from (nat_lt 0 (length ps)) (Token.key p.0 ∷ p.1.0 ∷ [])
+printed_more ps p are =
+    let front = Token.begin_object ∷ tokens_of ps in
+    let member = Token.key p.0 ∷ p.1.0 ∷ [] in
+    ap (λ ts. print (Token.begin_object ∷ ts)) (tokens_more ps p) ∙ print_from-append false front member ∙ ap (λ c. print front ++ print_from c member) (after_front ps are)
+
 front_more : (ps : List Piece) (p : Piece) (text rest behind later : List ℕ) → ArePieces ps → text ≡ print (Token.begin_object ∷ tokens_of ps) ++ rest
     → rest ≡ comma_if (nat_lt 0 (length ps)) ++ (quoted p.0 ++ 58 ∷ behind) → behind ≡ token_text p.1.0 ++ later
     → text ≡ print (Token.begin_object ∷ tokens_of (ps ++ p ∷ [])) ++ later
@@ -119,9 +176,7 @@ front_more ps p text rest behind later are was key is =
     let member = Token.key p.0 ∷ p.1.0 ∷ [] in
     let comma = nat_lt 0 (length ps) in
     let written : rest ≡ print_from comma member ++ later = key ∙ ap (λ xs. comma_if comma ++ (quoted p.0 ++ 58 ∷ xs)) is ∙ sym (member_text comma p.0 p.1.0 later) in
-    let whole : print (Token.begin_object ∷ tokens_of (ps ++ p ∷ [])) ≡ print front ++ print_from comma member =
-    ap (λ ts. print (Token.begin_object ∷ ts)) (tokens_more ps p) ∙ print_from-append false front member ∙ ap (λ c. print front ++ print_from c member) (after_front ps are) in
-    was ∙ ap (λ xs. print front ++ xs) written ∙ sym (append_assoc (print front) (print_from comma member) later) ∙ ap (λ xs. xs ++ later) (sym whole)
+    was ∙ ap (λ xs. print front ++ xs) written ∙ sym (append_assoc (print front) (print_from comma member) later) ∙ ap (λ xs. xs ++ later) (sym (printed_more ps p are))
 
 -- what the later columns give with one column more
 abbrev EndsWith : List Column → List (Option Data) → Column → Option Data → Cell → Type 0
@@ -153,28 +208,47 @@ data_in ps = map (λ p. Some p.1.1) ps
 front_length : (columns : List Column) (i : ℕ) → i < length columns → length (take i columns) ≡ i
 front_length columns i within = omega (arith, length-take i columns)
 
+comma_utf8 : (later : Bool) → IsUtf8 (comma_if later)
+comma_utf8 true = IsUtf8-are_ascii (44 ∷ []) refl
+comma_utf8 false = IsUtf8-nil
+
+-- a key and its value are UTF-8, as the name and the value are
+member_utf8 : (later : Bool) (name : List ℕ) (t : Token) → IsUtf8 name → IsUtf8 (token_text t) → IsUtf8 (print_from later (Token.key name ∷ t ∷ []))
+member_utf8 later name t key value =
+    let inner : IsUtf8 ((quoted name ++ 58 ∷ []) ++ token_text t) = IsUtf8-append (quoted name ++ 58 ∷ []) (token_text t) (IsUtf8-key name key) value in
+    let same : comma_if later ++ ((quoted name ++ 58 ∷ []) ++ token_text t) ≡ print_from later (Token.key name ∷ t ∷ []) =
+    ap (λ xs. comma_if later ++ xs) (append_assoc (quoted name) (58 ∷ []) (token_text t) ∙ ap (λ xs. quoted name ++ 58 ∷ xs) (sym (append-nil (token_text t))))
+    ∙ sym (member_text later name t []) ∙ append-nil (print_from later (Token.key name ∷ t ∷ [])) in
+    subst IsUtf8 same (IsUtf8-append (comma_if later) ((quoted name ++ 58 ∷ []) ++ token_text t) (comma_utf8 later) inner)
+
 -- one column more has its value
-pub plain_more : (columns : List Column) (i : ℕ) (column : Column) (text : List ℕ) (values : List Cell) (rest behind later : List ℕ) (t : Token) (d : Data) (v : Cell) → i < length columns → column ≡ get_or columns i column
-    → ArePlain (take i columns) text values rest → rest ≡ comma_if (nat_lt 0 i) ++ (quoted column.name ++ 58 ∷ behind) → IsTokenAt behind t later → scalar_of t ≡ Some d → Some v ≡ cell_of column (Some d)
+pub plain_more : (columns : List Column) (i : ℕ) (column : Column) (text : List ℕ) (values : List Cell) (rest behind later : List ℕ) (d : Data) (v : Cell) → i < length columns → column ≡ get_or columns i column → IsUtf8 column.name
+    → ArePlain (take i columns) text values rest → rest ≡ comma_if (nat_lt 0 i) ++ (quoted column.name ++ 58 ∷ behind) → IsScalarAt behind d later → Some v ≡ cell_of column (Some d)
     → ArePlain (take (i + 1) columns) text (values ++ v ∷ []) later
-plain_more columns i column text values rest behind later t d v within is was key token scalar cell =
+plain_more columns i column text values rest behind later d v within is name was key scalar cell =
     let ps = was.0 in
+    let t = scalar.0 in
     let p : Piece = (column.name, (t, d)) in
     let front = take i columns in
+    let printed = Token.begin_object ∷ tokens_of ps in
+    let member = Token.key column.name ∷ t ∷ [] in
+    let comma = nat_lt 0 (length ps) in
     let more : take (i + 1) columns ≡ front ++ column ∷ [] = take_more columns i column within ∙ ap (λ c. front ++ c ∷ []) (sym is) in
     let count : length ps ≡ i = sym (length-map ps (λ p. p.0)) ∙ ap length was.2 ∙ length-map front (λ column. column.name) ∙ front_length columns i within in
-    let same : length front ≡ length (data_in ps) = front_length columns i within ∙ sym count ∙ sym (length-map ps (λ p. Some p.1.1)) in (
+    let same : length front ≡ length (data_in ps) = front_length columns i within ∙ sym count ∙ sym (length-map ps (λ p. Some p.1.1)) in
+    let utf8 = IsUtf8-append (print printed) (print_from comma member) was.4 (member_utf8 comma column.name t name scalar.1.2) in (
       ps ++ p ∷ [],
-      pieces_more ps p was.1 (scalar, token.1),
+      pieces_more ps p was.1 (scalar.2, scalar.1.1),
       map-append (λ p. p.0) ps (p ∷ []) ∙ ap (λ ns. ns ++ column.name ∷ []) was.2 ∙ sym (map-append (λ column. column.name) front (column ∷ [])) ∙ ap names_of (sym more),
-      front_more ps p (123 ∷ text) rest behind later was.1 was.3 (key ∙ ap (λ n. comma_if (nat_lt 0 n) ++ (quoted column.name ++ 58 ∷ behind)) (sym count)) token.0,
-      ap₂ cells_from more (map-append (λ p. Some p.1.1) ps (p ∷ [])) ∙ cells_more front (data_in ps) column (Some d) v same (sym cell) values was.4,
+      front_more ps p (123 ∷ text) rest behind later was.1 was.3 (key ∙ ap (λ n. comma_if (nat_lt 0 n) ++ (quoted column.name ++ 58 ∷ behind)) (sym count)) scalar.1.0,
+      subst IsUtf8 (sym (printed_more ps p was.1)) utf8,
+      ap₂ cells_from more (map-append (λ p. Some p.1.1) ps (p ∷ [])) ∙ cells_more front (data_in ps) column (Some d) v same (sym cell) values was.5,
     )
 
 -- nothing was read yet
 pub plain_none : (columns : List Column) (text : List ℕ) → ArePlain (take 0 columns) text [] text
 unfolding print_from
-plain_none columns text = ([], tt, refl, refl, refl)
+plain_none columns text = ([], tt, refl, refl, IsUtf8-are_ascii (123 ∷ []) refl, refl)
 
 pub plain_all : (columns : List Column) (n : ℕ) (text : List ℕ) (values : List Cell) (rest : List ℕ) → length columns ≤ n → ArePlain (take n columns) text values rest → ArePlain columns text values rest
 plain_all columns n text values rest all are = subst (λ cs. ArePlain cs text values rest) (take_all n columns all) are
@@ -237,7 +311,18 @@ unfolding print_from
 closed true = refl
 closed false = refl
 
--- the row of a text that was read to its end
+-- what is written of a text that was read to its end
+plain_text : (columns : List Column) (message text : List ℕ) (values : List Cell) (rest : List ℕ) (are : ArePlain columns text values rest) → message ≡ 123 ∷ text → rest ≡ 125 ∷ []
+    → message ≡ print (Token.begin_object ∷ tokens_of are.0) ++ 125 ∷ []
+plain_text columns message text values rest are first ends = first ∙ are.3 ∙ ap (λ xs. print (Token.begin_object ∷ tokens_of are.0) ++ xs) ends
+
+-- it is UTF-8
+pub plain_utf8 : (columns : List Column) (message text : List ℕ) (values : List Cell) (rest : List ℕ) → message ≡ 123 ∷ text → ArePlain columns text values rest → rest ≡ 125 ∷ [] → is_utf8 message ≡ true
+plain_utf8 columns message text values rest first are ends =
+    let front = print (Token.begin_object ∷ tokens_of are.0) in
+    is_utf8-from_IsUtf8 message (subst IsUtf8 (sym (plain_text columns message text values rest are first ends)) (IsUtf8-append front (125 ∷ []) are.4 (IsUtf8-are_ascii (125 ∷ []) refl)))
+
+-- its row
 pub plain_row : (columns : List Column) (message text : List ℕ) (values : List Cell) (rest : List ℕ) → are_distinct (names_of columns) ≡ true → message ≡ 123 ∷ text → ArePlain columns text values rest → rest ≡ 125 ∷ []
     → option_and_then (row_in columns) (read message) ≡ Some (record { values = values })
 plain_row columns message text values rest distinct first are ends =
@@ -245,8 +330,8 @@ plain_row columns message text values rest distinct first are ends =
     let front = Token.begin_object ∷ tokens_of ps in
     let ms = put_all ps no_members in
     let written : message ≡ print (Token.begin_object ∷ over ps) =
-    first ∙ are.3 ∙ ap (λ xs. print front ++ xs) (ends ∙ sym (closed (after_value false front))) ∙ sym (print_from-append false front (Token.end_object ∷ [])) in
+    plain_text columns message text values rest are first ends ∙ ap (λ xs. print front ++ xs) (sym (closed (after_value false front))) ∙ sym (print_from-append false front (Token.end_object ∷ [])) in
     let starts : tokens message ≡ Token.begin_object ∷ over ps = ap tokens written ∙ tokens-print (Token.begin_object ∷ over ps) (all_printable ps are.1) in
     let whole : read message ≡ Some (object ms) = flat_read message (over ps) ms starts (members_all ps no_members (length (over ps)) are.1 (omega arith)) in
-    let cells = sym (cells_found columns ms) ∙ ap (cells_from columns) (found_all columns ps no_members distinct are.2) ∙ are.4 in
+    let cells = sym (cells_found columns ms) ∙ ap (cells_from columns) (found_all columns ps no_members distinct are.2) ∙ are.5 in
     ap (option_and_then (row_in columns)) whole ∙ ap (option_map (λ vs. record { values = vs })) cells

@@ -1,5 +1,6 @@
 -- Plain messages: the members of the columns one behind the other, with no space and no escape. No public clause speaks of it.
-use Rattle.std.specs.Prelude.{◌≡◌, ◌&&◌, ◌==◌, ℕ, List, [], ◌∷◌, ◌++◌, map, nat_le, Bool, true, not, cond, Option, Some}
+use Rattle.std.specs.Prelude.{◌≡◌, ◌&&◌, ◌==◌, ℕ, List, [], ◌∷◌, ◌++◌, map, nat_le, Bool, true, not, cond, Some}
+use Rattle.std.specs.Str.{IsUtf8}
 use Rattle.json.specs.Print.{print, token_text, IsPrintable}
 use Rattle.json.specs.Token.{Token}
 use Rattle.serde_json.specs.Data.{Data}
@@ -22,7 +23,11 @@ are_plain (byte ∷ bytes) = is_plain byte && are_plain bytes
 
 -- a token at the front of a text
 abbrev pub IsTokenAt : List ℕ → Token → List ℕ → Type 0
-IsTokenAt text t rest = (text ≡ token_text t ++ rest) × IsPrintable t
+IsTokenAt text t rest = (text ≡ token_text t ++ rest) × IsPrintable t × IsUtf8 (token_text t)
+
+-- a value of one token there
+abbrev pub IsScalarAt : List ℕ → Data → List ℕ → Type 0
+IsScalarAt text d rest = (t : Token) × IsTokenAt text t rest × (scalar_of t ≡ Some d)
 
 -- a member: its name, the token of its value and the value
 abbrev pub Piece : Type 0
@@ -41,4 +46,5 @@ abbrev pub ArePlain : List Column → List ℕ → List Value → List ℕ → T
 ArePlain columns text values rest =
     (pieces : List Piece) × ArePieces pieces × (map (λ p. p.0) pieces ≡ names_of columns)
     × (123 ∷ text ≡ print (Token.begin_object ∷ tokens_of pieces) ++ rest)
+    × IsUtf8 (print (Token.begin_object ∷ tokens_of pieces))
     × (cells_from columns (map (λ p. Some p.1.1) pieces) ≡ Some values)

@@ -1,11 +1,13 @@
 //! Messages as most are written: the columns in the order of the schema, with no space and no escape.
-ghost use Rattle.std.specs.Prelude.{◌≡◌, ◌≤◌, [], ◌∷◌, ◌++◌, IfOk, IfSome, IsTrue, Some, length, take, option_and_then, true};
+ghost use Rattle.std.specs.Prelude.{◌≡◌, ◌≤◌, ◌<◌, ◌+◌, ◌^◌, [], ◌∷◌, ◌++◌, IfOk, IfSome, IsTrue, Some, decimal, length, take, option_and_then, true};
+ghost use Rattle.std.specs.Str.{is_utf8};
 ghost use Rattle.json.specs.Print.{quoted};
 ghost use Rattle.json.specs.Reads.{token_of};
 ghost use Rattle.serde_json.specs.Read.{read};
+ghost use Rattle.serde_json.specs.View.{view};
 ghost use Rattle.rt_schema.specs.Schema.{names_of, are_distinct};
 ghost use Rattle.rt_schema.specs.Row.{row_in};
-ghost use Rattle.rt_schema.specs.Plain.{comma_if, is_plain, are_plain, IsTokenAt, ArePlain};
+ghost use Rattle.rt_schema.specs.Plain.{comma_if, is_plain, are_plain, IsScalarAt, IsTokenAt, ArePlain};
 
 use crate::flat_reader::scalar;
 use crate::row_reader::cell;
@@ -13,7 +15,11 @@ use crate::spare::Spare;
 use crate::{Column, Row, Value};
 use json::Token;
 use rt_lists::Items;
+use serde_json::{Number, Value as Json};
 use std::alloc::{AllocError, Global};
+
+/// Below it a number has room for one more digit in 64 bits.
+const ROOM_FOR_DIGIT: u64 = 1_000_000_000_000_000_000;
 
 /// The row of a message that is written so; None where it is written in another way. Where the first bytes tell that,
 /// no more are read.
@@ -24,7 +30,8 @@ pub(crate) fn read_plain(
     message: &[u8],
 ) -> Result<Option<Row>, AllocError>
     requires { are_distinct (names_of columns.now) ≡ true }
-    ensures { IfOk result (λ row. IfSome row (λ row. option_and_then (row_in columns.now) (read message.now) ≡ Some row)) }
+    ensures row { IfOk result (λ row. IfSome row (λ row. option_and_then (row_in columns.now) (read message.now) ≡ Some row)) }
+    ensures text { IfOk result (λ row. IfSome row (λ _. is_utf8 message.now ≡ true)) }
 {
     let Some(rest) = behind(b'{', message) else {
         return Ok(None);
@@ -64,13 +71,10 @@ fn read_columns<'a>(
     let mut rest = text;
     for place in 0..columns.len() {
         let column = &columns[place];
-        let Some(behind) = behind_key(place > 0, column.name.as_bytes(), rest) else {
+        let Some(behind) = behind_key(place > 0, column.name.as_str(), rest) else {
             return Ok(None);
         };
-        let Some((token, behind)) = first_token(behind) else {
-            return Ok(None);
-        };
-        let Some(json) = scalar(alloc, spare, token)? else {
+        let Some((json, behind)) = first_scalar(alloc, spare, behind)? else {
             return Ok(None);
         };
         let Some(value) = cell(alloc, column, Some(json))? else {
@@ -84,13 +88,63 @@ fn read_columns<'a>(
 
 /// What stands behind a key.
 #[tactic(auto, using(crate::proofs::Plain::key_front))]
-fn behind_key<'a>(later: bool, name: &[u8], text: &'a [u8]) -> Option<&'a [u8]>
+fn behind_key<'a>(later: bool, name: &str, text: &'a [u8]) -> Option<&'a [u8]>
     ensures { IfSome result (λ rest. text.now ≡ comma_if later ++ (quoted name.now ++ 58 ∷ rest.now)) }
 {
     let text = if later { behind(b',', text)? } else { text };
     let (key, rest) = plain_text(text)?;
-    if key == name {
+    if key == name.as_bytes() {
         behind(b':', rest)
+    } else {
+        None
+    }
+}
+
+/// A value that is no array and no object, and what stands behind it.
+fn first_scalar<'a>(
+    alloc: Global,
+    spare: &mut Spare,
+    text: &'a [u8],
+) -> Result<Option<(Json, &'a [u8])>, AllocError>
+    ensures { IfOk result (λ found. IfSome found (λ p. IsScalarAt text.now (view p.0) p.1.now)) }
+{
+    if let Some((number, rest)) = plain_integer(text) {
+        return Ok(Some((Json::Number(Number::from(number)), rest)));
+    }
+    let Some((token, rest)) = first_token(text) else {
+        return Ok(None);
+    };
+    match scalar(alloc, spare, token)? {
+        Some(json) => Ok(Some((json, rest))),
+        None => Ok(None),
+    }
+}
+
+/// A number without a sign, of at most 19 digits, and what stands behind it.
+fn plain_integer(text: &[u8]) -> Option<(u64, &[u8])>
+    ensures text { IfSome result (λ p. text.now ≡ decimal p.0 ++ p.1.now) }
+    ensures fits { IfSome result (λ p. p.0 < 2 ^ 64) }
+{
+    let mut number = digit(*text.first()?)?;
+    for at in 1..text.len() {
+        let Some(last) = digit(text[at]) else {
+            return Some((number, &text[at..]));
+        };
+        if number == 0 || number >= ROOM_FOR_DIGIT {
+            return None;
+        }
+        number = number * 10 + last;
+    }
+    None
+}
+
+/// What a digit stands for.
+fn digit(byte: u8) -> Option<u64>
+    ensures byte { IfSome result (λ digit. byte ≡ 48 + digit) }
+    ensures below { IfSome result (λ digit. digit < 10) }
+{
+    if byte.is_ascii_digit() {
+        Some(u64::from(byte - b'0'))
     } else {
         None
     }

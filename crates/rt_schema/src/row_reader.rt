@@ -34,7 +34,8 @@ pub fn read_row(alloc: Global, schema: &Schema, message: &[u8]) -> Result<Option
 /// Reads one message after the other, in memory that is kept between them.
 #[derive(Drop)]
 pub struct RowReader {
-    scratch: Scratch,
+    // made at the first message that needs it
+    scratch: Option<Scratch>,
     // what the message that is read has for each column
     found: Vec<Option<Json>>,
     spare: Spare,
@@ -44,7 +45,7 @@ impl RowReader {
     /// A reader that has read nothing yet.
     pub fn new(alloc: Global) -> Self {
         RowReader {
-            scratch: Scratch::new(alloc),
+            scratch: None,
             found: Vec::new(alloc),
             spare: Spare::new(alloc),
         }
@@ -83,20 +84,21 @@ fn read_message(
     schema: &Schema,
     found: &mut Vec<Option<Json>>,
     spare: &mut Spare,
-    scratch: &mut Scratch,
+    scratch: &mut Option<Scratch>,
     message: &[u8],
 ) -> Result<Option<Row>, AllocError>
     requires { IsSchema schema.now }
     ensures { IfOk result (λ row. row ≡ row_of schema.now message.now) }
 {
-    let Ok(text) = str::from_utf8(message) else {
-        return Ok(None);
-    };
     let columns = schema.columns.as_slice();
     if let Some(plain) = read_plain(alloc, columns, spare, message)? {
         return Ok(Some(plain));
     }
+    let Ok(text) = str::from_utf8(message) else {
+        return Ok(None);
+    };
     blank(found, columns)?;
+    let scratch = scratch.get_or_insert_with(|| Scratch::new(alloc));
     match read_flat(alloc, columns, found.as_mut_slice(), spare, scratch, text)? {
         Some(row) => Ok(Some(row)),
         None => read_any(alloc, schema, message),
