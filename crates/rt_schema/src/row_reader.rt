@@ -34,8 +34,8 @@ pub fn read_row(alloc: Global, schema: &Schema, message: &[u8]) -> Result<Option
 /// Reads one message after the other, in memory that is kept between them.
 #[derive(Drop)]
 pub struct RowReader {
-    // made at the first message that needs it
-    scratch: Option<Scratch>,
+    // made at the first message that needs it, and large
+    scratch: Option<Box<Scratch>>,
     // what the message that is read has for each column
     found: Vec<Option<Json>>,
     spare: Spare,
@@ -84,7 +84,7 @@ fn read_message(
     schema: &Schema,
     found: &mut Vec<Option<Json>>,
     spare: &mut Spare,
-    scratch: &mut Option<Scratch>,
+    scratch: &mut Option<Box<Scratch>>,
     message: &[u8],
 ) -> Result<Option<Row>, AllocError>
     requires { IsSchema schema.now }
@@ -98,7 +98,10 @@ fn read_message(
         return Ok(None);
     };
     blank(found, columns)?;
-    let scratch = scratch.get_or_insert_with(|| Scratch::new(alloc));
+    let scratch = match scratch {
+        Some(scratch) => scratch,
+        None => scratch.insert(Box::new(alloc, Scratch::new(alloc))?),
+    };
     match read_flat(alloc, columns, found.as_mut_slice(), spare, scratch, text)? {
         Some(row) => Ok(Some(row)),
         None => read_any(alloc, schema, message),
