@@ -1,6 +1,6 @@
 -- Plain messages: what was matched member by member is what the whole text reads as.
 use Rattle.std.proofs.Common.{rules, ◌≡◌, ℕ, ◌+◌, ◌-◌, ◌<◌, ◌≤◌, List, [], ◌∷◌, ◌++◌, length, get_or, take, drop, map, fold, Option, Some, None, option_map, option_and_then, Bool, true, false, not, nat_lt, bytes_eq, true≢false, append_assoc, append-nil, refl, sym, ap, ap₂, ◌∙◌, arith, subst}
-use Rattle.std.specs.Prelude.{◌&&◌, ◌==◌, ◌*◌, ◌/◌, ◌%◌, ◌^◌, decimal, nat_le, slice_get}
+use Rattle.std.specs.Prelude.{◌&&◌, ◌==◌, ◌*◌, ◌/◌, ◌%◌, ◌^◌, pos, decimal, nat_le, slice_get, cond}
 use Rattle.std.specs.Str.{IsUtf8, is_utf8}
 use Rattle.std.proofs.lemmas.Fmt.{IsAscii-decimal, decimal_digit, decimal_step}
 use Rattle.std.proofs.lemmas.Str.{IsUtf8-append, IsUtf8-from_ascii, IsUtf8-nil, is_utf8-from_IsUtf8}
@@ -14,9 +14,9 @@ use Rattle.json.specs.Print.{escape, escape_byte, quoted, token_text, ends, prin
 use Rattle.json.proofs.Printed.Decimals.{IsNumber-decimal}
 use Rattle.json.proofs.Printed.Strings.{escape_byte_plain}
 use Rattle.json.proofs.Printed.Tokens.{tokens-print, print_from-append}
-use Rattle.json.proofs.Printed.Utf8.{IsUtf8-are_ascii, IsUtf8-key}
-use Rattle.serde_json.specs.Data.{Data, object, number, unsigned, Members, no_members, put}
-use Rattle.serde_json.specs.Find.{get_member}
+use Rattle.json.proofs.Printed.Utf8.{IsUtf8-are_ascii, IsUtf8-key, IsUtf8-quoted}
+use Rattle.serde_json.specs.Data.{Data, object, number, string, unsigned, Members, no_members, put}
+use Rattle.serde_json.specs.Find.{as_i64, get_member}
 use Rattle.serde_json.specs.Read.{of_members, converted, read}
 use Rattle.serde_json.specs.View.{view, number_view}
 use Rattle.serde_json.specs.declared.number.Number.{Number}
@@ -24,12 +24,14 @@ use Rattle.serde_json.specs.declared.value.Value.{the_lemmas, Number as JsonNumb
 use Rattle.serde_json.proofs.Numbers.{number_of-decimal}
 use Rattle.serde_json.proofs.Views.{get_member-put, get_member-put_other}
 use Rattle.rt_schema.specs.Flat.{scalar_of, found_in, cells_from}
-use Rattle.rt_schema.specs.Plain.{comma_if, is_plain, are_plain, IsScalarAt, Piece, ArePieces, tokens_of, ArePlain}
+use Rattle.rt_schema.specs.Plain.{IsCellAt, comma_if, is_plain, are_plain, IsScalarAt, Piece, ArePieces, tokens_of, ArePlain}
 use Rattle.rt_schema.specs.Row.{row_in}
 use Rattle.rt_schema.specs.Schema.{is_among, names_of, are_distinct}
-use Rattle.rt_schema.specs.Value.{cell_of}
+use Rattle.rt_schema.specs.Value.{cell_of, value_of}
 use Rattle.rt_schema.specs.declared.column.Column.{Column}
+use Rattle.rt_schema.specs.declared.column.Kind.{Kind}
 use Rattle.rt_schema.specs.declared.value.Value.{Value as Cell}
+use Rattle.rt_schema.specs.declared.value.Value.TheVariants.{Long, Text, Time}
 use Rattle.rt_schema.proofs.Flat.{apart_bytes, cells_found, distinct_later, flat_read, member_read, members_over, none_later, scalar_read}
 
 -- ---- bytes that stand for themselves
@@ -113,6 +115,31 @@ integer_token text rest n fits is = (
 -- the value that is made of a number's digits
 pub integer_at : (text rest : List ℕ) (n : ℕ) (made : Number) → n < 2 ^ 64 → text ≡ decimal n ++ rest → number_view made ≡ unsigned n → IsScalarAt text (view (JsonNumber made)) rest
 integer_at text rest n made fits is same = subst (λ d. IsScalarAt text d rest) (ap number (sym same) ∙ sym (view_number made)) (integer_token text rest n fits is)
+
+-- what a column of 64-bit numbers gets from one
+long_of : (n : ℕ) → n < 2 ^ 63 → as_i64 (unsigned n) ≡ Some (pos n)
+long_of n fits = ap (λ b. cond b (Some (pos n)) None) (lt-ltb n (2 ^ 63) fits)
+
+wide : (n : ℕ) → n < 2 ^ 63 → n < 2 ^ 64
+wide n fits = omega arith
+
+pub long_at : (column : Column) (text rest : List ℕ) (n : ℕ) (value : Cell) → Kind.Long ≡ column.kind → n < 2 ^ 63 → text ≡ decimal n ++ rest → value ≡ Long (pos n) → IsCellAt column text value rest
+long_at column text rest n value kind fits is made =
+    let d = number (unsigned n) in
+    (d, integer_token text rest n (wide n fits) is, ap (λ k. value_of k d) (sym kind) ∙ ap (option_map Long) (long_of n fits) ∙ ap Some (sym made))
+
+pub time_at : (column : Column) (text rest : List ℕ) (n : ℕ) (value : Cell) → Kind.Time ≡ column.kind → n < 2 ^ 63 → text ≡ decimal n ++ rest → value ≡ Time (pos n) → IsCellAt column text value rest
+time_at column text rest n value kind fits is made =
+    let d = number (unsigned n) in
+    (d, integer_token text rest n (wide n fits) is, ap (λ k. value_of k d) (sym kind) ∙ ap (option_map Time) (long_of n fits) ∙ ap Some (sym made))
+
+-- what a column of texts gets from one
+pub text_at : (column : Column) (text s copy rest : List ℕ) → Kind.Text ≡ column.kind → text ≡ quoted s ++ rest → IsUtf8 s → copy ≡ s → IsCellAt column text (Text copy) rest
+text_at column text s copy rest kind is utf8 same = (
+  string s,
+  (Token.string s, (is, tt, IsUtf8-quoted s utf8), refl),
+  ap (λ k. value_of k (string s)) (sym kind) ∙ ap (λ t. Some (Text t)) (sym same),
+)
 
 -- ---- one member more
 
@@ -222,11 +249,13 @@ member_utf8 later name t key value =
     subst IsUtf8 same (IsUtf8-append (comma_if later) ((quoted name ++ 58 ∷ []) ++ token_text t) (comma_utf8 later) inner)
 
 -- one column more has its value
-pub plain_more : (columns : List Column) (i : ℕ) (column : Column) (text : List ℕ) (values : List Cell) (rest behind later : List ℕ) (d : Data) (v : Cell) → i < length columns → column ≡ get_or columns i column → IsUtf8 column.name
-    → ArePlain (take i columns) text values rest → rest ≡ comma_if (nat_lt 0 i) ++ (quoted column.name ++ 58 ∷ behind) → IsScalarAt behind d later → Some v ≡ cell_of column (Some d)
+pub plain_more : (columns : List Column) (i : ℕ) (column : Column) (text : List ℕ) (values : List Cell) (rest behind later : List ℕ) (v : Cell) → i < length columns → column ≡ get_or columns i column → IsUtf8 column.name
+    → ArePlain (take i columns) text values rest → rest ≡ comma_if (nat_lt 0 i) ++ (quoted column.name ++ 58 ∷ behind) → IsCellAt column behind v later
     → ArePlain (take (i + 1) columns) text (values ++ v ∷ []) later
-plain_more columns i column text values rest behind later d v within is name was key scalar cell =
+plain_more columns i column text values rest behind later v within is name was key cell =
     let ps = was.0 in
+    let d = cell.0 in
+    let scalar = cell.1 in
     let t = scalar.0 in
     let p : Piece = (column.name, (t, d)) in
     let front = take i columns in
@@ -242,7 +271,7 @@ plain_more columns i column text values rest behind later d v within is name was
       map-append (λ p. p.0) ps (p ∷ []) ∙ ap (λ ns. ns ++ column.name ∷ []) was.2 ∙ sym (map-append (λ column. column.name) front (column ∷ [])) ∙ ap names_of (sym more),
       front_more ps p (123 ∷ text) rest behind later was.1 was.3 (key ∙ ap (λ n. comma_if (nat_lt 0 n) ++ (quoted column.name ++ 58 ∷ behind)) (sym count)) scalar.1.0,
       subst IsUtf8 (sym (printed_more ps p was.1)) utf8,
-      ap₂ cells_from more (map-append (λ p. Some p.1.1) ps (p ∷ [])) ∙ cells_more front (data_in ps) column (Some d) v same (sym cell) values was.5,
+      ap₂ cells_from more (map-append (λ p. Some p.1.1) ps (p ∷ [])) ∙ cells_more front (data_in ps) column (Some d) v same cell.2 values was.5,
     )
 
 -- nothing was read yet

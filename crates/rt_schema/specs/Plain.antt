@@ -6,6 +6,7 @@ use Rattle.json.specs.Token.{Token}
 use Rattle.serde_json.specs.Data.{Data}
 use Rattle.rt_schema.specs.Flat.{scalar_of, cells_from}
 use Rattle.rt_schema.specs.Schema.{names_of}
+use Rattle.rt_schema.specs.Value.{cell_of}
 use Rattle.rt_schema.specs.declared.column.Column.{Column}
 use Rattle.rt_schema.specs.declared.value.Value.{Value}
 
@@ -28,6 +29,10 @@ IsTokenAt text t rest = (text ≡ token_text t ++ rest) × IsPrintable t × IsUt
 -- a value of one token there
 abbrev pub IsScalarAt : List ℕ → Data → List ℕ → Type 0
 IsScalarAt text d rest = (t : Token) × IsTokenAt text t rest × (scalar_of t ≡ Some d)
+
+-- what a column gets from one there
+abbrev pub IsCellAt : Column → List ℕ → Value → List ℕ → Type 0
+IsCellAt column text value rest = (d : Data) × IsScalarAt text d rest × (cell_of column (Some d) ≡ Some value)
 
 -- a member: its name, the token of its value and the value
 abbrev pub Piece : Type 0

@@ -1,25 +1,29 @@
 //! Messages as most are written: the columns in the order of the schema, with no space and no escape.
-ghost use Rattle.std.specs.Prelude.{◌≡◌, ◌≤◌, ◌<◌, ◌+◌, ◌^◌, [], ◌∷◌, ◌++◌, IfOk, IfSome, IsTrue, Some, decimal, length, take, option_and_then, true};
-ghost use Rattle.std.specs.Str.{is_utf8};
+ghost use Rattle.std.specs.Prelude.{◌≡◌, ◌≤◌, ◌<◌, ◌+◌, ◌^◌, [], ◌∷◌, ◌++◌, IfOk, IfSome, IsTrue, Some, decimal, length, pos, take, option_and_then, true};
+ghost use Rattle.std.specs.Str.{is_utf8, IsUtf8};
 ghost use Rattle.json.specs.Print.{quoted};
 ghost use Rattle.json.specs.Reads.{token_of};
 ghost use Rattle.serde_json.specs.Read.{read};
 ghost use Rattle.serde_json.specs.View.{view};
 ghost use Rattle.rt_schema.specs.Schema.{names_of, are_distinct};
 ghost use Rattle.rt_schema.specs.Row.{row_in};
-ghost use Rattle.rt_schema.specs.Plain.{comma_if, is_plain, are_plain, IsScalarAt, IsTokenAt, ArePlain};
+ghost use Rattle.rt_schema.specs.declared.value.Value.TheVariants.{Long, Time};
+ghost use Rattle.rt_schema.specs.Plain.{comma_if, is_plain, are_plain, IsCellAt, IsScalarAt, IsTokenAt, ArePlain};
 
 use crate::flat_reader::scalar;
 use crate::row_reader::cell;
 use crate::spare::Spare;
-use crate::{Column, Row, Value};
+use crate::{Column, Kind, Row, Value};
 use json::Token;
-use rt_lists::Items;
+use rt_lists::{Items, Text};
 use serde_json::{Number, Value as Json};
 use std::alloc::{AllocError, Global};
 
 /// Below it a number has room for one more digit in 64 bits.
 const ROOM_FOR_DIGIT: u64 = 1_000_000_000_000_000_000;
+
+/// The greatest number of 63 bits.
+const GREATEST_LONG: u64 = 9_223_372_036_854_775_807;
 
 /// The row of a message that is written so; None where it is written in another way. Where the first bytes tell that,
 /// no more are read.
@@ -74,10 +78,7 @@ fn read_columns<'a>(
         let Some(behind) = behind_key(place > 0, column.name.as_str(), rest) else {
             return Ok(None);
         };
-        let Some((json, behind)) = first_scalar(alloc, spare, behind)? else {
-            return Ok(None);
-        };
-        let Some(value) = cell(alloc, column, Some(json))? else {
+        let Some((value, behind)) = first_cell(alloc, column, spare, behind)? else {
             return Ok(None);
         };
         values.push(value)?;
@@ -100,6 +101,70 @@ fn behind_key<'a>(later: bool, name: &str, text: &'a [u8]) -> Option<&'a [u8]>
     }
 }
 
+/// What a column gets from the first token, and what stands behind it. Texts and numbers without a sign are looked for
+/// first where the column is of their kind.
+fn first_cell<'a>(
+    alloc: Global,
+    column: &Column,
+    spare: &mut Spare,
+    text: &'a [u8],
+) -> Result<Option<(Value, &'a [u8])>, AllocError>
+    ensures { IfOk result (λ found. IfSome found (λ p. IsCellAt column.now text.now p.0 p.1.now)) }
+{
+    match column.kind {
+        Kind::Text => {
+            if let Some((string, rest)) = plain_string(text) {
+                let string = spare.text(alloc, string)?;
+                return Ok(Some((Value::Text(Text::of(string)), rest)));
+            }
+        }
+        Kind::Long => {
+            if let Some((number, rest)) = plain_long(text) {
+                return Ok(Some((long_value(number), rest)));
+            }
+        }
+        Kind::Time => {
+            if let Some((millis, rest)) = plain_long(text) {
+                return Ok(Some((time_value(millis), rest)));
+            }
+        }
+        Kind::Int | Kind::Bool => {}
+    }
+    any_cell(alloc, column, spare, text)
+}
+
+fn long_value(number: u64) -> Value
+    requires { number < 2 ^ 63 }
+    ensures { result ≡ Long (pos number) }
+{
+    Value::Long(number as i64)
+}
+
+fn time_value(millis: u64) -> Value
+    requires { millis < 2 ^ 63 }
+    ensures { result ≡ Time (pos millis) }
+{
+    Value::Time(millis as i64)
+}
+
+/// What a column gets from the first token, whatever it is.
+fn any_cell<'a>(
+    alloc: Global,
+    column: &Column,
+    spare: &mut Spare,
+    text: &'a [u8],
+) -> Result<Option<(Value, &'a [u8])>, AllocError>
+    ensures { IfOk result (λ found. IfSome found (λ p. IsCellAt column.now text.now p.0 p.1.now)) }
+{
+    let Some((json, rest)) = first_scalar(alloc, spare, text)? else {
+        return Ok(None);
+    };
+    match cell(alloc, column, Some(json))? {
+        Some(value) => Ok(Some((value, rest))),
+        None => Ok(None),
+    }
+}
+
 /// A value that is no array and no object, and what stands behind it.
 fn first_scalar<'a>(
     alloc: Global,
@@ -117,6 +182,17 @@ fn first_scalar<'a>(
     match scalar(alloc, spare, token)? {
         Some(json) => Ok(Some((json, rest))),
         None => Ok(None),
+    }
+}
+
+/// A number without a sign that 63 bits hold, and what stands behind it.
+fn plain_long(text: &[u8]) -> Option<(u64, &[u8])>
+    ensures text { IfSome result (λ p. text.now ≡ decimal p.0 ++ p.1.now) }
+    ensures fits { IfSome result (λ p. p.0 < 2 ^ 63) }
+{
+    match plain_integer(text) {
+        Some((number, rest)) if number <= GREATEST_LONG => Some((number, rest)),
+        _ => None,
     }
 }
 
@@ -154,11 +230,8 @@ fn digit(byte: u8) -> Option<u64>
 fn first_token(text: &[u8]) -> Option<(Token<'_>, &[u8])>
     ensures { IfSome result (λ p. IsTokenAt text.now (token_of p.0) p.1.now) }
 {
-    if let Some((string, rest)) = plain_text(text) {
-        return match str::from_utf8(string) {
-            Ok(string) => Some((Token::String(string), rest)),
-            Err(_) => None,
-        };
+    if let Some((string, rest)) = plain_string(text) {
+        return Some((Token::String(string), rest));
     }
     match plain_number(text) {
         Some(found) => Some(found),
@@ -179,6 +252,18 @@ fn plain_word(text: &[u8]) -> Option<(Token<'_>, &[u8])>
     match behind_all(b"null".as_slice(), text) {
         Some(rest) => Some((Token::Null, rest)),
         None => None,
+    }
+}
+
+/// A text in quotes that is UTF-8, and what stands behind it.
+fn plain_string(text: &[u8]) -> Option<(&str, &[u8])>
+    ensures text { IfSome result (λ p. text.now ≡ quoted p.0.now ++ p.1.now) }
+    ensures utf8 { IfSome result (λ p. IsUtf8 p.0.now) }
+{
+    let (string, rest) = plain_text(text)?;
+    match str::from_utf8(string) {
+        Ok(string) => Some((string, rest)),
+        Err(_) => None,
     }
 }
 
