@@ -51,12 +51,10 @@ pub fn happen_as(alloc: Global, world: &mut World, event: &Event) -> Result<(), 
     requires fits { Fits world.old.state.setup.schema event.now }
     ensures { Does (Passed event.now world.old.state) world.new result }
 {
-    match apply(alloc, world, event) {
-        Ok(outcome) => {
-            drop(outcome);
-            Ok(())
-        }
-        Err(refusal) => Err(refusal),
+    let happened = apply(alloc, world, event);
+    match &happened {
+        Ok(_) => Ok(()),
+        Err(refusal) => Err(*refusal),
     }
 }
 

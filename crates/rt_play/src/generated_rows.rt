@@ -110,6 +110,6 @@ fn row_of_top(top: u64, mut text: Vec<u8>) -> Result<Bytes, AllocError>
     text.extend_from_slice(digits.format(top % 16).as_bytes())?;
     text.extend_from_slice(b"\",\"v\":")?;
     text.extend_from_slice(digits.format(top / 16 % 1000).as_bytes())?;
-    text.extend_from_slice(b"}")?;
+    text.push(b'}')?;
     Ok(Bytes::of(text))
 }

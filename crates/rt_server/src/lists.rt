@@ -43,13 +43,13 @@ impl Table {
     pub(crate) fn held(&self, alloc: Global) -> Result<Items<(Partition, Sequence)>, AllocError>
         ensures { IfOk result (λ held. held ≡ held_of self.now) }
     {
-        let mut held = Items::new(alloc);
+        let mut held = Vec::with_capacity(alloc, self.entries.len())?;
         for (segment, entry) in self.entries.iter() {
             if matches!(entry, Entry::Replica(_)) {
                 held.push(*segment)?;
             }
         }
-        Ok(held)
+        Ok(Items::of(held))
     }
 }
 
