@@ -33,7 +33,7 @@ length_cut start [] bytes = refl
 length_cut start (end ∷ ends) bytes = ap suc (length_cut end ends bytes)
 
 -- no message begins behind the last byte
-ends_within : (start : ℕ) (ends : List ℕ) (size : ℕ) → AreEnds start ends size → start ≤ size
+pub ends_within : (start : ℕ) (ends : List ℕ) (size : ℕ) → AreEnds start ends size → start ≤ size
 ends_within start [] size h = omega (arith, h)
 ends_within start (end ∷ ends) size h = omega (arith, h.0, ends_within end ends size h.2)
 

@@ -1,3 +1,4 @@
 pub mod Cuts
 pub mod Growth
 pub mod Places
+pub mod Ranges

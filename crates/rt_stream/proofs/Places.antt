@@ -29,27 +29,20 @@ use Rattle.std.proofs.Common.{
   append_assoc,
   take,
   drop,
-  get_or,
   length-drop,
 }
 use Rattle.std.specs.List.{flat_map}
 use Rattle.std.proofs.lemmas.List.Concat.{flat_map-append}
-use Rattle.std.proofs.lemmas.List.{take_more, get_or-drop}
-use Rattle.std.proofs.lemmas.Option.{get_or_from_slice_get, slice_get_within}
+use Rattle.std.proofs.lemmas.List.{take_all, take-take, take-append-le, drop-append-le, drop-drop}
+use Rattle.std.proofs.Math.Seq.{drop-append_seam, take-add}
 use Rattle.rt_stream.specs.Pages.{AreFull}
 
 abbrev Messages : Type 0
 Messages = List (List ℕ)
 
-get_left : (xs ys : Messages) (i : ℕ) → i < length xs → slice_get (xs ++ ys) i ≡ slice_get xs i
-get_left [] ys i h = absurd (omega (arith, h))
-get_left (x ∷ xs) ys zero h = refl
-get_left (x ∷ xs) ys (suc i) h = get_left xs ys i (omega (arith, h))
-
-get_right : (xs ys : Messages) (i : ℕ) → slice_get (xs ++ ys) (length xs + i) ≡ slice_get ys i
-get_right [] ys i = let e : 0 + i ≡ i = omega arith in rw e refl
-get_right (x ∷ xs) ys i = let e : suc (length xs) + i ≡ suc (length xs + i) = omega arith in
-    rw e (get_right xs ys i)
+drop_right : (xs ys : Messages) (i : ℕ) → drop (length xs + i) (xs ++ ys) ≡ drop i ys
+drop_right xs ys i = sym (drop-drop i (length xs) (xs ++ ys))
+    ∙ ap (λ m. drop i m) (drop-append_seam xs ys)
 
 -- nothing stands past the end
 get_none : (pages : List Messages) (i : ℕ) → slice_get pages i ≡ None → length pages ≤ i
@@ -84,70 +77,108 @@ pub pages-push : (pages : List Messages) (page : Messages)
 pages-push pages page = flat_map-append (λ page. page) pages (page ∷ [])
     ∙ ap (λ m. flat_map (λ page. page) pages ++ m) (append-nil page)
 
--- a place in a full page
-get_full : (pages : List Messages) (last : Messages) (i j : ℕ) (page : Messages) → AreFull pages
+-- from a place in a full page on
+rest_full : (pages : List Messages) (last : Messages) (i j : ℕ) (page : Messages) → AreFull pages
     → slice_get pages i ≡ Some page → j < 256
-    → slice_get (flat_map (λ page. page) pages ++ last) (256 * i + j) ≡ slice_get page j
-get_full [] last i j page h e within = cc
-get_full (first ∷ pages) last zero j page h e within =
+    → drop j page
+    ≡ take (256 - j) (drop (256 * i + j) (flat_map (λ page. page) pages ++ last))
+rest_full [] last i j page h e within = cc
+rest_full (first ∷ pages) last zero j page h e within =
     let same : first ≡ page = cc in
     let here : 256 * zero + j ≡ j = omega arith in
     let size : length first ≡ 256 = h.0 in
-    let rest = flat_map (λ page. page) pages in
-    rw (here, append_assoc first rest last) (get_left first (rest ++ last) j (omega arith)
-    ∙ ap (λ m. slice_get m j) same)
-get_full (first ∷ pages) last (suc i) j page h e within =
+    let rest = flat_map (λ page. page) pages ++ last in
+    let split : drop j (first ++ rest) ≡ drop j first ++ rest =
+    drop-append-le j first rest (omega arith) in
+    let left : length (drop j first) ≡ 256 - j = omega (arith, length-drop j first) in
+    let front : take (256 - j) (drop j first ++ rest) ≡ drop j first =
+    take-append-le (256 - j) (drop j first) rest (omega (arith, left))
+    ∙ take_all (256 - j) (drop j first) (omega (arith, left)) in
+    rw (here, append_assoc first (flat_map (λ page. page) pages) last, split, front)
+    (ap (λ m. drop j m) (sym same))
+rest_full (first ∷ pages) last (suc i) j page h e within =
     let size : length first ≡ 256 = h.0 in
     let there : 256 * suc i + j ≡ length first + (256 * i + j) = omega arith in
     let rest = flat_map (λ page. page) pages in
-    rw (there, append_assoc first rest last) (get_right first (rest ++ last) (256 * i + j)
-    ∙ get_full pages last i j page h.1 e within)
+    rw (there, append_assoc first rest last, drop_right first (rest ++ last) (256 * i + j))
+    (rest_full pages last i j page h.1 e within)
 
--- a place in the last page
-get_last : (pages : List Messages) (last : Messages) (j : ℕ) → AreFull pages
-    → slice_get (flat_map (λ page. page) pages ++ last) (256 * length pages + j) ≡ slice_get last j
-get_last pages last j h = rw (← length-pages pages h)
-    (get_right (flat_map (λ page. page) pages) last j)
+-- from a place in the last page on
+rest_last : (pages : List Messages) (last : Messages) (j : ℕ) → AreFull pages
+    → drop j last
+    ≡ take (length last - j)
+    (drop (256 * length pages + j) (flat_map (λ page. page) pages ++ last))
+rest_last pages last j h =
+    rw (← length-pages pages h, drop_right (flat_map (λ page. page) pages) last j)
+    (sym (take_all (length last - j) (drop j last) (omega (arith, length-drop j last))))
 
--- an offset of a full page
-pub full_get : (pages : List Messages) (last : Messages) (offset : ℕ) (page : Messages)
+-- from an offset of a full page on
+pub full_rest : (pages : List Messages) (last : Messages) (offset : ℕ) (page : Messages)
     → AreFull pages → slice_get pages (offset / 256) ≡ Some page
-    → (offset % 256 < length page) × (slice_get (flat_map (λ page. page) pages ++ last) offset
-    ≡ slice_get page (offset % 256))
-full_get pages last offset page h e =
-    let size = AreFull-get pages (offset / 256) page h e in
-    let parts : 256 * (offset / 256) + offset % 256 ≡ offset = omega arith in (
+    → (offset % 256 < length page) × (drop (offset % 256) page
+    ≡ take (length page - offset % 256)
+    (drop offset (flat_map (λ page. page) pages ++ last)))
+full_rest pages last offset page h e =
+    let size : length page ≡ 256 = AreFull-get pages (offset / 256) page h e in
+    let parts : 256 * (offset / 256) + offset % 256 ≡ offset = omega arith in
+    let within : offset % 256 < 256 = omega arith in
+    let all = flat_map (λ page. page) pages ++ last in (
       omega arith,
-      ap (λ k. slice_get (flat_map (λ page. page) pages ++ last) k) (sym parts)
-          ∙ get_full pages last (offset / 256) (offset % 256) page h e (omega arith),
+      rest_full pages last (offset / 256) (offset % 256) page h e within
+          ∙ ap (λ k. take (256 - offset % 256) (drop k all)) parts
+          ∙ ap (λ n. take (n - offset % 256) (drop offset all)) (sym size),
     )
 
--- an offset past the full pages
-pub last_get : (pages : List Messages) (last : Messages) (offset : ℕ) → AreFull pages
+-- from an offset past the full pages on
+pub last_rest : (pages : List Messages) (last : Messages) (offset : ℕ) → AreFull pages
     → length last ≤ 256 → slice_get pages (offset / 256) ≡ None
     → offset < length (flat_map (λ page. page) pages ++ last)
-    → (offset % 256 < length last) × (slice_get (flat_map (λ page. page) pages ++ last) offset
-    ≡ slice_get last (offset % 256))
-last_get pages last offset h size e within =
+    → (offset % 256 < length last) × (drop (offset % 256) last
+    ≡ take (length last - offset % 256)
+    (drop offset (flat_map (λ page. page) pages ++ last)))
+last_rest pages last offset h size e within =
     let past = get_none pages (offset / 256) e in
     let all = length-append (flat_map (λ page. page) pages) last in
     let full = length-pages pages h in
     let parts : 256 * length pages + offset % 256 ≡ offset = omega arith in (
       omega arith,
-      ap (λ k. slice_get (flat_map (λ page. page) pages ++ last) k) (sym parts)
-          ∙ get_last pages last (offset % 256) h,
+      rest_last pages last (offset % 256) h
+          ∙ ap (λ k. take (length last - offset % 256)
+          (drop k (flat_map (λ page. page) pages ++ last))) parts,
     )
 
--- one message more of a slice
-pub slice_more : (xs : Messages) (from at : ℕ) (message : List ℕ) → from ≤ at → slice_get xs at
-    ≡ Some message
-    → take (at + 1 - from) (drop from xs) ≡ take (at - from) (drop from xs) ++ message ∷ []
-slice_more xs from at message h found =
-    let inside : at < length xs = slice_get_within xs at message found in
-    let next : at + 1 - from ≡ (at - from) + 1 = omega arith in
-    let place : from + (at - from) ≡ at = omega arith in
-    let here : get_or (drop from xs) (at - from) message ≡ message =
-    get_or-drop from xs (at - from) message ∙ ap (λ k. get_or xs k message) place
-    ∙ get_or_from_slice_get xs at message message found in
-    rw next (take_more (drop from xs) (at - from) message (omega (arith, length-drop from xs))
-    ∙ ap (λ m. take (at - from) (drop from xs) ++ m ∷ []) here)
+get_drop : (xs : Messages) (i : ℕ) → slice_get (drop i xs) 0 ≡ slice_get xs i
+get_drop xs zero = refl
+get_drop [] (suc i) = refl
+get_drop (x ∷ xs) (suc i) = get_drop xs i
+
+get_take : (xs : Messages) (n : ℕ) → 0 < n → slice_get (take n xs) 0 ≡ slice_get xs 0
+get_take xs zero h = absurd (omega (arith, h))
+get_take [] (suc n) h = refl
+get_take (x ∷ xs) (suc n) h = refl
+
+-- the first message from there on
+pub get_rest : (xs page : Messages) (offset place : ℕ) → place < length page
+    → drop place page ≡ take (length page - place) (drop offset xs)
+    → slice_get xs offset ≡ slice_get page place
+get_rest xs page offset place within rest = sym (get_drop xs offset)
+    ∙ sym (get_take (drop offset xs) (length page - place) (omega arith))
+    ∙ ap (λ m. slice_get m 0) (sym rest) ∙ get_drop page place
+
+-- a slice goes on with the messages of a page from there on
+pub slice_more : (xs page : Messages) (from offset place count : ℕ) → from ≤ offset
+    → drop place page ≡ take (length page - place) (drop offset xs)
+    → place + count ≤ length page
+    → take ((offset + count) - from) (drop from xs)
+    ≡ take (offset - from) (drop from xs) ++ take ((place + count) - place) (drop place page)
+slice_more xs page from offset place count order rest within =
+    let parts : (offset + count) - from ≡ (offset - from) + count = omega arith in
+    let number : (place + count) - place ≡ count = omega arith in
+    let there : drop (offset - from) (drop from xs) ≡ drop offset xs =
+    drop-drop (offset - from) from xs
+    ∙ ap (λ k. drop k xs) (let e : from + (offset - from) ≡ offset = omega arith in e) in
+    let next : take count (drop place page) ≡ take count (drop offset xs) =
+    ap (λ m. take count m) rest
+    ∙ take-take count (length page - place) (drop offset xs) (omega arith) in
+    rw (parts, number, next) (take-add (offset - from) count (drop from xs)
+    ∙ ap (λ m. take (offset - from) (drop from xs) ++ take count m) there)

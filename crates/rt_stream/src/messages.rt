@@ -1,5 +1,5 @@
-ghost use Rattle.std.specs.Prelude.{◌≡◌, ◌≤◌, ◌<◌, ◌+◌, ◌↔◌, [], ◌∷◌, ◌++◌, length, slice_get, slice_index, IfOk, IsTrue, OnOk, OnErr};
-ghost use Rattle.rt_stream.specs.Pages.{cut, AreEnds};
+ghost use Rattle.std.specs.Prelude.{◌≡◌, ◌≤◌, ◌<◌, ◌+◌, ◌-◌, ◌^◌, ◌↔◌, [], ◌∷◌, ◌++◌, length, take, drop, vec_len, vec_capacity, slice_get, slice_index, IfOk, IsTrue, OnOk, OnErr};
+ghost use Rattle.rt_stream.specs.Pages.{cut, shifted, AreEnds};
 
 use rt_base::limits::LONGEST_MESSAGE;
 use std::alloc::{AllocError, Global};
@@ -65,6 +65,29 @@ impl Messages {
         Ok(())
     }
 
+    /// Adds a page's messages from one place up to another at the end. Where memory runs out, which is told beyond
+    /// 4 GiB too, all is as before.
+    pub(crate) fn append_range(
+        &mut self,
+        page: &Messages,
+        from: usize,
+        to: usize,
+    ) -> Result<(), AllocError>
+        requires order { from ≤ to }
+        requires within { to ≤ length page.now }
+        ensures ok { OnOk result (self.new ≡ self.old ++ take (to - from) (drop from page.now)) }
+        ensures err { OnErr result (self.new ≡ self.old) }
+    {
+        let start = start_of(&page.ends, from);
+        let end = start_of(&page.ends, to);
+        let base = base_behind(self.bytes.len(), end - start)?;
+        self.ends.reserve(to - from)?;
+        self.bytes
+            .extend_from_slice(&page.bytes[start as usize..end as usize])?;
+        push_shifted(&mut self.ends, &page.ends[from..to], start, end, base);
+        Ok(())
+    }
+
     /// Gives back the room that no message takes. Where memory runs out, all is as before.
     pub(crate) fn compact(&mut self, alloc: Global) -> Result<(), AllocError>
         ensures { self.new ≡ self.old }
@@ -95,6 +118,28 @@ fn end_behind(start: usize, size: usize) -> Result<u32, AllocError>
     Ok((start + size) as u32)
 }
 
+/// The place behind the bytes taken so far, where 32 bits tell every place of so many bytes more.
+fn base_behind(taken: usize, size: u32) -> Result<u32, AllocError>
+    ensures { IfOk result (λ base. (base ≡ taken) × (taken + size < 2 ^ 32)) }
+{
+    if taken > (u32::MAX - size) as usize {
+        return Err(AllocError);
+    }
+    Ok(taken as u32)
+}
+
+/// Adds the ends of messages that stood from a start up to an end, as they are from a base on.
+fn push_shifted(ends: &mut Vec<u32>, more: &[u32], start: u32, end: u32, base: u32)
+    requires ends { AreEnds start more.now end }
+    requires fit { (end - start) + base < 2 ^ 32 }
+    requires room { vec_len ends.old + length more.now ≤ vec_capacity ends.old }
+    ensures { ends.new.items ≡ ends.old.items ++ shifted start base more.now }
+{
+    for place in more {
+        ends.push_reserved(*place - start + base);
+    }
+}
+
 /// The bytes of a message.
 fn piece_of<'a>(bytes: &'a [u8], ends: &[u32], place: usize) -> &'a [u8]
     requires ends { AreEnds 0 ends.now (length bytes.now) }
@@ -112,6 +157,13 @@ fn bounds_of(ends: &[u32], place: usize) -> (usize, usize)
     ensures start { result.0 ≡ slice_index (0 ∷ ends.now) place }
     ensures end { result.1 ≡ slice_index ends.now place }
 {
-    let start = if place == 0 { 0 } else { ends[place - 1] };
-    (start as usize, ends[place] as usize)
+    (start_of(ends, place) as usize, ends[place] as usize)
+}
+
+/// Where the messages from a place on begin, at the end of the one before it.
+fn start_of(ends: &[u32], place: usize) -> u32
+    requires { place ≤ length ends.now }
+    ensures { result ≡ slice_index (0 ∷ ends.now) place }
+{
+    if place == 0 { 0 } else { ends[place - 1] }
 }

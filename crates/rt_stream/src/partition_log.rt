@@ -1,4 +1,4 @@
-ghost use Rattle.std.specs.Prelude.{◌≡◌, ◌≤◌, ◌<◌, [], ◌∷◌, ◌++◌, length, slice_get, take, drop, IfOk, IfSome, IfNone, OnOk, OnErr};
+ghost use Rattle.std.specs.Prelude.{◌≡◌, ◌≤◌, ◌<◌, ◌-◌, ◌%◌, [], ◌∷◌, ◌++◌, length, slice_get, take, drop, IfOk, IfSome, IfNone, OnOk, OnErr};
 
 use crate::Messages;
 use rt_base::limits::LONGEST_MESSAGE;
@@ -76,10 +76,19 @@ impl PartitionLog {
         ensures message { slice_get self.now offset ≡ Some result.now }
         ensures short { length result.now ≤ LONGEST_MESSAGE }
     {
-        let place = (offset % PAGE as u64) as usize;
+        self.page_of(offset).get(place_of(offset))
+    }
+
+    /// The page that has the message at an offset, and behind it those that follow in the log.
+    fn page_of(&self, offset: u64) -> &Messages
+        requires { offset < length self.now }
+        ensures within { offset % 256 < length result.now }
+        ensures rest { drop (offset % 256) result.now
+            ≡ take (length result.now - offset % 256) (drop offset self.now) }
+    {
         match page_at(&self.full, (offset / PAGE as u64) as usize) {
-            Some(page) => page.get(place),
-            None => self.last.get(place),
+            Some(page) => page,
+            None => &self.last,
         }
     }
 
@@ -94,12 +103,25 @@ impl PartitionLog {
         ensures { IfOk result (λ messages. messages ≡ take max (drop from self.now)) }
     {
         let count = (self.len() - from).min(u64::from(max));
+        let end = from + count;
         let mut messages = Messages::new(alloc);
-        for offset in from..from + count {
-            messages.push(self.get(offset))?;
+        let mut offset = from;
+        while offset < end {
+            let page = self.page_of(offset);
+            let place = place_of(offset);
+            let taken = (page.len() - place).min((end - offset) as usize);
+            messages.append_range(page, place, place + taken)?;
+            offset += taken as u64;
         }
         Ok(messages)
     }
+}
+
+/// The place of an offset's message in its page.
+fn place_of(offset: u64) -> usize
+    ensures { result ≡ offset % 256 }
+{
+    (offset % PAGE as u64) as usize
 }
 
 /// A full page, where there is one of this number.
