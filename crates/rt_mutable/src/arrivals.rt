@@ -1,7 +1,8 @@
 ghost use Rattle.std.specs.Prelude.{◌≡◌, ◌<◌, ◌-◌, [], ◌∷◌, ◌++◌, Some, length, take, slice_get, position, IfOk, OnOk, OnErr};
-ghost use Rattle.rt_mutable.specs.Arrivals.{arrive, arrivals_of, id_among, ids_of, unless_used};
+ghost use Rattle.rt_mutable.specs.Arrivals.{arrivals_of, id_among, ids_of, unless_used};
 
 use crate::ColumnKey;
+use crate::room::reserve_row;
 use indexmap::IndexSet;
 use rt_base::limits::MOST_ROWS;
 use std::alloc::{AllocError, Global};
@@ -85,8 +86,8 @@ impl<K: ColumnKey> Arrivals<K> {
         ensures id { IfOk result (λ id. id ≡ id_among K.eq (arrivals_of K.eq self.new) key.now) }
         ensures err { OnErr result (self.new ≡ self.old) }
     {
-        self.ids.reserve(1)?;
-        let id = id_or_new(&mut self.keys, alloc, key)?;
+        reserve_row(&mut self.ids)?;
+        let id = K::id_or_new(&mut self.keys, alloc, key)?;
         self.ids.push_reserved(id as u32);
         Ok(id as u32)
     }
@@ -101,23 +102,6 @@ impl<K: ColumnKey> Arrivals<K> {
         };
         forget_unless_used(&mut self.keys, id, &self.ids);
     }
-}
-
-/// The id of a key, which goes last where it is new.
-fn id_or_new<K: ColumnKey>(
-    keys: &mut IndexSet<K>,
-    alloc: Global,
-    key: &K,
-) -> Result<usize, AllocError>
-    ensures keys { OnOk result (keys.new.keys ≡ arrive K.eq keys.old.keys key.now) }
-    ensures id { IfOk result (λ id. id ≡ id_among K.eq keys.old.keys key.now) }
-    ensures err { OnErr result (keys.new.keys ≡ keys.old.keys) }
-{
-    if let Some(id) = keys.get_index_of(key) {
-        return Ok(id);
-    }
-    let (id, _) = keys.insert_full(key.copy(alloc)?)?;
-    Ok(id)
 }
 
 /// Drops the last key, unless a row has its id.

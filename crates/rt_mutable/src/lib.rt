@@ -12,6 +12,7 @@ mod columns;
 mod laws;
 mod mutable_column;
 mod mutable_segment;
+mod room;
 mod row_lists;
 
 pub use arrivals::Arrivals;

@@ -8,6 +8,7 @@ ghost use Rattle.rt_mutable.specs.RowLists.{numbers_where};
 
 use crate::MutableColumn;
 use crate::columns::{empty_columns, index_values, truncate_all, values_of_row};
+use crate::room::reserve_row;
 use rt_base::Offset;
 use rt_base::limits::MOST_ROWS;
 use rt_lists::{Items, Text};
@@ -149,7 +150,7 @@ impl MutableSegment {
             self.end = after(self.end);
             return Ok(());
         };
-        self.offsets.reserve(1)?;
+        reserve_row(&mut self.offsets)?;
         index_values(alloc, self.columns.as_mut_slice(), row.values.as_slice())?;
         self.offsets.push_reserved(self.end);
         self.end = after(self.end);

@@ -1,11 +1,12 @@
 //! The rows of each id, in lists that grow.
-ghost use Rattle.std.specs.Prelude.{◌≡◌, ◌≤◌, ◌-◌, length, take, OnOk, OnErr, IfSome};
+ghost use Rattle.std.specs.Prelude.{◌≡◌, ◌≤◌, ◌-◌, [], ◌∷◌, ◌++◌, length, take, OnOk, OnErr, IfSome};
 ghost use Rattle.std.specs.Option.{option_map};
 ghost use Rattle.rt_mutable.specs.Index.{rows_found};
 ghost use Rattle.rt_mutable.specs.RowLists.{with_row, without_row};
 
 use rt_lists::Items;
 use std::alloc::{AllocError, Global};
+use std::mem;
 
 /// For each id the numbers of the rows that have it, ascending.
 pub(crate) type RowLists = Items<Items<u32>>;
@@ -56,11 +57,32 @@ fn add_row(alloc: Global, lists: &mut RowLists, id: u32, row: u32) -> Result<(),
     ensures err { OnErr result (lists.new ≡ lists.old) }
 {
     if (id as usize) < lists.len() {
-        return lists.at_mut(id as usize).push(row);
+        return push_row(alloc, lists.at_mut(id as usize), row);
     }
     let mut rows = Items::new(alloc);
     rows.push(row)?;
     lists.push(rows)
+}
+
+/// Adds a row to those of an id. A short list grows fourfold, so that it is moved half as often.
+fn push_row(alloc: Global, rows: &mut Items<u32>, row: u32) -> Result<(), AllocError>
+    ensures ok { OnOk result (rows.new ≡ rows.old ++ row ∷ []) }
+    ensures err { OnErr result (rows.new ≡ rows.old) }
+{
+    if matches!(rows.len(), 4 | 16 | 64) {
+        widen(alloc, rows)?;
+    }
+    rows.push(row)
+}
+
+/// Makes room in a list of rows for three times as many more.
+fn widen(alloc: Global, rows: &mut Items<u32>) -> Result<(), AllocError>
+    ensures { rows.new ≡ rows.old }
+{
+    let mut wider = mem::replace(rows, Items::new(alloc)).into_vec();
+    let room = wider.reserve(wider.len() * 3);
+    *rows = Items::of(wider);
+    room
 }
 
 fn remove_row(lists: &mut RowLists, id: u32, count: usize)

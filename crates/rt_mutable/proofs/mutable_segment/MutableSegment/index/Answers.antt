@@ -41,7 +41,7 @@ columns_are c =
     back_whole c.self.inside.columns c.index_values.new.columns (ap length given ∙ length_with c.self.inside.columns c.in-Some.row.now.values) ∙ given
 
 offsets_are : (c : After-push) → c.push_reserved.new.self.items ≡ c.self.inside.offsets.items ++ c.self.inside.end ∷ []
-offsets_are c = c.push_reserved.ensures.items ∙ ap (λ os. os ++ c.self.inside.end ∷ []) c.in_ok-reserve.ensures.items
+offsets_are c = c.push_reserved.ensures.items ∙ ap (λ os. os ++ c.self.inside.end ∷ []) c.in_ok-reserve_row.ensures.items
 
 pub invariant_of-self-2 : goal.invariant_of-self-2
 invariant_of-self-2 c =
