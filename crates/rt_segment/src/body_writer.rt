@@ -1,6 +1,5 @@
 //! A file up to its digest.
-ghost use Rattle.std.specs.Prelude.{◌≡◌, All, IfOk, OnOk};
-ghost use Rattle.rt_segment.specs.Column.{IsColumn};
+ghost use Rattle.std.specs.Prelude.{◌≡◌, IfOk};
 ghost use Rattle.rt_segment.specs.Segment.{IsSealable};
 ghost use Rattle.rt_segment.specs.Spelling.{magic, body_of};
 
@@ -20,8 +19,7 @@ pub(crate) fn write_body(
     columns: &[SegmentColumn],
 ) -> Result<Vec<u8>, AllocError>
     requires { IsSealable (record { format = format; partition = partition; sequence = sequence; range = range; rows = rows; columns = columns.now }) }
-    ensures written { IfOk result (λ bytes. bytes.items ≡ body_of (record { format = format; partition = partition; sequence = sequence; range = range; rows = rows; columns = columns.now })) }
-    ensures columns { OnOk result (All IsColumn columns.now) }
+    ensures { IfOk result (λ bytes. bytes.items ≡ body_of (record { format = format; partition = partition; sequence = sequence; range = range; rows = rows; columns = columns.now })) }
 {
     let mut out = Vec::new(alloc);
     out.extend_from_slice(magic(format))?;
@@ -32,8 +30,7 @@ pub(crate) fn write_body(
     out.extend_from_slice(&rows.to_be_bytes())?;
     out.extend_from_slice(&(columns.len() as u16).to_be_bytes())?;
     write_columns(alloc, format, rows, columns, &mut out)?;
-    // A copy has no room to spare, and is kept for long.
-    out.as_slice().to_vec(alloc)
+    Ok(out)
 }
 
 // The first 8 bytes.

@@ -1,7 +1,6 @@
 //! A column of a file.
 ghost use Rattle.std.specs.Prelude.{◌≡◌, ◌≤◌, ◌++◌, All, OnOk, length};
 ghost use Rattle.std.specs.List.{flat_map};
-ghost use Rattle.rt_segment.specs.Column.{IsColumn};
 ghost use Rattle.rt_segment.specs.Segment.{IsColumnOf};
 ghost use Rattle.rt_segment.specs.Spelling.{kind_byte, column_bytes, column_head, packed_ids};
 
@@ -22,8 +21,7 @@ pub(crate) fn write_columns(
     out: &mut Vec<u8>,
 ) -> Result<(), AllocError>
     requires { All (IsColumnOf rows) columns.now }
-    ensures written { OnOk result (out.new.items ≡ out.old.items ++ flat_map (column_bytes format) columns.now) }
-    ensures columns { OnOk result (All IsColumn columns.now) }
+    ensures { OnOk result (out.new.items ≡ out.old.items ++ flat_map (column_bytes format) columns.now) }
 {
     for column in columns {
         write_column(alloc, format, rows, column, out)?;
@@ -39,8 +37,7 @@ fn write_column(
     out: &mut Vec<u8>,
 ) -> Result<(), AllocError>
     requires { IsColumnOf rows column.now }
-    ensures written { OnOk result (out.new.items ≡ out.old.items ++ column_bytes format column.now) }
-    ensures column { OnOk result (IsColumn column.now) }
+    ensures { OnOk result (out.new.items ≡ out.old.items ++ column_bytes format column.now) }
 {
     let numbers = column.ids().len().saturating_mul(8);
     out.reserve(column.size().saturating_add(numbers))?;

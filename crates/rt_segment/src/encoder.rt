@@ -9,6 +9,7 @@ pub fn encode(alloc: Global, sealed: &Sealed) -> Result<Vec<u8>, AllocError>
     ensures { IfOk result (λ bytes. bytes.items ≡ file_of sealed.now) }
 {
     let mut out = sealed.body(alloc)?;
-    out.extend_from_slice(&sealed.header().digest)?;
+    let digest = sealed.digest_behind(out.as_slice());
+    out.extend_from_slice(&digest)?;
     Ok(out)
 }

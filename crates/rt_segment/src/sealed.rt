@@ -1,13 +1,13 @@
-ghost use Rattle.std.specs.Prelude.{◌≡◌, ◌+◌, ◌<◌, IfOk, Some, length, slice_get};
+ghost use Rattle.std.specs.Prelude.{◌≡◌, ◌<◌, IfOk, Some, length, slice_get};
 ghost use Rattle.sha2.specs.Sha256.{sha256};
 ghost use Rattle.rt_segment.specs.Segment.{SealedSegment, IsSealable, IsSealed, rows_of, are_columns};
 ghost use Rattle.rt_segment.specs.Spelling.{body_of, file_of, header_of};
 
 use crate::body_writer::write_body;
 use crate::segment_column::SegmentColumn;
-use crate::table::{are_columns, copies_of, row_in};
+use crate::table::{are_columns, are_whole, copies_of, row_in};
 use rt_base::{Header, Partition, Range, Sequence};
-use rt_lists::{Bytes, Items};
+use rt_lists::Items;
 use rt_schema::{Row, Schema};
 use sha2::{Digest, Sha256};
 use std::alloc::{AllocError, Global};
@@ -27,12 +27,10 @@ pub struct Sealed {
     columns: Items<SegmentColumn>,
     // The digest of the file, where it was read with it.
     digest: Option<[u8; 32]>,
-    // What stands before the digest in the file, where it was written here: it says the digest to those who ask.
-    body: Option<Bytes>,
 }
 
 impl Model for Sealed {
-    ghost use Rattle.std.specs.Prelude.{◌≡◌, None, Some, IfSome};
+    ghost use Rattle.std.specs.Prelude.{◌≡◌, IfSome};
     ghost use Rattle.sha2.specs.Sha256.{sha256};
     ghost use Rattle.rt_segment.specs.Segment.{SealedSegment, IsSealed};
     ghost use Rattle.rt_segment.specs.Spelling.{body_of};
@@ -42,35 +40,24 @@ impl Model for Sealed {
     ghost view = { λ a. record { format = a.format; partition = a.partition; sequence = a.sequence; range = a.range; rows = a.rows; columns = a.columns } };
 
     ghost invariant = { λ a. IsSealed (record { format = a.format; partition = a.partition; sequence = a.sequence; range = a.range; rows = a.rows; columns = a.columns })
-        × IfSome a.digest (λ digest. digest ≡ sha256 (body_of (record { format = a.format; partition = a.partition; sequence = a.sequence; range = a.range; rows = a.rows; columns = a.columns })))
-        × IfSome a.body (λ bytes. bytes ≡ body_of (record { format = a.format; partition = a.partition; sequence = a.sequence; range = a.range; rows = a.rows; columns = a.columns }))
-        × (a.digest ≡ None → a.body ≡ Some (body_of (record { format = a.format; partition = a.partition; sequence = a.sequence; range = a.range; rows = a.rows; columns = a.columns }))) };
+        × IfSome a.digest (λ digest. digest ≡ sha256 (body_of (record { format = a.format; partition = a.partition; sequence = a.sequence; range = a.range; rows = a.rows; columns = a.columns }))) };
 }
 
 impl Sealed {
     /// The segment of a format, 1 or 2, a header and its columns.
     pub fn make(
-        alloc: Global,
         format: u8,
         partition: Partition,
         sequence: Sequence,
         range: Range,
         rows: u32,
         columns: Items<SegmentColumn>,
-    ) -> Result<Self, AllocError>
+    ) -> Self
         requires { IsSealable (record { format = format; partition = partition; sequence = sequence; range = range; rows = rows; columns = columns }) }
-        ensures { IfOk result (λ made. made ≡ record { format = format; partition = partition; sequence = sequence; range = range; rows = rows; columns = columns }) }
+        ensures { result ≡ record { format = format; partition = partition; sequence = sequence; range = range; rows = rows; columns = columns } }
     {
-        let body = write_body(
-            alloc,
-            format,
-            partition,
-            sequence,
-            range,
-            rows,
-            columns.as_slice(),
-        )?;
-        Ok(Sealed {
+        are_whole(columns.as_slice());
+        Sealed {
             format,
             partition,
             sequence,
@@ -78,8 +65,7 @@ impl Sealed {
             rows,
             columns,
             digest: None,
-            body: Some(Bytes::of(body)),
-        })
+        }
     }
 
     /// The segment of parts that were read, with the digest of its file.
@@ -96,7 +82,6 @@ impl Sealed {
             rows: header.rows,
             columns,
             digest: Some(header.digest),
-            body: None,
         }
     }
 
@@ -107,28 +92,38 @@ impl Sealed {
         self.format
     }
 
-    /// What the segment's file says of itself, and the file's digest.
-    pub fn header(&self) -> Header
-        ensures header { result ≡ header_of self.now }
+    /// What the segment's file says of itself, and the file's digest. Fails only where memory is refused.
+    pub fn header(&self, alloc: Global) -> Result<Header, AllocError>
+        ensures header { IfOk result (λ header. header ≡ header_of self.now) }
         ensures right { IsSealed self.now }
     {
-        Header {
+        Ok(Header {
             partition: self.partition,
             sequence: self.sequence,
             range: self.range,
             rows: self.rows,
-            digest: self.digest(),
+            digest: self.digest(alloc)?,
+        })
+    }
+
+    // The digest of the file; where it isn't known, what stands before it is written for it.
+    fn digest(&self, alloc: Global) -> Result<[u8; 32], AllocError>
+        ensures { IfOk result (λ digest. digest ≡ sha256 (body_of self.now)) }
+    {
+        match &self.digest {
+            Some(digest) => Ok(*digest),
+            None => Ok(Sha256::digest(self.body(alloc)?.as_slice())),
         }
     }
 
-    // The digest of the file, taken anew where it isn't known.
-    fn digest(&self) -> [u8; 32]
+    /// The digest of the file whose bytes before it are these.
+    pub(crate) fn digest_behind(&self, body: &[u8]) -> [u8; 32]
+        requires { body.now ≡ body_of self.now }
         ensures { result ≡ sha256 (body_of self.now) }
     {
-        match (&self.digest, &self.body) {
-            (Some(digest), _) => *digest,
-            (None, Some(body)) => Sha256::digest(body.as_slice()),
-            (None, None) => unreachable!(),
+        match &self.digest {
+            Some(digest) => *digest,
+            None => Sha256::digest(body),
         }
     }
 
@@ -160,24 +155,12 @@ impl Sealed {
     pub fn size(&self, alloc: Global) -> Result<u64, AllocError>
         ensures { IfOk result (λ size. size ≡ length (file_of self.now)) }
     {
-        match &self.body {
-            Some(body) => Ok(size_with(body.as_slice())),
-            None => Ok(size_with(self.written(alloc)?.as_slice())),
-        }
+        let body = self.body(alloc)?;
+        Ok(body.len() as u64 + DIGEST_SIZE)
     }
 
     /// The bytes before the digest of the segment's file. Fails only where memory is refused.
     pub(crate) fn body(&self, alloc: Global) -> Result<Vec<u8>, AllocError>
-        ensures { IfOk result (λ bytes. bytes.items ≡ body_of self.now) }
-    {
-        match &self.body {
-            Some(body) => body.as_slice().to_vec(alloc),
-            None => self.written(alloc),
-        }
-    }
-
-    // The same bytes, written anew.
-    fn written(&self, alloc: Global) -> Result<Vec<u8>, AllocError>
         ensures { IfOk result (λ bytes. bytes.items ≡ body_of self.now) }
     {
         write_body(
@@ -212,21 +195,13 @@ impl Sealed {
     {
         let columns = copies_of(alloc, self.columns.as_slice())?;
         let format = 2;
-        Sealed::make(
-            alloc,
+        Ok(Sealed::make(
             format,
             self.partition,
             self.sequence,
             self.range,
             self.rows,
             columns,
-        )
+        ))
     }
-}
-
-// The number of bytes of a file with these before its digest.
-fn size_with(body: &[u8]) -> u64
-    ensures { result ≡ length body.now + 32 }
-{
-    body.len() as u64 + DIGEST_SIZE
 }

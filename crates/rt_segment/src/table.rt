@@ -1,5 +1,6 @@
 //! Columns of a table, one after another.
 ghost use Rattle.std.specs.Prelude.{◌≡◌, ◌<◌, All, IfOk, length};
+ghost use Rattle.rt_segment.specs.Column.{IsColumn};
 ghost use Rattle.rt_segment.specs.Segment.{are_columns, is_column, row_in, cell_in, kind_eq};
 
 use crate::segment_column::SegmentColumn;
@@ -41,6 +42,16 @@ fn is_kind(a: Kind, b: Kind) -> bool
             | (Kind::Bool, Kind::Bool)
             | (Kind::Time, Kind::Time)
     )
+}
+
+/// Goes over columns, so that each is known to be whole.
+pub(crate) fn are_whole(columns: &[SegmentColumn])
+    ensures { All IsColumn columns.now }
+{
+    for column in columns {
+        // That a column is whole is told with its size.
+        let _size = column.size();
+    }
 }
 
 /// The row of a number.

@@ -1,8 +1,7 @@
 use Rattle.std.proofs.Common.{◌≡◌, Some, length, slice_get, refl}
 use Rattle.std.proofs.lemmas.Option.{slice_get_read}
-use Rattle.rt_segment.specs.Column.{IsColumn}
 use Rattle.rt_segment.specs.Spelling.{column_bytes}
-use Rattle.rt_segment.proofs.Rows.{written_more, fits_more}
+use Rattle.rt_segment.proofs.Rows.{written_more}
 use Rattle.rt_segment.proofs.column_writer.write_columns.Goals as goal
 
 pub loop-column-preserved : goal.loop-column-preserved
@@ -11,7 +10,4 @@ loop-column-preserved c =
     let place = c.loop-column.column-index in
     let item = c.column-item.result in
     let at : slice_get columns place ≡ Some item = slice_get_read columns (length columns) place item refl c.loop-column-test.true c.column-item.is in
-    record {
-      written = written_more (column_bytes c.args.format) c.args.out.now.items c.loop-column.out.items c.write_column.new.out.items columns place item at c.loop-column.invariant.written c.in_ok-write_column.ensures.written;
-      columns = fits_more IsColumn columns place item at c.loop-column.invariant.columns c.in_ok-write_column.ensures.column;
-    }
+    written_more (column_bytes c.args.format) c.args.out.now.items c.loop-column.out.items c.write_column.new.out.items columns place item at c.loop-column.invariant (c.in_ok-write_column.ensures {u = tt})

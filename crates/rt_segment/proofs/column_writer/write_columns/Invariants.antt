@@ -1,11 +1,7 @@
 use Rattle.std.proofs.Common.{◌≡◌, ◌++◌, take}
-use Rattle.std.specs.List.{flat_map, All}
-use Rattle.rt_segment.specs.Column.{IsColumn}
+use Rattle.std.specs.List.{flat_map}
 use Rattle.rt_segment.specs.Spelling.{column_bytes}
 use Rattle.rt_segment.proofs.column_writer.write_columns.Given as goal
 
 abbrev pub invariant-loop-column : goal.invariant-loop-column
-invariant-loop-column l = record {
-  written : l.out.items ≡ l.initial.out.items ++ flat_map (column_bytes l.format) (take l.column-index l.columns);
-  columns : All IsColumn (take l.column-index l.columns);
-}
+invariant-loop-column l = l.out.items ≡ l.initial.out.items ++ flat_map (column_bytes l.format) (take l.column-index l.columns)
