@@ -52,5 +52,5 @@ pub fn seal_as(
         start: rows.start(),
         end,
     };
-    Sealed::make(alloc, format, partition, sequence, range, count, columns)
+    Ok(Sealed::make(format, partition, sequence, range, count, columns))
 }

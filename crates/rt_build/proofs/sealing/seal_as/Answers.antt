@@ -1,13 +1,10 @@
-use Rattle.std.proofs.Common.{◌≡◌, ℕ, ◌-◌, ◌<◌, ◌≤◌, true, List, All, Result, Ok, Err, IfOk, length, map, take, filter, refl, sym, ap, subst, ◌∙◌, arith}
+use Rattle.std.proofs.Common.{◌≡◌, ◌-◌, ◌<◌, ◌≤◌, true, All, length, map, take, filter, refl, sym, ap, subst, ◌∙◌, arith}
 use Rattle.std.proofs.lemmas.Bool.{ltb-true}
 use Rattle.std.proofs.lemmas.List.Sums.{count_by-le-length}
 use Rattle.std.proofs.lemmas.List.Elements.{All-weaker, filter_passes}
 use Rattle.rt_base.specs.declared.numbers.Offset.{Offset}
-use Rattle.rt_base.specs.declared.numbers.Partition.{Partition}
-use Rattle.rt_base.specs.declared.numbers.Sequence.{Sequence}
 use Rattle.rt_mutable.specs.Column.{Shape}
-use Rattle.rt_mutable.specs.Consuming.{Placed, Consuming, IsBetween, is_before}
-use Rattle.rt_segment.specs.Segment.{SealedSegment}
+use Rattle.rt_mutable.specs.Consuming.{Placed, IsBetween, is_before}
 use Rattle.rt_build.specs.Sealing.{IsSealOf}
 use Rattle.rt_build.proofs.Sealable.{length_sealed, shapes_sealed, names_sealed, columns_fit, rows_sealed, are_new, rows_between}
 use Rattle.rt_build.proofs.sealing.seal_as.Goals as goal
@@ -29,10 +26,6 @@ room c =
     rows_between c.args.rows.now.start c.args.end c.args.rows.now.rows c.rows_below-count.result right.ascending
     (All-weaker (IsBetween c.args.rows.now.start c.args.rows.now.end) (λ (p : Placed). c.args.rows.now.start.0 ≤ p.offset.0) (λ p h. h.0) c.args.rows.now.rows right.between)
     (within c) (below c)
-
-sealed_as : {E : Type 0} (r : Result SealedSegment E) (wanted : SealedSegment) (version : ℕ) (place : Partition) (number : Sequence) (end : Offset) (indexed : List (List ℕ)) (segment : Consuming) → IfOk r (λ made. made ≡ wanted) → IsSealOf version place number end indexed segment wanted → IfOk r (IsSealOf version place number end indexed segment)
-sealed_as (Ok made) wanted version place number end indexed segment e h = subst (IsSealOf version place number end indexed segment) (sym e) h
-sealed_as (Err refused) wanted version place number end indexed segment e h = tt
 
 pub make-requires : goal.make-requires
 make-requires c =
@@ -58,7 +51,7 @@ returns c =
     let columns = c.in_ok-columns.columns in
     let sealed = c.in_ok-columns.ensures.columns in
     let at = (goal.at.returns c).After-start in
-    sealed_as c.make.result _ c.args.format c.args.partition c.args.sequence c.args.end c.args.indexed.now s c.make.ensures (record {
+    subst (IsSealOf c.args.format c.args.partition c.args.sequence c.args.end c.args.indexed.now s) (sym c.make.ensures) (record {
       format = refl;
       partition = refl;
       sequence = refl;
