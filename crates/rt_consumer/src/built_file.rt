@@ -6,15 +6,15 @@ use rt_segment::{Sealed, encode};
 use std::alloc::{AllocError, Global};
 use std::marker::Model;
 
-/// A sealed segment with the size of its file, in bytes.
+/// A sealed segment with the bytes of its file.
 #[derive(Drop)]
 pub struct BuiltFile {
     file: Sealed,
-    size: u64,
+    bytes: Bytes,
 }
 
 impl Model for BuiltFile {
-    ghost use Rattle.std.specs.Prelude.{◌≡◌, length};
+    ghost use Rattle.std.specs.Prelude.{◌≡◌};
     ghost use Rattle.rt_segment.specs.Segment.{SealedSegment};
     ghost use Rattle.rt_segment.specs.Spelling.{file_of};
 
@@ -22,30 +22,30 @@ impl Model for BuiltFile {
 
     ghost view = { λ a. a.file };
 
-    ghost invariant = { λ a. a.size ≡ length (file_of a.file) };
+    ghost invariant = { λ a. a.bytes ≡ file_of a.file };
 }
 
 impl BuiltFile {
-    /// Measures the file of a sealed segment. Fails only where memory is refused.
+    /// Writes the file of a sealed segment. Fails only where memory is refused.
     pub fn make(alloc: Global, file: Sealed) -> Result<BuiltFile, AllocError>
         ensures { IfOk result (λ built. built ≡ file) }
     {
-        let size = file.size(alloc)?;
-        Ok(BuiltFile { file, size })
+        let bytes = Bytes::of(encode(alloc, &file)?);
+        Ok(BuiltFile { file, bytes })
     }
 
     /// The number of bytes of the file.
     pub fn size(&self) -> u64
         ensures { result ≡ length (file_of self.now) }
     {
-        self.size
+        self.bytes.len() as u64
     }
 
     /// The file's bytes. Fails only where memory is refused.
     pub fn bytes(&self, alloc: Global) -> Result<Bytes, AllocError>
         ensures { IfOk result (λ bytes. bytes ≡ file_of self.now) }
     {
-        Ok(Bytes::of(encode(alloc, &self.file)?))
+        self.bytes.copy(alloc)
     }
 
     /// The sealed segment.

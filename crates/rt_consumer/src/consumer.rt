@@ -1,6 +1,6 @@
-ghost use Rattle.std.specs.Prelude.{◌≡◌, true, IfOk};
+ghost use Rattle.std.specs.Prelude.{◌≡◌, true, IfOk, OnErr, OnOk};
 ghost use Rattle.rt_model.specs.Setup.{IsSetup};
-ghost use Rattle.rt_consumer.specs.Consumer.{IsConsumer, IsStage, IsBuilt, AreSettings, HaveColumns, started_of, cur, state_of};
+ghost use Rattle.rt_consumer.specs.Consumer.{IsConsumer, IsStage, IsBuilt, AreSettings, HaveColumns, started_of, at, cur, state_of};
 ghost use Rattle.rt_consumer.specs.Replies.{is_answer, replied, turn_by, turned};
 ghost use Rattle.rt_consumer.specs.Requests.{Does, Builds, forced, stopped, builds_at, filed, filed_at};
 
@@ -128,9 +128,10 @@ impl Consumer {
             self.sequence,
             unsealed,
         )?;
-        let file = BuiltFile::make(alloc, file)?;
         let phase = mem::replace(&mut self.phase, gone(self.start));
-        drop(mem::replace(&mut self.phase, with_file(phase, file)));
+        let (phase, filed) = with_file(alloc, phase, file);
+        drop(mem::replace(&mut self.phase, phase));
+        filed?;
         self.waited = None;
         Ok(())
     }
@@ -212,34 +213,42 @@ fn seal(
     Ok(file)
 }
 
-fn with_file(phase: Phase, file: BuiltFile) -> Phase
-    ensures { result ≡ filed phase file }
+/// A replica with its sealed rows. Where memory is refused, it is as before.
+fn with_file(alloc: Global, phase: Phase, file: Sealed) -> (Phase, Result<(), AllocError>)
+    ensures ok { OnOk result.1 (result.0 ≡ filed phase file) }
+    ensures err { OnErr result.1 (result.0 ≡ phase) }
 {
     match phase {
         Phase::Unsealed(unsealed) => {
             let Unsealed { rows, stage } = unsealed;
-            filed_at(rows, stage, file)
+            filed_at(alloc, rows, stage, file)
         }
-        phase => phase,
+        phase => (phase, Ok(())),
     }
 }
 
-/// A retaining replica is retained, and a committing one may start its commit.
-fn filed_at(rows: MutableSegment, stage: Stage, file: BuiltFile) -> Phase
-    ensures { result ≡ filed_at rows stage file }
+/// A retaining replica is retained, and a committing one may start its commit, with the file's bytes.
+fn filed_at(
+    alloc: Global,
+    rows: MutableSegment,
+    stage: Stage,
+    file: Sealed,
+) -> (Phase, Result<(), AllocError>)
+    ensures ok { OnOk result.1 (result.0 ≡ filed_at rows stage file) }
+    ensures err { OnErr result.1 (result.0 ≡ at rows stage) }
 {
     match stage {
-        Stage::Retaining(done) => Phase::Retained(CommittedFile {
-            file: file.into_file(),
-            done,
-        }),
-        Stage::Building(reason) => {
-            let stage = Stage::Starting {
-                reason,
-                built: file,
-            };
-            Phase::Unsealed(Unsealed { rows, stage })
-        }
-        stage => Phase::Unsealed(Unsealed { rows, stage }),
+        Stage::Retaining(done) => (Phase::Retained(CommittedFile { file, done }), Ok(())),
+        Stage::Building(reason) => match BuiltFile::make(alloc, file) {
+            Ok(built) => {
+                let stage = Stage::Starting { reason, built };
+                (Phase::Unsealed(Unsealed { rows, stage }), Ok(()))
+            }
+            Err(refused) => {
+                let stage = Stage::Building(reason);
+                (Phase::Unsealed(Unsealed { rows, stage }), Err(refused))
+            }
+        },
+        stage => (Phase::Unsealed(Unsealed { rows, stage }), Ok(())),
     }
 }
