@@ -38,30 +38,33 @@ pub(crate) fn file_in(
 ) -> Result<Option<Sealed>, PeerFault>
     ensures { Comes (Ok (file_in wanted bytes.now)) result }
 {
-    decoded_as(wanted, decode(alloc, bytes))
+    decoded_as(alloc, wanted, decode(alloc, bytes))
 }
 
-/// What decoded bytes are, where a file with this header is wanted.
+/// What decoded bytes are, where a file with this header is wanted. Fails only where memory is refused.
 fn decoded_as(
+    alloc: Global,
     wanted: Header,
     decoded: Result<Sealed, SegmentRefused>,
 ) -> Result<Option<Sealed>, PeerFault>
-    ensures { result ≡ decoded_as wanted decoded }
+    ensures { Comes (decoded_as wanted decoded) result }
 {
     match decoded {
-        Ok(sealed) => Ok(named_in(wanted, sealed)),
+        Ok(sealed) => named_in(alloc, wanted, sealed),
         Err(SegmentRefused::Memory) => Err(PeerFault::Memory),
         Err(_) => Ok(None),
     }
 }
 
-fn named_in(wanted: Header, sealed: Sealed) -> Option<Sealed>
-    ensures { result ≡ named_in wanted sealed }
+/// A segment, where it has this header. Fails only where memory is refused.
+fn named_in(alloc: Global, wanted: Header, sealed: Sealed) -> Result<Option<Sealed>, PeerFault>
+    ensures { Comes (Ok (named_in wanted sealed)) result }
 {
-    if same_header(sealed.header(), wanted) {
-        Some(sealed)
+    let found = sealed.header(alloc)?;
+    if same_header(found, wanted) {
+        Ok(Some(sealed))
     } else {
-        None
+        Ok(None)
     }
 }
 
