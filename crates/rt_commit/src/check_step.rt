@@ -60,7 +60,7 @@ fn header_of(alloc: Global, bytes: &[u8]) -> Result<Option<Header>, AllocError>
     ensures { IfOk result (λ header. header ≡ header_in bytes.now) }
 {
     match decode(alloc, bytes) {
-        Ok(sealed) => Ok(Some(sealed.header())),
+        Ok(sealed) => Ok(Some(sealed.header(alloc)?)),
         Err(SegmentRefused::Memory) => Err(AllocError),
         Err(SegmentRefused::Truncated) => Ok(None),
         Err(SegmentRefused::Magic) => Ok(None),
