@@ -24,23 +24,30 @@ use Rattle.rt_entry.specs.Download.{LoadsFile, LoadsOf, checked, got, header_by,
 use Rattle.rt_entry.specs.Loading.{IsGot, Loads, LoadsBy, LoadsDone, decoded_as}
 use Rattle.rt_entry.specs.Entry.{commit_in, wanted_by}
 
-got_same : (x : Result SealedSegment ServerRefused) → IsGot x x
-got_same (Ok file) = refl
-got_same (Err NotDue) = refl
-got_same (Err StoreFault) = refl
-got_same (Err (BadFile wanted found)) = refl
-got_same (Err Memory) = tt
+same_got : (step other result : Result SealedSegment ServerRefused) → other ≡ step → IsGot step result → IsGot other result
+same_got step other result e h = subst (λ x. IsGot x result) (sym e) h
 
--- what was decoded is what the bytes are, unless memory ran out
-pub decoded_is : (schema : Schema) (wanted : Header) (decoded read : Result SealedSegment SegmentRefused) → Answers (λ s. s) decoded read
-    → IsGot (checked schema wanted read) (decoded_as schema wanted decoded)
-decoded_is schema wanted (Ok file) read e = subst (λ r. IsGot (checked schema wanted r) (checked schema wanted (Ok file))) (sym e) (got_same (checked schema wanted (Ok file)))
-decoded_is schema wanted (Err segment.Truncated) read e = ap (checked schema wanted) e
-decoded_is schema wanted (Err segment.Magic) read e = ap (checked schema wanted) e
-decoded_is schema wanted (Err (segment.NotCanonical byte)) read e = ap (checked schema wanted) e
-decoded_is schema wanted (Err segment.Digest) read e = ap (checked schema wanted) e
-decoded_is schema wanted (Err segment.Limit) read e = ap (checked schema wanted) e
-decoded_is schema wanted (Err segment.Memory) read e = tt
+abbrev no_memory : Result SealedSegment ServerRefused
+no_memory = Err Memory
+
+-- where memory ran out, nothing else can have come of it
+ran_out : (step result : Result SealedSegment ServerRefused) → IsGot no_memory result → IsGot step result
+ran_out step (Ok file) h = absurd (cc)
+ran_out step (Err NotDue) h = absurd (cc)
+ran_out step (Err StoreFault) h = absurd (cc)
+ran_out step (Err (BadFile wanted found)) h = absurd (cc)
+ran_out step (Err Memory) h = tt
+
+-- what is got of decoded bytes is what is got of the bytes, unless memory ran out
+pub decoded_is : (schema : Schema) (wanted : Header) (decoded read : Result SealedSegment SegmentRefused) (result : Result SealedSegment ServerRefused)
+    → Answers (λ s. s) decoded read → IsGot (decoded_as schema wanted decoded) result → IsGot (checked schema wanted read) result
+decoded_is schema wanted (Ok file) read result e h = same_got (decoded_as schema wanted (Ok file)) (checked schema wanted read) result (ap (checked schema wanted) e) h
+decoded_is schema wanted (Err segment.Truncated) read result e h = same_got (decoded_as schema wanted (Err segment.Truncated)) (checked schema wanted read) result (ap (checked schema wanted) e) h
+decoded_is schema wanted (Err segment.Magic) read result e h = same_got (decoded_as schema wanted (Err segment.Magic)) (checked schema wanted read) result (ap (checked schema wanted) e) h
+decoded_is schema wanted (Err (segment.NotCanonical byte)) read result e h = same_got (decoded_as schema wanted (Err (segment.NotCanonical byte))) (checked schema wanted read) result (ap (checked schema wanted) e) h
+decoded_is schema wanted (Err segment.Digest) read result e h = same_got (decoded_as schema wanted (Err segment.Digest)) (checked schema wanted read) result (ap (checked schema wanted) e) h
+decoded_is schema wanted (Err segment.Limit) read result e h = same_got (decoded_as schema wanted (Err segment.Limit)) (checked schema wanted read) result (ap (checked schema wanted) e) h
+decoded_is schema wanted (Err segment.Memory) read result e h = ran_out (checked schema wanted read) result h
 
 abbrev the_loaded : SealedSegment → Result SealedSegment ServerRefused
 the_loaded file = Ok file

@@ -1,6 +1,6 @@
 //! A wanted file is loaded.
-ghost use Rattle.std.specs.Prelude.{◌≡◌};
-ghost use Rattle.rt_entry.specs.Download.{LoadsFile, got, header_by, is_right, same_header};
+ghost use Rattle.std.specs.Prelude.{◌≡◌, Ok};
+ghost use Rattle.rt_entry.specs.Download.{LoadsFile, checked, got, header_by, same_header};
 ghost use Rattle.rt_entry.specs.Loading.{EntryLoads, IsGot, Loads, LoadsDone, decoded_as};
 
 use crate::{CommittedSegment, Entry, ServerRefused};
@@ -97,7 +97,7 @@ fn got(
     ensures { IsGot (got schema.now wanted answer) result }
 {
     match answer {
-        Ok(bytes) => decoded_as(schema, wanted, decode(alloc, bytes.as_slice())),
+        Ok(bytes) => decoded_as(alloc, schema, wanted, decode(alloc, bytes.as_slice())),
         Err(DeepRefused::Failed) => Err(ServerRefused::StoreFault),
         Err(DeepRefused::Memory) => Err(ServerRefused::Memory),
         Err(_) => Err(ServerRefused::BadFile {
@@ -109,23 +109,15 @@ fn got(
 
 /// What decoded bytes are, where a file with a header and a schema's columns is wanted.
 fn decoded_as(
+    alloc: Global,
     schema: &Schema,
     wanted: Header,
     decoded: Result<Sealed, SegmentRefused>,
 ) -> Result<Sealed, ServerRefused>
-    ensures { result ≡ decoded_as schema.now wanted decoded }
+    ensures { IsGot (decoded_as schema.now wanted decoded) result }
 {
     match decoded {
-        Ok(file) => {
-            if is_right(schema, wanted, &file) {
-                Ok(file)
-            } else {
-                Err(ServerRefused::BadFile {
-                    wanted,
-                    found: Some(file.header()),
-                })
-            }
-        }
+        Ok(file) => checked(alloc, schema, wanted, file),
         Err(SegmentRefused::Memory) => Err(ServerRefused::Memory),
         Err(_) => Err(ServerRefused::BadFile {
             wanted,
@@ -134,11 +126,24 @@ fn decoded_as(
     }
 }
 
-/// Whether a file has a header and a schema's columns.
-fn is_right(schema: &Schema, wanted: Header, file: &Sealed) -> bool
-    ensures { result ≡ is_right schema.now wanted file.now }
+/// A file, where it has a header and a schema's columns.
+fn checked(
+    alloc: Global,
+    schema: &Schema,
+    wanted: Header,
+    file: Sealed,
+) -> Result<Sealed, ServerRefused>
+    ensures { IsGot (checked schema.now wanted (Ok file)) result }
 {
-    same_header(file.header(), wanted) && file.fits(schema)
+    let found = file.header(alloc)?;
+    if same_header(found, wanted) && file.fits(schema) {
+        Ok(file)
+    } else {
+        Err(ServerRefused::BadFile {
+            wanted,
+            found: Some(found),
+        })
+    }
 }
 
 fn same_header(found: Header, wanted: Header) -> bool
