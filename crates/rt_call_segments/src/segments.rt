@@ -26,20 +26,25 @@ fn read(
     answer: &mut Answer,
 ) -> Result<(), Stop> {
     match decode(alloc, bytes) {
-        Ok(sealed) => keep(segments, sealed, answer),
+        Ok(sealed) => keep(alloc, segments, sealed, answer),
         Err(refused) => refuse(refused, answer),
     }
 }
 
-fn keep(segments: &mut HeldSegments, sealed: Sealed, answer: &mut Answer) -> Result<(), Stop> {
-    write_header(&sealed, answer);
+fn keep(
+    alloc: Global,
+    segments: &mut HeldSegments,
+    sealed: Sealed,
+    answer: &mut Answer,
+) -> Result<(), Stop> {
+    write_header(alloc, &sealed, answer)?;
     answer.written()?;
     segments.sealed = Some(sealed);
     Ok(())
 }
 
-fn write_header(sealed: &Sealed, answer: &mut Answer) {
-    let header = sealed.header();
+fn write_header(alloc: Global, sealed: &Sealed, answer: &mut Answer) -> Result<(), Stop> {
+    let header = sealed.header(alloc)?;
     answer.add("ok ");
     answer.count(u32::from(sealed.format()));
     answer.add(" ");
@@ -52,6 +57,7 @@ fn write_header(sealed: &Sealed, answer: &mut Answer) {
     answer.number(header.range.end.0);
     answer.add(" ");
     answer.count(header.rows);
+    Ok(())
 }
 
 fn refuse(refused: SegmentRefused, answer: &mut Answer) -> Result<(), Stop> {
@@ -113,7 +119,7 @@ fn upgrade(
 ) -> Result<(), Stop> {
     words.ended()?;
     let upgraded = segments.sealed()?.upgrade(alloc)?;
-    keep(segments, upgraded, answer)
+    keep(alloc, segments, upgraded, answer)
 }
 
 // `reread`: what its file is read as.
@@ -248,5 +254,5 @@ fn seal(
         indexed,
     };
     let sealed = sealing.seal(alloc, segments.consuming()?)?;
-    keep(segments, sealed, answer)
+    keep(alloc, segments, sealed, answer)
 }
