@@ -179,10 +179,10 @@ impl<T: Hash> Hash for Items<T> {
 
 impl<T: Copied> Copied for Items<T> {
     fn copied(&self, alloc: Global) -> Result<Self, AllocError> {
-        let mut copies = Items::new(alloc);
+        let mut copies = Vec::with_capacity(alloc, self.len())?;
         for item in self.as_slice() {
             copies.push(item.copied(alloc)?)?;
         }
-        Ok(copies)
+        Ok(Items::of(copies))
     }
 }

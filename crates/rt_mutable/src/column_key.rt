@@ -8,6 +8,9 @@ use rt_lists::Text;
 use std::alloc::{AllocError, Global};
 use std::hash::Hash;
 
+/// The number of distinct values that the first one makes room for.
+const FIRST_KEYS: usize = 64;
+
 /// A value that a column can hold: a key of dictionaries, which a hash finds again.
 pub trait ColumnKey: Key + Eq + Hash {
     /// The id of a key, which goes last where it is new. Where memory is refused, all is as before.
@@ -66,6 +69,9 @@ fn inserted<K: Key + Eq + Hash>(keys: &mut IndexSet<K>, key: K) -> Result<usize,
     ensures id { IfOk result (λ id. id ≡ id_among K.eq keys.old.keys key) }
     ensures err { OnErr result (keys.new.keys ≡ keys.old.keys) }
 {
+    if keys.is_empty() {
+        keys.reserve(FIRST_KEYS)?;
+    }
     let (id, _) = keys.insert_full(key)?;
     Ok(id)
 }

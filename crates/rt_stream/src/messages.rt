@@ -88,6 +88,14 @@ impl Messages {
         Ok(())
     }
 
+    /// Makes room for as many messages and bytes more as others have. Where memory runs out, all is as before.
+    pub(crate) fn reserve_as(&mut self, others: &Messages) -> Result<(), AllocError>
+        ensures { self.new ≡ self.old }
+    {
+        self.ends.reserve(others.ends.len())?;
+        self.bytes.reserve(others.bytes.len())
+    }
+
     /// Gives back the room that no message takes. Where memory runs out, all is as before.
     pub(crate) fn compact(&mut self, alloc: Global) -> Result<(), AllocError>
         ensures { self.new ≡ self.old }

@@ -62,6 +62,7 @@ impl PartitionLog {
             return Err(AllocError);
         }
         let mut page = Messages::new(alloc);
+        page.reserve_as(&self.last)?;
         page.push(message)?;
         self.full.reserve(1)?;
         self.last.compact(alloc)?;

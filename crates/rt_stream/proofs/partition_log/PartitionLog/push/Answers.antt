@@ -8,7 +8,7 @@ invariant_of-self-2 c =
     let compact : length c.compact.new.self ≡ 256 = ap length c.compact.ensures ∙ size in
     let one : length c.replace-full.new.dest ≡ 1 =
     ap length (c.replace-full.ensures.after ∙ c.in_ok-push.ensures.ok
-    ∙ ap (λ messages. messages ++ c.args.message.now ∷ []) c.new-page.ensures) in (
+    ∙ ap (λ messages. messages ++ c.args.message.now ∷ []) (c.reserve_as.ensures ∙ c.new-page.ensures)) in (
       rw (
         c.push_reserved.ensures.items,
         c.in_ok-reserve.ensures.items,
