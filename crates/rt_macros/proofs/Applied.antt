@@ -1,10 +1,16 @@
 -- An event of a world, as what comes of one thing.
-use Rattle.std.proofs.Common.{Result, Ok, Err, ap, ◌∙◌}
+use Rattle.std.proofs.Common.{ℕ, List, Result, Ok, Err, ap, ◌∙◌, tt}
+use Rattle.rt_base.specs.declared.numbers.Offset.{Offset}
+use Rattle.rt_base.specs.declared.numbers.Partition.{Partition}
 use Rattle.rt_events.specs.declared.event.Event.{Event}
 use Rattle.rt_events.specs.declared.outcome.Outcome.{Outcome}
+use Rattle.rt_events.specs.declared.outcome.Outcome.TheVariants as told
 use Rattle.rt_events.specs.declared.refusal.Refusal.{Refusal}
 use Rattle.rt_events.specs.declared.refusal.Refusal.TheVariants.{NoSuchMessage, NoSuchNode, NodeDown, NothingToDo, Limit, Memory}
-use Rattle.rt_macros.specs.Doing.{Does, Happens}
+use Rattle.rt_events.specs.declared.event.Event.TheVariants.{Produce}
+use Rattle.rt_macros.specs.Doing.{Does, Gives, Happens, Passed}
+use Rattle.rt_macros.proofs.Doing.{does_refused, does_told}
+use Rattle.rt_state.specs.Stream.{offset_told}
 use Rattle.rt_world.specs.Kept.{Kept}
 use Rattle.rt_world.specs.Step.{StepsKept}
 
@@ -16,3 +22,15 @@ event_happens old new event (Err NoSuchNode) came = (ap (λ k. k.spent) came.2 �
 event_happens old new event (Err NodeDown) came = (ap (λ k. k.spent) came.2 ∙ came.0, record { by = (came.1, ap (λ k. k.state) came.2) })
 event_happens old new event (Err NothingToDo) came = (ap (λ k. k.spent) came.2 ∙ came.0, record { by = (came.1, ap (λ k. k.state) came.2) })
 event_happens old new event (Err (Limit which)) came = (ap (λ k. k.spent) came.2 ∙ came.0, record { by = (came.1, ap (λ k. k.state) came.2) })
+
+-- a message that came
+pub message_comes : (old new : Kept) (partition : Partition) (message : List ℕ) (offset : Offset) → StepsKept old (Produce partition message) new (offset_told (Ok offset))
+    → Does (Passed (Produce partition message) old.state) new (Ok tt)
+message_comes old new partition message offset came =
+    does_told (Happens (Produce partition message)) (λ outcome. tt) old.state new (told.Produced offset) (event_happens old new (Produce partition message) (offset_told (Ok offset)) came)
+
+-- one that didn't
+pub message_refused : (old new : Kept) (partition : Partition) (message : List ℕ) (refusal : Refusal) → StepsKept old (Produce partition message) new (offset_told (Err refusal))
+    → Does (Passed (Produce partition message) old.state) new (Err refusal)
+message_refused old new partition message refusal came =
+    does_refused (Happens (Produce partition message)) (λ outcome. Gives tt) old.state new refusal (event_happens old new (Produce partition message) (offset_told (Err refusal)) came)

@@ -1,8 +1,11 @@
 ghost use Rattle.std.specs.Prelude.{◌≡◌, false};
 ghost use Rattle.rt_events.specs.Fits.{Fits};
+ghost use Rattle.rt_events.specs.declared.event.Event.TheVariants.{Produce};
 ghost use Rattle.rt_macros.specs.Doing.{Attempted, Does, Happens, Passed};
 ghost use Rattle.rt_macros.specs.Doing.{PassesOver};
 
+use rt_base::Partition;
+use rt_lists::Bytes;
 use rt_world::{Event, Outcome, Refusal, World};
 use std::alloc::Global;
 
@@ -42,19 +45,29 @@ pub fn happen(alloc: Global, world: &mut World, event: Event) -> Result<(), Refu
     requires fits { Fits world.old.state.setup.schema event }
     ensures { Does (Passed event world.old.state) world.new result }
 {
-    happen_as(alloc, world, &event)
+    match act(alloc, world, event) {
+        Ok(outcome) => {
+            drop(outcome);
+            Ok(())
+        }
+        Err(refusal) => Err(refusal),
+    }
 }
 
-/// The same for an event that the caller keeps.
-pub fn happen_as(alloc: Global, world: &mut World, event: &Event) -> Result<(), Refusal>
-    requires unspent { world.old.spent ≡ false }
-    requires fits { Fits world.old.state.setup.schema event.now }
-    ensures { Does (Passed event.now world.old.state) world.new result }
+/// Has a message come to a partition.
+#[tactic(auto, using(crate::proofs::Applied::message_comes, crate::proofs::Applied::message_refused))]
+pub fn produce(
+    alloc: Global,
+    world: &mut World,
+    partition: Partition,
+    message: &Bytes,
+) -> Result<(), Refusal>
+    requires { world.old.spent ≡ false }
+    ensures { Does (Passed (Produce partition message.now) world.old.state) world.new result }
 {
-    let happened = apply(alloc, world, event);
-    match &happened {
-        Ok(_) => Ok(()),
-        Err(refusal) => Err(*refusal),
+    match world.produce(alloc, partition, message) {
+        Ok(_offset) => Ok(()),
+        Err(refusal) => Err(refusal),
     }
 }
 

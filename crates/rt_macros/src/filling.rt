@@ -2,10 +2,10 @@ ghost use Rattle.std.specs.Prelude.{◌≡◌, false, IfOk};
 ghost use Rattle.rt_macros.specs.Doing.{Does, EachFrom};
 ghost use Rattle.rt_macros.specs.Filling.{Fills, FillsOne, numbered_text};
 
-use crate::acting::happen;
+use crate::acting::produce;
 use rt_base::{Offset, Partition};
 use rt_lists::Bytes;
-use rt_world::{Event, Refusal, World};
+use rt_world::{Refusal, World};
 use std::alloc::{AllocError, Global};
 
 /// Has so many numbered messages come to a partition, and tells its length behind them.
@@ -57,7 +57,7 @@ fn fill_one(alloc: Global, world: &mut World, partition: Partition) -> Result<()
 {
     let offset = world.length(partition);
     let message = numbered_text(alloc, offset)?;
-    happen(alloc, world, Event::Produce { partition, message })
+    produce(alloc, world, partition, &message)
 }
 
 fn numbered_text(alloc: Global, offset: Offset) -> Result<Bytes, AllocError>

@@ -12,7 +12,7 @@ mod querying;
 mod resting;
 mod settling;
 
-pub use acting::{act, apply, attempt, happen, happen_as, pass};
+pub use acting::{act, apply, attempt, happen, pass, produce};
 pub use exchanging::{Exchanged, exchange};
 pub use filling::fill;
 pub use outcomes::{Delivered, Replied};

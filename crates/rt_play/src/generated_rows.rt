@@ -7,8 +7,8 @@ use crate::generating::Generated;
 use itoa::Buffer;
 use rt_base::Partition;
 use rt_lists::Bytes;
-use rt_macros::happen_as;
-use rt_world::{Event, Refusal, World};
+use rt_macros::produce;
+use rt_world::{Refusal, World};
 use std::alloc::{AllocError, Global};
 use std::mem;
 
@@ -53,25 +53,10 @@ fn produce_row(
     ensures { Does (ProducesRow partitions at x world.old.state) world.new result }
 {
     let next = next_number(x);
-    let produce = Event::Produce {
-        partition: partition_of(at, partitions),
-        message: row_text(alloc, next, spare)?,
-    };
-    let produced = happen_as(alloc, world, &produce);
-    *spare = message_of(alloc, produce);
-    produced?;
+    let message = row_text(alloc, next, spare)?;
+    produce(alloc, world, partition_of(at, partitions), &message)?;
+    *spare = message;
     Ok(next)
-}
-
-// The message of an event that has one.
-fn message_of(alloc: Global, event: Event) -> Bytes {
-    match event {
-        Event::Produce { message, .. } => message,
-        other => {
-            drop(other);
-            Bytes::new(alloc)
-        }
-    }
 }
 
 // The partition of a row's place.

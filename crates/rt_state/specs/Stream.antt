@@ -1,6 +1,9 @@
 -- A message comes to the end of a partition.
-use Rattle.std.specs.Prelude.{ℕ, List, length}
+use Rattle.std.specs.Prelude.{ℕ, List, Result, Ok, Err, length}
+use Rattle.rt_base.specs.declared.numbers.Offset.{Offset}
 use Rattle.rt_base.specs.declared.numbers.Partition.{Partition}
+use Rattle.rt_events.specs.declared.outcome.Outcome.{Outcome}
+use Rattle.rt_events.specs.declared.refusal.Refusal.{Refusal}
 use Rattle.rt_events.specs.declared.refusal.Refusal.TheVariants.{NoSuchNode}
 use Rattle.rt_stream.specs.Log.{messages_of, with_message, end_of}
 use Rattle.rt_state.specs.Applying.{Next}
@@ -16,3 +19,8 @@ produce_due w p message = only_if (has_partition w p) NoSuchNode (priced w (mess
 abbrev pub produced : State → Partition → List ℕ → Cost → Next
 produced w p message cost =
     (counted (record w { log = with_message w.log p message }) cost, told.Produced (end_of (messages_of w.log p)))
+
+-- the outcome that says a message's offset
+abbrev pub offset_told : Result Offset Refusal → Result Outcome Refusal
+offset_told (Ok offset) = Ok (told.Produced offset)
+offset_told (Err refusal) = Err refusal

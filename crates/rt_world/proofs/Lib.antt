@@ -13,6 +13,7 @@ pub mod KeepsRequests
 pub mod KeepsServers
 pub mod KeepsStream
 pub mod Places
+pub mod Producing
 pub mod Quiet
 pub mod Refusing
 pub mod Resting

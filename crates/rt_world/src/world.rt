@@ -2,13 +2,17 @@
 ghost use Rattle.std.specs.Prelude.{Err, ◌≡◌, false, IfOk, IsTrue, IsFalse};
 ghost use Rattle.rt_model.specs.Setup.{IsSetup};
 ghost use Rattle.rt_events.specs.Fits.{Fits};
+ghost use Rattle.rt_events.specs.declared.event.Event.TheVariants.{Produce};
 ghost use Rattle.rt_state.specs.Start.{start};
+ghost use Rattle.rt_state.specs.Stream.{offset_told};
 ghost use Rattle.rt_world.specs.Step.{due_of, PassesKept, StepsKept};
 
 mod reading;
 
 use crate::applying::{apply, due};
+use rt_base::{Offset, Partition};
 use rt_events::{Event, Outcome, Refusal};
+use rt_lists::Bytes;
 use rt_model::Setup;
 use rt_state::State;
 use std::alloc::{AllocError, Global};
@@ -97,10 +101,30 @@ impl World {
         }
         came
     }
+
+    /// Has a message come to a partition, and answers its offset: the outcome that `apply` gives of the event that says so.
+    #[tactic(auto, using(crate::proofs::Producing::kept_told, crate::proofs::Ending::kept_spent))]
+    pub fn produce(
+        &mut self,
+        alloc: Global,
+        partition: Partition,
+        message: &Bytes,
+    ) -> Result<Offset, Refusal>
+        ensures step { StepsKept self.old (Produce partition message.now) self.new (offset_told result) }
+    {
+        if self.spent {
+            return Err(Refusal::Memory);
+        }
+        let came = self.state.append(alloc, partition, message);
+        if ran_out(&came) {
+            self.spent = true;
+        }
+        came
+    }
 }
 
-/// Whether memory ran out at an event.
-fn ran_out(came: &Result<Outcome, Refusal>) -> bool
+/// Whether memory ran out.
+fn ran_out<T>(came: &Result<T, Refusal>) -> bool
     ensures yes { IsTrue result → came.now ≡ Err Refusal.Memory }
     ensures no { IsFalse result → came.now ≡ Err Refusal.Memory → ⊥ }
 {
