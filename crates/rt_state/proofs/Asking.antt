@@ -1,5 +1,5 @@
 -- How a world goes on where one of its queries was routed, asked or answered.
-use Rattle.std.proofs.Common.{◌≡◌, ℕ, slice_get, slice_set, Some, Ok, refl, sym, ap, subst, ◌∙◌}
+use Rattle.std.proofs.Common.{◌≡◌, ℕ, slice_get, slice_set, Option, Some, None, Ok, refl, sym, ap, subst, ◌∙◌}
 use Rattle.rt_base.specs.declared.numbers.Instance.{Instance}
 use Rattle.rt_base.specs.declared.numbers.Partition.{Partition}
 use Rattle.rt_base.specs.declared.numbers.Sequence.{Sequence}
@@ -14,8 +14,9 @@ use Rattle.rt_store.specs.Meaning.{Told}
 use Rattle.rt_state.specs.Applying.{Next}
 use Rattle.rt_state.specs.Finding.{query_at, query_in}
 use Rattle.rt_state.specs.Queries.{Answers, AnswersAt, GivesPiece, IsAnswerOf, Pieces, PiecesAt, PiecesOf, QueryRoutes, Routes, RoutesAt, closed, piece_outcome, with_query}
-use Rattle.rt_state.specs.Room.{counted}
+use Rattle.rt_state.specs.Room.{counted, spent, with_query_closed}
 use Rattle.rt_state.specs.declared.cost.Cost.{Cost}
+use Rattle.rt_state.specs.declared.counts.Counts.{Counts}
 use Rattle.rt_state.specs.declared.state.State.{State}
 
 pub query_stands : (w : State) (q : ℕ) (a : Asking) → slice_get w.queries q ≡ Some (Some a) → query_at w q ≡ Some a
@@ -42,7 +43,11 @@ piece_noted w q p s i cost a new piece what found g notes =
     (subst (λ o. PiecesOf o (slice_get w.servers i.0) g.asked w q i cost next) (sym g.planned)
     (subst (λ o. PiecesOf (Some piece) o g.asked w q i cost next) (sym g.stands) (new, what, g.gives, noted, refl)))
 
-pub query_answered : (w : State) (q : ℕ) (cost : Cost) (a : Asking) (answer : Answer) → query_at w q ≡ Some a → IsAnswerOf a answer
-    → Answers w q cost (closed w q cost, told.Answered answer)
-query_answered w q cost a answer found h =
-    subst (λ o. AnswersAt o w q cost (closed w q cost, told.Answered answer)) (sym found) (answer, h, refl)
+pub query_answered : (w : State) (q : ℕ) (cost : Cost) (a : Asking) (answer : Answer) (left : Option Asking) (closing counts : Counts)
+    → query_at w q ≡ Some a → IsAnswerOf a answer → left ≡ None → closing ≡ with_query_closed w.counts → counts ≡ spent closing cost
+    → Answers w q cost (record w { queries = slice_set w.queries q left; counts = counts }, told.Answered answer)
+query_answered w q cost a answer left closing counts found h none closes spends =
+    let by : Option Asking → Counts → Type 0 = λ o k. Answers w q cost (record w { queries = slice_set w.queries q o; counts = k }, told.Answered answer) in
+    subst (λ o. by o counts) (sym none)
+    (subst (by None) (sym (spends ∙ ap (λ (k : Counts). spent k cost) closes))
+    (subst (λ o. AnswersAt o w q cost (closed w q cost, told.Answered answer)) (sym found) (answer, h, refl)))

@@ -1,16 +1,17 @@
 -- How a world goes on where one of its servers took a step, in the words of the step.
-use Rattle.std.proofs.Common.{◌≡◌, length, slice_get, slice_set, Some, refl, sym, subst}
+use Rattle.std.proofs.Common.{◌≡◌, slice_get, slice_set, Some, refl, sym, subst}
 use Rattle.rt_base.specs.declared.numbers.Instance.{Instance}
 use Rattle.rt_deep.specs.Meaning.{Told as ToldDeep}
 use Rattle.rt_events.specs.declared.outcome.Outcome.{Outcome}
-use Rattle.rt_events.specs.declared.outcome.Outcome.TheVariants as told
 use Rattle.rt_model.specs.declared.request.Request.{Request}
 use Rattle.rt_store.specs.Meaning.{Told}
 use Rattle.rt_stream.specs.Log.{Log}
+use Rattle.rt_state.specs.Applying.{Next}
 use Rattle.rt_state.specs.Nodes.{ServerCalls, ServerCallsAt, ServerDoes, ServerDoesAt, ServerFetches, ServerFetchesAt, ServerGets, ServerGetsAt, ServerStep, with_server}
 use Rattle.rt_state.specs.Requests.{AskStep, SendsAt, SendsRequest, sends}
-use Rattle.rt_state.specs.Room.{counted}
+use Rattle.rt_state.specs.Room.{counted, spent}
 use Rattle.rt_state.specs.declared.cost.Cost.{Cost}
+use Rattle.rt_state.specs.declared.counts.Counts.{Counts}
 use Rattle.rt_nodes.specs.declared.server_node.ServerNode.{ServerNode}
 use Rattle.rt_state.specs.declared.state.State.{State}
 
@@ -37,8 +38,11 @@ module _ (w : State) (i : Instance) (cost : Cost) (old new : ServerNode) (found 
       subst (λ o. ServerFetchesAt o w i does cost (counted (record w { servers = slice_set w.servers i.0 new; log = log }) cost, outcome)) (sym found)
       (new, log, d, refl)
 
-  pub server_asks : (asks : AskStep) (request : Request) → asks old new request
-      → SendsRequest w i asks cost (counted (sends (with_server w i new) request).0 cost, told.Sent (length w.sent) request)
-  server_asks asks request a =
-      subst (λ o. SendsAt o w i asks cost (counted (sends (with_server w i new) request).0 cost, told.Sent (length w.sent) request)) (sym found)
-      (new, request, a, refl)
+  pub server_asks : (asks : AskStep) (request : Request) (s : State) (outcome : Outcome) (counts : Counts) → asks old new request
+      → (s, outcome) ≡ sends (with_server w i new) request → counts ≡ spent s.counts cost
+      → SendsRequest w i asks cost (record s { counts = counts }, outcome)
+  server_asks asks request s outcome counts a sent spends =
+      let x : Next = sends (with_server w i new) request in
+      subst (λ k. SendsRequest w i asks cost (record s { counts = k }, outcome)) (sym spends)
+      (subst (λ (y : Next). SendsRequest w i asks cost (counted y.0 cost, y.1)) (sym sent)
+      (subst (λ o. SendsAt o w i asks cost (counted x.0 cost, x.1)) (sym found) (new, request, a, refl)))

@@ -89,12 +89,15 @@ repairs_by w c p cost node new store did None h = absurd h
 repairs_by w c p cost node new store did (Some u) (v, k, e) =
     (v, store, did, k, ap (λ (n : ControllerNode). (after_node w c n store cost, told.Repaired did)) e)
 
-pub node_repaired : (w : State) (c : ControllerId) (p : Partition) (cost : Cost) (node new : ControllerNode) (store : Told) (did : RepairStep)
+pub node_repaired : (w : State) (c : ControllerId) (p : Partition) (cost : Cost) (node new : ControllerNode) (store : Told) (did : RepairStep) (noted counts : Counts)
     → slice_get w.controllers c.0 ≡ Some node → NodeRepairs w.setup p w.moment w.store store node new did
-    → Repairs w c p cost (after_node w c new store cost, told.Repaired did)
-node_repaired w c p cost node new store did found h =
-    subst (λ o. RepairsAt o (upkeep_in o p) w c p cost (after_node w c new store cost, told.Repaired did)) (sym found)
-    (repairs_by w c p cost node new store did (slice_get node.upkeep p.0) h)
+    → noted ≡ with_set w.counts cost (length w.store.writes) (length store.writes) → counts ≡ spent noted cost
+    → Repairs w c p cost (record w { controllers = slice_set w.controllers c.0 new; store = store; counts = counts }, told.Repaired did)
+node_repaired w c p cost node new store did noted counts found h notes spends =
+    let by : Counts → Type 0 = λ k. Repairs w c p cost (record w { controllers = slice_set w.controllers c.0 new; store = store; counts = k }, told.Repaired did) in
+    subst by (sym (spends ∙ ap (λ (k : Counts). spent k cost) notes))
+    (subst (λ o. RepairsAt o (upkeep_in o p) w c p cost (after_node w c new store cost, told.Repaired did)) (sym found)
+    (repairs_by w c p cost node new store did (slice_get node.upkeep p.0) h))
 
 retires_by : (w : State) (c : ControllerId) (p : Partition) (cost : Cost) (node new : ControllerNode) (store : Told) (did : RetireStep) (o : Option Upkeep)
     → NodeRetiresAt o w.setup p w.moment w.store store node new did
@@ -103,9 +106,12 @@ retires_by w c p cost node new store did None h = absurd h
 retires_by w c p cost node new store did (Some u) (v, k, e) =
     (v, store, did, k, ap (λ (n : ControllerNode). (after_node w c n store cost, told.Retired did)) e)
 
-pub node_retired : (w : State) (c : ControllerId) (p : Partition) (cost : Cost) (node new : ControllerNode) (store : Told) (did : RetireStep)
+pub node_retired : (w : State) (c : ControllerId) (p : Partition) (cost : Cost) (node new : ControllerNode) (store : Told) (did : RetireStep) (noted counts : Counts)
     → slice_get w.controllers c.0 ≡ Some node → NodeRetires w.setup p w.moment w.store store node new did
-    → Retires w c p cost (after_node w c new store cost, told.Retired did)
-node_retired w c p cost node new store did found h =
-    subst (λ o. RetiresAt o (upkeep_in o p) w c p cost (after_node w c new store cost, told.Retired did)) (sym found)
-    (retires_by w c p cost node new store did (slice_get node.upkeep p.0) h)
+    → noted ≡ with_set w.counts cost (length w.store.writes) (length store.writes) → counts ≡ spent noted cost
+    → Retires w c p cost (record w { controllers = slice_set w.controllers c.0 new; store = store; counts = counts }, told.Retired did)
+node_retired w c p cost node new store did noted counts found h notes spends =
+    let by : Counts → Type 0 = λ k. Retires w c p cost (record w { controllers = slice_set w.controllers c.0 new; store = store; counts = k }, told.Retired did) in
+    subst by (sym (spends ∙ ap (λ (k : Counts). spent k cost) notes))
+    (subst (λ o. RetiresAt o (upkeep_in o p) w c p cost (after_node w c new store cost, told.Retired did)) (sym found)
+    (retires_by w c p cost node new store did (slice_get node.upkeep p.0) h))

@@ -1,5 +1,6 @@
 //! The jobs of controllers, step by step.
 ghost use Rattle.std.specs.Prelude.{◌≡◌, ◌≤◌, true, length, slice_get, IfOk, OnOk, Some};
+ghost use Rattle.rt_events.specs.declared.outcome.Outcome.TheVariants.{Stepped};
 ghost use Rattle.rt_base.specs.declared.limits.TheConstants.{LAST_MOMENT};
 ghost use Rattle.rt_model.specs.Starting.{Starting};
 ghost use Rattle.rt_controller.specs.IsController.{IsController};
@@ -103,35 +104,25 @@ impl State {
     fn job_outcome(&mut self, alloc: Global, step: JobStep) -> Result<Outcome, AllocError>
         ensures { IfOk result (λ outcome. (self.new, outcome) ≡ job_told self.old step) }
     {
-        let JobStep {
-            step,
-            outcome,
-            reply,
-        } = step;
-        match reply {
+        match self.keep_last(alloc, &step) {
+            Ok(message) => Ok(Outcome::Stepped { step, message }),
+            Err(refused) => {
+                drop(step);
+                Err(refused)
+            }
+        }
+    }
+
+    /// Keeps a copy of the reply of a step that has one, and gives its number.
+    fn keep_last(&mut self, alloc: Global, step: &JobStep) -> Result<Option<u64>, AllocError>
+        ensures { IfOk result (λ message. (self.new, Stepped step.now message) ≡ job_told self.old step.now) }
+    {
+        match &step.reply {
             Some(reply) => {
-                let (message, reply) = self.answer_with(alloc, reply)?;
-                let step = JobStep {
-                    step,
-                    outcome,
-                    reply: Some(reply),
-                };
-                Ok(Outcome::Stepped {
-                    step,
-                    message: Some(message),
-                })
+                let message = self.keep_reply(alloc, reply)?;
+                Ok(Some(message))
             }
-            None => {
-                let step = JobStep {
-                    step,
-                    outcome,
-                    reply: None,
-                };
-                Ok(Outcome::Stepped {
-                    step,
-                    message: None,
-                })
-            }
+            None => Ok(None),
         }
     }
 }

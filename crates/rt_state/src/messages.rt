@@ -56,10 +56,13 @@ impl State {
         ensures counts { OnOk result (self.new.counts ≡ self.old.counts) }
     {
         match handled {
-            Handled::Reply(reply) => {
-                let (message, reply) = self.answer_with(alloc, reply)?;
-                Ok(Outcome::Replied { message, reply })
-            }
+            Handled::Reply(reply) => match self.keep_reply(alloc, &reply) {
+                Ok(message) => Ok(Outcome::Replied { message, reply }),
+                Err(refused) => {
+                    drop(reply);
+                    Err(refused)
+                }
+            },
             Handled::Job(job) => Ok(Outcome::Started { job }),
         }
     }
@@ -85,18 +88,14 @@ impl State {
         node.controller.on_request(alloc, request, self.moment, &mut self.store, &mut self.deep)
     }
 
-    /// Keeps a reply among the messages, and tells it with its number.
-    pub(crate) fn answer_with(
-        &mut self,
-        alloc: Global,
-        reply: Reply,
-    ) -> Result<(u64, Reply), AllocError>
-        ensures { IfOk result (λ told. (self.new, told) ≡ answers self.old reply) }
+    /// Keeps a copy of a reply among the messages, and gives its number.
+    pub(crate) fn keep_reply(&mut self, alloc: Global, reply: &Reply) -> Result<u64, AllocError>
+        ensures { IfOk result (λ message. (self.new, (message, reply.now)) ≡ answers self.old reply.now) }
     {
-        let told = reply.copied(alloc)?;
+        let kept = reply.copied(alloc)?;
         let message = self.sent.len() as u64;
-        self.sent.push(Sent::Reply(reply))?;
-        Ok((message, told))
+        self.sent.push(Sent::Reply(kept))?;
+        Ok(message)
     }
 
     /// What it costs that a server takes a reply, or why that can't happen now. Takes no memory.

@@ -131,9 +131,16 @@ impl State {
         let Some(asked) = self.queries.at_mut(query as usize) else {
             unreachable!()
         };
-        note_answer(asked, piece, instance, got)?;
-        self.counts.spend(cost);
-        Ok(outcome)
+        match note_answer(asked, piece, instance, got) {
+            Ok(()) => {
+                self.counts.spend(cost);
+                Ok(outcome)
+            }
+            Err(_) => {
+                drop(outcome);
+                Err(Refusal::Memory)
+            }
+        }
     }
 
     /// The piece of a segment in a query's plan, and what a server gives for it.
@@ -185,7 +192,7 @@ impl State {
     {
         let cost = self.answer_due(query)?;
         let answer = self.answer_of(alloc, query)?;
-        *self.queries.at_mut(query as usize) = None;
+        drop(self.queries.at_mut(query as usize).take());
         self.counts.close_query();
         self.counts.spend(cost);
         Ok(Outcome::Answered(answer))

@@ -100,10 +100,15 @@ impl State {
     {
         let told = request.copied(alloc)?;
         let message = self.sent.len() as u64;
-        self.sent.push(Sent::Request(request))?;
-        Ok(Outcome::Sent {
-            message,
-            request: told,
-        })
+        match self.sent.push(Sent::Request(request)) {
+            Ok(()) => Ok(Outcome::Sent {
+                message,
+                request: told,
+            }),
+            Err(refused) => {
+                drop(told);
+                Err(refused)
+            }
+        }
     }
 }
