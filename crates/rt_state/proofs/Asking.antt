@@ -34,14 +34,17 @@ the_query a b e = cc
 
 pub piece_noted : (w : State) (q : ℕ) (p : Partition) (s : Sequence) (i : Instance) (cost : Cost) (a new : Asking) (piece : Piece) (what : PieceGot)
     → slice_get w.queries q ≡ Some (Some a) → GivesPiece w q p s i piece what → Notes a piece i what new (Ok tt)
-    → Pieces w q p s i cost (counted (with_query w q (Some new)) cost, piece_outcome what)
-piece_noted w q p s i cost a new piece what found g notes =
+    → (outcome : Outcome) (counts : Counts) → outcome ≡ piece_outcome what → counts ≡ spent w.counts cost
+    → Pieces w q p s i cost (record w { queries = slice_set w.queries q (Some new); counts = counts }, outcome)
+piece_noted w q p s i cost a new piece what found g notes outcome counts tells spends =
     let next : Next = (counted (with_query w q (Some new)) cost, piece_outcome what) in
     let same : g.asked ≡ a = the_query g.asked a (sym g.there ∙ query_stands w q a found) in
     let noted = subst (λ b. Notes b piece i what new (Ok tt)) (sym same) notes in
-    subst (λ o. PiecesAt o w q p s i cost next) (sym g.there)
+    let by : Counts → Outcome → Type 0 = λ k o. Pieces w q p s i cost (record w { queries = slice_set w.queries q (Some new); counts = k }, o) in
+    subst (by counts) (sym tells) (subst (λ k. by k (piece_outcome what)) (sym spends)
+    (subst (λ o. PiecesAt o w q p s i cost next) (sym g.there)
     (subst (λ o. PiecesOf o (slice_get w.servers i.0) g.asked w q i cost next) (sym g.planned)
-    (subst (λ o. PiecesOf (Some piece) o g.asked w q i cost next) (sym g.stands) (new, what, g.gives, noted, refl)))
+    (subst (λ o. PiecesOf (Some piece) o g.asked w q i cost next) (sym g.stands) (new, what, g.gives, noted, refl)))))
 
 pub query_answered : (w : State) (q : ℕ) (cost : Cost) (a : Asking) (answer : Answer) (left : Option Asking) (closing counts : Counts)
     → query_at w q ≡ Some a → IsAnswerOf a answer → left ≡ None → closing ≡ with_query_closed w.counts → counts ≡ spent closing cost

@@ -20,23 +20,26 @@ module _ (w : State) (i : Instance) (cost : Cost) (old new : ServerNode) (found 
   server_does does outcome d =
       subst (λ o. ServerDoesAt o w i does cost (counted (with_server w i new) cost, outcome)) (sym found) (new, d, refl)
 
-  pub server_calls : (does : Told → Told → ServerStep) (store : Told) (outcome : Outcome) → does w.store store old new outcome
-      → ServerCalls w i does cost (counted (record w { servers = slice_set w.servers i.0 new; store = store }) cost, outcome)
-  server_calls does store outcome d =
-      subst (λ o. ServerCallsAt o w i does cost (counted (record w { servers = slice_set w.servers i.0 new; store = store }) cost, outcome)) (sym found)
-      (new, store, d, refl)
+  pub server_calls : (does : Told → Told → ServerStep) (store : Told) (outcome : Outcome) (counts : Counts) → does w.store store old new outcome
+      → counts ≡ spent w.counts cost → ServerCalls w i does cost (record w { servers = slice_set w.servers i.0 new; store = store; counts = counts }, outcome)
+  server_calls does store outcome counts d spends =
+      subst (λ k. ServerCalls w i does cost (record w { servers = slice_set w.servers i.0 new; store = store; counts = k }, outcome)) (sym spends)
+      (subst (λ o. ServerCallsAt o w i does cost (counted (record w { servers = slice_set w.servers i.0 new; store = store }) cost, outcome)) (sym found)
+      (new, store, d, refl))
 
-  pub server_gets : (does : ToldDeep → ToldDeep → ServerStep) (deep : ToldDeep) (outcome : Outcome) → does w.deep deep old new outcome
-      → ServerGets w i does cost (counted (record w { servers = slice_set w.servers i.0 new; deep = deep }) cost, outcome)
-  server_gets does deep outcome d =
-      subst (λ o. ServerGetsAt o w i does cost (counted (record w { servers = slice_set w.servers i.0 new; deep = deep }) cost, outcome)) (sym found)
-      (new, deep, d, refl)
+  pub server_gets : (does : ToldDeep → ToldDeep → ServerStep) (deep : ToldDeep) (outcome : Outcome) (counts : Counts) → does w.deep deep old new outcome
+      → counts ≡ spent w.counts cost → ServerGets w i does cost (record w { servers = slice_set w.servers i.0 new; deep = deep; counts = counts }, outcome)
+  server_gets does deep outcome counts d spends =
+      subst (λ k. ServerGets w i does cost (record w { servers = slice_set w.servers i.0 new; deep = deep; counts = k }, outcome)) (sym spends)
+      (subst (λ o. ServerGetsAt o w i does cost (counted (record w { servers = slice_set w.servers i.0 new; deep = deep }) cost, outcome)) (sym found)
+      (new, deep, d, refl))
 
-  pub server_fetches : (does : Log → Log → ServerStep) (log : Log) (outcome : Outcome) → does w.log log old new outcome
-      → ServerFetches w i does cost (counted (record w { servers = slice_set w.servers i.0 new; log = log }) cost, outcome)
-  server_fetches does log outcome d =
-      subst (λ o. ServerFetchesAt o w i does cost (counted (record w { servers = slice_set w.servers i.0 new; log = log }) cost, outcome)) (sym found)
-      (new, log, d, refl)
+  pub server_fetches : (does : Log → Log → ServerStep) (log : Log) (outcome : Outcome) (counts : Counts) → does w.log log old new outcome
+      → counts ≡ spent w.counts cost → ServerFetches w i does cost (record w { servers = slice_set w.servers i.0 new; log = log; counts = counts }, outcome)
+  server_fetches does log outcome counts d spends =
+      subst (λ k. ServerFetches w i does cost (record w { servers = slice_set w.servers i.0 new; log = log; counts = k }, outcome)) (sym spends)
+      (subst (λ o. ServerFetchesAt o w i does cost (counted (record w { servers = slice_set w.servers i.0 new; log = log }) cost, outcome)) (sym found)
+      (new, log, d, refl))
 
   pub server_asks : (asks : AskStep) (request : Request) (s : State) (outcome : Outcome) (counts : Counts) → asks old new request
       → (s, outcome) ≡ sends (with_server w i new) request → counts ≡ spent s.counts cost
