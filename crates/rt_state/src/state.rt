@@ -38,70 +38,28 @@ impl State {
         requires { IsSetup setup }
         ensures { IfOk result (λ w. w ≡ start setup) }
     {
+        let log = StreamLog::make(alloc, setup.partitions)?;
+        let store = MemoryStore::make(alloc, &setup)?;
+        let servers = first_servers(alloc, &setup)?;
+        let controllers = first_controllers(alloc, &setup)?;
         let moment = setup.start;
         let stored = u64::from(setup.partitions) * u64::from(setup.table.replication);
-        let (log, store) = match first_stores(alloc, &setup) {
-            Ok(made) => made,
-            Err(refused) => {
-                drop(setup);
-                return Err(refused);
-            }
-        };
-        match first_nodes(alloc, &setup) {
-            Ok((servers, controllers)) => Ok(State {
-                setup,
-                log,
-                store,
-                deep: MemoryDeep::make(alloc),
-                sent: Items::new(alloc),
-                servers,
-                controllers,
-                queries: Items::new(alloc),
-                moment,
-                counts: Counts {
-                    events: 0,
-                    uploads: 0,
-                    unanswered: 0,
-                    stored,
-                },
-            }),
-            Err(refused) => {
-                drop((setup, log, store));
-                Err(refused)
-            }
-        }
-    }
-}
-
-/// The stream and the store as they are at first.
-fn first_stores(alloc: Global, setup: &Setup) -> Result<(StreamLog, MemoryStore), AllocError>
-    requires { IsSetup setup.now }
-    ensures { IfOk result (λ made. (made.0 ≡ (start setup.now).log) × (made.1 ≡ (start setup.now).store)) }
-{
-    let log = StreamLog::make(alloc, setup.partitions)?;
-    match MemoryStore::make(alloc, setup) {
-        Ok(store) => Ok((log, store)),
-        Err(refused) => {
-            drop(log);
-            Err(refused)
-        }
-    }
-}
-
-/// The servers and the controllers as they are at first.
-fn first_nodes(
-    alloc: Global,
-    setup: &Setup,
-) -> Result<(Items<ServerNode>, Items<ControllerNode>), AllocError>
-    requires { IsSetup setup.now }
-    ensures { IfOk result (λ made. (made.0 ≡ (start setup.now).servers) × (made.1 ≡ (start setup.now).controllers)) }
-{
-    let servers = first_servers(alloc, setup)?;
-    match first_controllers(alloc, setup) {
-        Ok(controllers) => Ok((servers, controllers)),
-        Err(refused) => {
-            drop(servers);
-            Err(refused)
-        }
+        Ok(State {
+            setup,
+            log,
+            store,
+            deep: MemoryDeep::make(alloc),
+            sent: Items::new(alloc),
+            servers,
+            controllers,
+            queries: Items::new(alloc),
+            moment,
+            counts: Counts {
+                events: 0,
+                uploads: 0,
+                unanswered: 0,
+                stored,
+            },
+        })
     }
 }
