@@ -1,5 +1,5 @@
 -- An event of a world, as what comes of one thing.
-use Rattle.std.proofs.Common.{ℕ, List, Result, Ok, Err, ap, ◌∙◌, tt}
+use Rattle.std.proofs.Common.{ℕ, List, Result, Ok, Err, ap, ◌∙◌}
 use Rattle.rt_base.specs.declared.numbers.Offset.{Offset}
 use Rattle.rt_base.specs.declared.numbers.Partition.{Partition}
 use Rattle.rt_events.specs.declared.event.Event.{Event}
