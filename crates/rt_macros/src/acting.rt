@@ -55,7 +55,7 @@ pub fn happen(alloc: Global, world: &mut World, event: Event) -> Result<(), Refu
 }
 
 /// Has a message come to a partition.
-#[tactic(auto, using(crate::proofs::Applied::message_comes, crate::proofs::Applied::message_refused))]
+#[tactic(auto, using(crate::proofs::Applied::message_refused))]
 pub fn produce(
     alloc: Global,
     world: &mut World,
