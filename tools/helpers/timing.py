@@ -3,7 +3,7 @@ import os
 import subprocess
 import tempfile
 
-import throwaway
+import speed_program
 
 PARSING = r'''//! Parses each line of standard input as JSON, and counts the objects.
 #![tactic(auto)]
@@ -62,4 +62,4 @@ def least(words, text=b"", turns=3):
 
 def parser(folder):
     """A built and proved program that reads lines by the kit's serde_json and does nothing else with them; its path."""
-    return throwaway.built(folder, PARSING, [], ["serde_json"])
+    return speed_program.built(folder, PARSING, [], ["serde_json"])

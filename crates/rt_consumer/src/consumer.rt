@@ -177,7 +177,7 @@ fn turn_by(phase: Phase, waited: Waited, status: ReplyStatus) -> Turn
 }
 
 /// What stands in a replica's place while it changes.
-pub fn gone(cur: Offset) -> Phase {
+pub(crate) fn gone(cur: Offset) -> Phase {
     Phase::Discarded(Discarded {
         cur,
         stopped: false,

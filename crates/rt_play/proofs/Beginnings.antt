@@ -3,6 +3,7 @@ use Rattle.std.proofs.Common.{◌≡◌, ℕ, false, List, [], ◌∷◌, Option
 use Rattle.std.specs.Prelude.{IfOk}
 use Rattle.rt_base.specs.Sink.{SinkMeaning}
 use Rattle.rt_base.specs.declared.which.Which.{Which}
+use Rattle.rt_desk.specs.declared.desk.Desk.{Desk}
 use Rattle.rt_lines.specs.Cluster.{cluster_fault, cluster_of}
 use Rattle.rt_lines.specs.Header.{NumberedLine, Reads, Says, TableSaid, header_of, if_well_formed, next_line, setup_at, setup_in, setup_with, tables_of, then_ok, with_rest}
 use Rattle.rt_lines.specs.Lines.{ScriptLines, script_lines}
@@ -15,7 +16,6 @@ use Rattle.rt_play.specs.Going.{Going}
 use Rattle.rt_play.specs.Plays.{Tells, TellsAll, TellsFront, TellsFrom, TellsInput, going}
 use Rattle.rt_play.specs.Report.{FrontRuns, IsFrontBehind, IsFrontOfReport, IsReportBehind, stopped}
 use Rattle.rt_play.specs.declared.beginning.Beginning.{Beginning}
-use Rattle.rt_play.specs.declared.desk.Desk.{Desk}
 use Rattle.rt_play.specs.declared.play_end.PlayEnd.{PlayEnd}
 use Rattle.rt_schema.specs.declared.schema.Schema.{Schema}
 use Rattle.rt_schema.specs.declared.table.Table.{Table}

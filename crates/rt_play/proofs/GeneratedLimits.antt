@@ -3,6 +3,8 @@ use Rattle.std.proofs.Common.{◌≡◌, ℕ, Bool, true, false, List, Option, S
 use Rattle.rt_base.specs.Sink.{SinkMeaning}
 use Rattle.rt_base.specs.declared.limits.TheConstants.{MOST_PARTITIONS, MOST_ROWS}
 use Rattle.rt_base.specs.declared.which.Which.TheVariants.{Input, Partitions, Rows}
+use Rattle.rt_desk.proofs.LimitMacros.{query_never, settles_never}
+use Rattle.rt_desk.proofs.Limits.{Never, Unlimited, each_from_never, gives_never, nothing_other, passed_never, refuses_never, then_never}
 use Rattle.rt_events.specs.declared.event.Event.TheVariants.{Produce}
 use Rattle.rt_events.specs.declared.refusal.Refusal.{Refusal}
 use Rattle.rt_events.specs.declared.refusal.Refusal.TheVariants as refusal
@@ -17,8 +19,6 @@ use Rattle.rt_model.specs.declared.query.Query.{Query}
 use Rattle.rt_model.specs.declared.setup.Setup.{Setup}
 use Rattle.rt_play.proofs.HeaderLimits.{IsOther, IsWithin, header_within, is_other, read_within, stopped_within}
 use Rattle.rt_play.proofs.InputLimits.{limit_refused, no_stop, same_stop, stopped_never}
-use Rattle.rt_play.proofs.LimitMacros.{query_never, settles_never}
-use Rattle.rt_play.proofs.Limits.{Never, Unlimited, each_from_never, gives_never, nothing_other, passed_never, refuses_never, then_never}
 use Rattle.rt_play.specs.Generating.{Asks, AsksQuery, IsGenerated, IsGeneratedBy, ProducesRow, ProducesRows, RunsGenerated, TellsGenerated, generated_query, generated_setup, header_text, next_number, query_said, report_by, row_text, setup_read}
 use Rattle.rt_play.specs.Report.{Report, fault_at}
 use Rattle.rt_play.specs.declared.generating.Generated.{Generated}

@@ -4,6 +4,7 @@ use Rattle.std.specs.Prelude.{codes, nat_le, not, ◌&&◌}
 use Rattle.rt_base.specs.declared.limits.TheConstants.{LAST_MOMENT, MOST_CONTROLLERS, MOST_PARTITIONS, MOST_REPLICATION, MOST_SERVERS}
 use Rattle.rt_base.specs.declared.which.Which.{Which}
 use Rattle.rt_base.specs.declared.which.Which.TheVariants.{Controllers, Input, Moment, Partitions, Replication, Servers}
+use Rattle.rt_desk.specs.declared.desk.Desk.{Desk}
 use Rattle.rt_lines.specs.Cluster.{cluster_fault, cluster_of, is_within}
 use Rattle.rt_lines.specs.Header.{NumberedLine, SchemaSaid, TableSaid, header_of, if_taken, if_well_formed, next_line, numbered_fault, schema_at, schema_said, setup_at, setup_in, setup_with, table_at, table_said, tables_of, text_behind, then_ok, with_rest}
 use Rattle.rt_lines.specs.Lines.{ScriptLines}
@@ -13,7 +14,6 @@ use Rattle.rt_lines.specs.declared.play_fault.PlayFault.{PlayFault}
 use Rattle.rt_lines.specs.declared.play_fault.PlayFault.TheVariants.{Limit, Memory, Refused}
 use Rattle.rt_model.specs.declared.setup.Setup.{Setup}
 use Rattle.rt_play.specs.Beginning.{beginning_behind, beginning_of, desk_by, desk_of, with_desk}
-use Rattle.rt_play.specs.declared.desk.Desk.{Desk}
 use Rattle.rt_schema.specs.SchemaText.{schema_of}
 use Rattle.rt_schema.specs.TableText.{table_of}
 use Rattle.rt_schema.specs.declared.schema.Schema.{Schema}

@@ -2,6 +2,8 @@
 use Rattle.std.proofs.Common.{◌≡◌, ℕ, List, [], ◌∷◌, Option, Some, None, Result, Ok, Err, ap, sym, ◌∙◌, subst}
 use Rattle.rt_base.specs.declared.which.Which.{Which}
 use Rattle.rt_base.specs.declared.which.Which.TheVariants.{Input}
+use Rattle.rt_desk.specs.Saying.{LineTold}
+use Rattle.rt_desk.proofs.LineLimits.{line_never}
 use Rattle.rt_events.specs.declared.refusal.Refusal.{Refusal}
 use Rattle.rt_events.specs.declared.refusal.Refusal.TheVariants as refusal
 use Rattle.rt_lines.specs.Header.{NumberedLine}
@@ -11,11 +13,9 @@ use Rattle.rt_lines.specs.declared.line_reason.LineReason.TheVariants as reason
 use Rattle.rt_lines.specs.declared.play_fault.PlayFault.{PlayFault}
 use Rattle.rt_lines.specs.declared.play_fault.PlayFault.TheVariants.{Limit, Memory, Refused}
 use Rattle.rt_play.proofs.HeaderLimits.{IsOther, IsWithin, beginning_within, is_other}
-use Rattle.rt_play.proofs.LineLimits.{line_never}
 use Rattle.rt_play.specs.Beginning.{beginning_of}
 use Rattle.rt_play.specs.Going.{Going}
 use Rattle.rt_play.specs.Report.{IsReport, IsReportBehind, IsStop, Report, Stops, fault_at, said_at, stopped}
-use Rattle.rt_play.specs.Saying.{LineTold}
 use Rattle.rt_play.specs.declared.beginning.Beginning.{Beginning}
 use Rattle.rt_script.specs.declared.line.Line.{Line}
 

@@ -1,24 +1,31 @@
 -- A script has one report.
 use Rattle.std.proofs.Common.{◌≡◌, ℕ, List, [], ◌∷◌, ◌++◌, Option, Some, None, Result, Ok, Err, ◌⊎◌, inl, inr, refl, sym, ◌∙◌, ap, subst}
 use Rattle.std.specs.Prelude.{IfSome}
+use Rattle.rt_desk.specs.Telling.{told}
+use Rattle.rt_desk.proofs.OneLine.{line_told}
+use Rattle.rt_desk.proofs.OneTelling.{SameDesk, same_desk}
+use Rattle.rt_exact.specs.Alike.{AreAlike}
 use Rattle.rt_lines.specs.Header.{NumberedLine}
 use Rattle.rt_lines.specs.Lines.{ScriptLines, script_lines}
 use Rattle.rt_lines.specs.declared.play_fault.PlayFault.{PlayFault}
 use Rattle.rt_lines.proofs.Headers.{header_taken}
 use Rattle.rt_play.specs.Beginning.{beginning_of, going_from}
-use Rattle.rt_play.specs.Going.{Going, told}
+use Rattle.rt_play.specs.Going.{Going}
 use Rattle.rt_play.specs.Plays.{IsAnswer, answer_by}
 use Rattle.rt_play.specs.Report.{IsFrontBehind, IsFrontOfReport, IsReport, IsReportBehind, IsReportFrom, IsStop, Report, RunAll, Runs, Stops, fault_at, said_at}
 use Rattle.rt_play.specs.declared.beginning.Beginning.{Beginning}
 use Rattle.rt_play.specs.declared.play_end.PlayEnd.{PlayEnd}
 use Rattle.rt_play.proofs.Beginnings.{beginning_taken}
-use Rattle.rt_play.proofs.OneLine.{line_told}
-use Rattle.rt_play.proofs.OneTelling.{GoAlike, same_desk}
 use Rattle.rt_script.specs.Line.{FitsLine, line_in}
 use Rattle.rt_script.specs.declared.line.Line.{Line}
 use Rattle.rt_script.proofs.LinesFit.{line_fits}
 use Rattle.rt_state.specs.declared.state.State.{State}
 use Rattle.rt_world.proofs.StartSafe.{start_safe}
+
+-- alike worlds, with the same desk beside them
+pub record GoAlike (g h : Going) : Type 0 where
+  pub worlds : AreAlike g.world h.world
+  pub desks : SameDesk g.desk h.desk
 
 -- ---- what comes of the first of some lines, and then of the others
 

@@ -1,6 +1,8 @@
 -- The lines of a script are a run of their cluster.
 use Rattle.std.proofs.Common.{◌≡◌, ℕ, List, [], ◌∷◌, ◌++◌, Option, Some, None, Ok, ap, subst}
 use Rattle.std.specs.Prelude.{IfSome}
+use Rattle.rt_desk.proofs.Reaching.{Reaches, leads_by}
+use Rattle.rt_desk.proofs.ReachingLines.{line_goes}
 use Rattle.rt_lines.specs.Header.{NumberedLine}
 use Rattle.rt_lines.specs.Lines.{script_lines}
 use Rattle.rt_lines.proofs.Headers.{header_taken}
@@ -9,8 +11,6 @@ use Rattle.rt_play.specs.Going.{Going}
 use Rattle.rt_play.specs.Report.{FrontRuns, RunAll, Runs, said_at}
 use Rattle.rt_play.specs.declared.beginning.Beginning.{Beginning}
 use Rattle.rt_play.proofs.Beginnings.{beginning_taken}
-use Rattle.rt_play.proofs.Reaching.{Reaches, leads_by}
-use Rattle.rt_play.proofs.ReachingLines.{line_goes}
 use Rattle.rt_safety.specs.Runs.{Turn, Leads}
 use Rattle.rt_safety.proofs.Later.{leads_on, runs_are_safe}
 use Rattle.rt_safety.proofs.Runs.{leads_safe}

@@ -3,13 +3,13 @@ use Rattle.std.proofs.Common.{◌≡◌, ℕ, List, [], ◌∷◌, ◌++◌, len
 use Rattle.std.specs.List.{concat}
 use Rattle.std.proofs.lemmas.List.{append-nil}
 use Rattle.rt_base.specs.Sink.{SinkMeaning, added}
+use Rattle.rt_desk.specs.declared.desk.Desk.{Desk}
 use Rattle.rt_lines.specs.Header.{NumberedLine}
 use Rattle.rt_lines.specs.declared.play_fault.PlayFault.{PlayFault}
 use Rattle.rt_lines.specs.declared.play_fault.PlayFault.TheVariants.{Usage, Refused, ReadFault, WriteFault, Memory, Limit}
 use Rattle.rt_play.specs.declared.play_end.PlayEnd.{PlayEnd}
 use Rattle.rt_play.specs.Going.{Going}
 use Rattle.rt_play.specs.Plays.{Puts, FailsWithin, TellsFrom, TellsAll, TellsSome, PlaysLine, going}
-use Rattle.rt_play.specs.declared.desk.Desk.{Desk}
 use Rattle.rt_play.specs.Report.{FrontRuns, IsReportFrom, RunAll, Runs, Stops, said_at}
 use Rattle.rt_play.proofs.Writes.{added_more}
 use Rattle.rt_world.specs.Kept.{Kept}

@@ -1,5 +1,7 @@
 -- How a script begins: its cluster and its desk, by its header.
-use Rattle.std.specs.Prelude.{ℕ, List, [], false, Option, None, Some, Result, Ok, Err}
+use Rattle.std.specs.Prelude.{ℕ, List, Option, None, Some, Result, Ok, Err}
+use Rattle.rt_desk.specs.IsDesk.{first_desk}
+use Rattle.rt_desk.specs.declared.desk.Desk.{Desk}
 use Rattle.rt_hybrid.specs.Table.{OfflineTable, start_of}
 use Rattle.rt_lines.specs.Header.{NumberedLine, TableSaid, numbered_fault, setup_in, tables_of, then_ok}
 use Rattle.rt_lines.specs.Lines.{ScriptLines}
@@ -8,7 +10,6 @@ use Rattle.rt_lines.specs.declared.play_fault.PlayFault.{PlayFault}
 use Rattle.rt_model.specs.declared.setup.Setup.{Setup}
 use Rattle.rt_play.specs.Going.{Going}
 use Rattle.rt_play.specs.declared.beginning.Beginning.{Beginning}
-use Rattle.rt_play.specs.declared.desk.Desk.{Desk}
 use Rattle.rt_schema.specs.declared.schema.Schema.{Schema}
 use Rattle.rt_upconf.specs.Refused.{number_of}
 use Rattle.rt_upconf.specs.Upsert.{time_column_of, upsert_of}
@@ -21,18 +22,9 @@ abbrev pub hybrid_by : Schema → Option (List ℕ) → Option OfflineTable
 hybrid_by schema None = None
 hybrid_by schema (Some name) = start_of schema name
 
-abbrev pub first_desk : TableSaid → Option UpsertConfig → Desk
-first_desk said upsert = record {
-  upsert = upsert;
-  hybrid = hybrid_by said.schema (time_column_of said.table_text);
-  pause = false;
-  jobs = [];
-  rehearsing = None;
-}
-
 -- upsert settings are refused at the table line
 abbrev pub desk_by : TableSaid → Result (Option UpsertConfig) UpsertRefused → Result Desk PlayFault
-desk_by said (Ok upsert) = Ok (first_desk said upsert)
+desk_by said (Ok upsert) = Ok (first_desk upsert (hybrid_by said.schema (time_column_of said.table_text)))
 desk_by said (Err why) = Err (numbered_fault reason.Upsert said.line (number_of why))
 
 abbrev pub desk_of : TableSaid → Result Desk PlayFault

@@ -1,14 +1,8 @@
 pub mod Beginning
-pub mod Forcing
 pub mod Generating
 pub mod Going
 pub mod Headline
-pub mod Hybrid
-pub mod Latest
-pub mod Paused
 pub mod Plays
-pub mod Rehearsing
 pub mod Report
-pub mod Saying
 pub mod Words
 pub mod Writing

@@ -9,10 +9,10 @@ use Rattle.rt_lines.specs.declared.play_fault.PlayFault.{PlayFault}
 use Rattle.rt_lines.specs.declared.play_fault.PlayFault.TheVariants.{Usage, Refused, ReadFault, WriteFault, Memory, Limit}
 use Rattle.rt_play.specs.declared.play_end.PlayEnd.{PlayEnd}
 use Rattle.rt_base.specs.declared.failed.Failed.{Failed}
+use Rattle.rt_desk.specs.declared.desk.Desk.{Desk}
 use Rattle.rt_world.specs.Kept.{Kept}
 use Rattle.rt_lines.specs.Header.{NumberedLine}
 use Rattle.rt_play.specs.Going.{Going}
-use Rattle.rt_play.specs.declared.desk.Desk.{Desk}
 use Rattle.rt_play.specs.declared.reading.ReadStop.{ReadStop}
 use Rattle.rt_play.specs.declared.reading.ReadStop.TheVariants as stop
 use Rattle.rt_play.specs.Report.{FrontRuns, IsFrontOfReport, IsReport, IsReportFrom, Report, Runs, Stops}

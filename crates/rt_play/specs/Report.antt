@@ -1,5 +1,7 @@
 -- What is reported of a script: a text for each of its lines that runs, and why the run stops, where it stops.
 use Rattle.std.specs.Prelude.{◌≡◌, ℕ, List, [], ◌∷◌, ◌++◌, Option, None, Some, Result, Ok, Err}
+use Rattle.rt_desk.specs.Saying.{LineTold}
+use Rattle.rt_desk.specs.Telling.{told}
 use Rattle.rt_events.specs.declared.refusal.Refusal.{Refusal}
 use Rattle.rt_events.specs.declared.refusal.Refusal.TheVariants.{NoSuchMessage, NoSuchNode, NodeDown, NothingToDo, Limit, Memory}
 use Rattle.rt_lines.specs.Header.{NumberedLine}
@@ -8,8 +10,7 @@ use Rattle.rt_lines.specs.declared.line_reason.LineReason.TheVariants as reason
 use Rattle.rt_lines.specs.declared.play_fault.PlayFault.{PlayFault}
 use Rattle.rt_lines.specs.declared.play_fault.PlayFault.TheVariants as fault
 use Rattle.rt_play.specs.Beginning.{beginning_of, going_from}
-use Rattle.rt_play.specs.Going.{Going, told}
-use Rattle.rt_play.specs.Saying.{LineTold}
+use Rattle.rt_play.specs.Going.{Going}
 use Rattle.rt_play.specs.declared.beginning.Beginning.{Beginning}
 use Rattle.rt_script.specs.Line.{line_in}
 use Rattle.rt_script.specs.declared.line.Line.{Line}

@@ -1,21 +1,19 @@
 ghost use Rattle.std.specs.Prelude.{◌≡◌, ◌<◌, ◌^◌, IfOk, IfSome, OnOk, length};
+ghost use Rattle.rt_desk.specs.IsDesk.{IsDesk};
 ghost use Rattle.rt_hybrid.specs.Table.{start_of};
 ghost use Rattle.rt_lines.specs.Header.{IsTableSaid, Reads, Says};
 ghost use Rattle.rt_lines.specs.declared.line_reason.LineReason.TheVariants.{Upsert};
 ghost use Rattle.rt_lines.specs.Header.{numbered_fault};
 ghost use Rattle.rt_model.specs.Setup.{IsSetup};
 ghost use Rattle.rt_play.specs.Beginning.{beginning_of, desk_of, hybrid_by};
-ghost use Rattle.rt_play.specs.Going.{IsDesk};
 ghost use Rattle.rt_schema.specs.Schema.{IsSchema};
 ghost use Rattle.rt_upconf.specs.Refused.{number_of};
 
-use crate::desk::Desk;
-use rt_dryrun::Rehearsing;
+use rt_desk::Desk;
 use rt_hybrid::{Hybrid, HybridRefused};
 use rt_lines::{LineReason, Lines, PlayFault, TableLines, read_cluster_line, read_tables};
-use rt_lists::{Items, Text};
+use rt_lists::Text;
 use rt_model::Setup;
-use rt_pause::Pause;
 use rt_schema::Schema;
 use rt_upconf::{UpsertRefused, read_time_column, read_upsert};
 use std::alloc::{AllocError, Global};
@@ -60,13 +58,7 @@ fn read_desk(alloc: Global, said: &TableLines<'_>) -> Result<Desk, PlayFault>
     };
     let time = read_time_column(alloc, said.table_text())?;
     let hybrid = hybrid_table(alloc, said.schema(), time)?;
-    Ok(Desk {
-        upsert,
-        hybrid,
-        pause: Pause::make(),
-        jobs: Items::new(alloc),
-        rehearsing: Rehearsing::make(),
-    })
+    Ok(Desk::make(alloc, upsert, hybrid))
 }
 
 // The hybrid table of the settings' time column, where it fits.

@@ -1,19 +1,12 @@
-//! The laws of scripts. Each stands on a function that does nothing: its clause is the law.
-ghost use Rattle.std.specs.Prelude.{◌≡◌, ℕ, List, Ok, true};
+//! The law that a script is a run. It stands on a function that does nothing: its clause is the law.
+ghost use Rattle.std.specs.Prelude.{◌≡◌, ℕ, List, Ok};
 ghost use Rattle.rt_lines.specs.Header.{NumberedLine};
 ghost use Rattle.rt_lines.specs.Lines.{script_lines};
 ghost use Rattle.rt_play.specs.Beginning.{beginning_of, going_from};
-ghost use Rattle.rt_play.specs.Going.{Told};
-ghost use Rattle.rt_play.specs.Paused.{LeadsBy};
 ghost use Rattle.rt_play.specs.Report.{FrontRuns};
-ghost use Rattle.rt_play.specs.Saying.{LineTold};
 ghost use Rattle.rt_play.specs.declared.beginning.Beginning.{Beginning};
-ghost use Rattle.rt_play.specs.declared.desk.Desk.{Desk};
 ghost use Rattle.rt_safety.specs.Runs.{Turn, Runs};
-ghost use Rattle.rt_script.specs.Line.{FitsLine};
-ghost use Rattle.rt_script.specs.declared.line.Line.{Line};
 ghost use Rattle.rt_state.specs.IsSafeWorld.{IsSafeWorld};
-ghost use Rattle.rt_state.specs.declared.state.State.{State};
 
 /// The lines of a script of which a report tells are a run of the script's cluster: turns lead from the cluster's first world to
 /// the one behind these lines, which is safe. So is each world on the way, and each answer in it is right, by the laws of
@@ -21,11 +14,4 @@ ghost use Rattle.rt_state.specs.declared.state.State.{State};
 pub fn a_script_is_a_run()
     ensures { (input : List ℕ) (beginning : Beginning) (lines : List NumberedLine) (texts : List (List ℕ)) (front : FrontRuns lines (going_from beginning) texts)
         → beginning_of (script_lines input) ≡ Ok (beginning, lines) → (turns : List Turn) × Runs beginning.setup turns front.last.world × IsSafeWorld front.last.world }
-{}
-
-/// While a run is paused no replica in INITIAL_CONSUMING takes a message: each line leads on by turns of which none has such a
-/// replica consume.
-pub fn while_paused_no_replica_begins()
-    ensures { (said : Line) (desk : Desk) (w v : State) (told : Told) → FitsLine w.setup.schema said → desk.pause ≡ true → LineTold said desk w v (Ok told)
-        → (turns : List Turn) × LeadsBy true w turns v }
 {}

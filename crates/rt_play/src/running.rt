@@ -1,17 +1,16 @@
 ghost use Rattle.std.specs.Prelude.{◌≡◌, ◌<◌, ◌^◌, false, length, string_bytes, OnOk};
+ghost use Rattle.rt_desk.specs.IsDesk.{IsDesk};
 ghost use Rattle.rt_model.specs.Setup.{IsSetup};
 ghost use Rattle.rt_play.specs.Beginning.{going_from};
-ghost use Rattle.rt_play.specs.Going.{IsDesk};
 ghost use Rattle.rt_play.specs.Plays.{PlaysLine, TellsFrom, TellsInput, going};
 ghost use Rattle.rt_play.specs.Report.{fault_at};
 ghost use Rattle.rt_state.specs.IsSafeWorld.{IsSafeWorld};
 
 use crate::PlayEnd;
 use crate::beginning::{Beginning, read_beginning};
-use crate::desk::Desk;
-use crate::saying::play_said;
 use crate::writing::write_all;
 use rt_base::Sink;
+use rt_desk::{Desk, play_said};
 use rt_lines::{LineReason, Lines, PlayFault};
 use rt_model::Setup;
 use rt_script::read_line;

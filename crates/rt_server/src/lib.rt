@@ -28,6 +28,5 @@ pub use laws::{
     a_refused_call_changes_nothing, a_store_fault_raises_the_count,
     calls_over_told_stores_are_exact,
 };
-pub use resting::rests_in;
 pub use rt_entry::{ServeRefused, ServedRows, ServerRefused};
 pub use server::Server;

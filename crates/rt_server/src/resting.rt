@@ -80,8 +80,8 @@ fn rests(entry: &Entry) -> bool
     }
 }
 
-/// Whether a replica in a state is at rest: it has the file of its committed segment.
-pub fn rests_in(state: ReplicaState) -> bool
+// Whether a replica in a state is at rest: it has the file of its committed segment.
+fn rests_in(state: ReplicaState) -> bool
     ensures { result ≡ rests_in state }
 {
     matches!(state, ReplicaState::Retained | ReplicaState::Committed)

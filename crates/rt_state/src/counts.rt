@@ -18,7 +18,7 @@ pub struct Counts {
 
 impl Counts {
     /// Counts an event that happened, with what it costs. What is set of the ideal state is counted by itself.
-    pub(crate) fn spend(&mut self, cost: Cost)
+    pub fn spend(&mut self, cost: Cost)
         requires events { self.old.events + 1 < 2 ^ 64 }
         requires uploads { self.old.uploads + cost.uploads < 2 ^ 64 }
         requires queries { self.old.unanswered + cost.queries < 2 ^ 64 }
@@ -30,7 +30,7 @@ impl Counts {
     }
 
     /// Counts the entries that a step would have set, where the history has grown by it.
-    pub(crate) fn note_set(&mut self, cost: Cost, before: usize, now: usize)
+    pub fn note_set(&mut self, cost: Cost, before: usize, now: usize)
         requires { self.old.stored + cost.stored < 2 ^ 64 }
         ensures { self.new ≡ with_set self.old cost before now }
     {
@@ -40,7 +40,7 @@ impl Counts {
     }
 
     /// A query that was answered is no more open.
-    pub(crate) fn close_query(&mut self)
+    pub fn close_query(&mut self)
         requires { 0 < self.old.unanswered }
         ensures { self.new ≡ with_query_closed self.old }
     {

@@ -1,8 +1,7 @@
-//! The state of a whole cluster in one record, and the step of each event.
+//! The state of a whole cluster in one record, and which events can happen in it.
 //!
-//! An event has two methods: one says what it costs, or why it can't happen; the other has it happen in a safe state, by one
-//! call of one node, which makes one call of a store at most. Which states are safe is stated here; that each event keeps
-//! a state safe is shown above, where all events stand together.
+//! A method for each event says what it costs, or why it can't happen. What the event does is stated here too, and which states
+//! are safe; that each event keeps a state safe is shown above, where all events stand together.
 #![tactic(auto)]
 
 mod clock;

@@ -1,25 +1,12 @@
-//! What a controller does for a partition on its own: the repair, and the retiring of old segments.
+//! When a controller can do something for a partition on its own: the repair, and the retiring of old segments.
 ghost use Rattle.std.specs.Prelude.{◌≡◌, option_map};
-ghost use Rattle.rt_state.specs.Repairs.{
-  repair_due,
-  retain_due,
-  upkeep_at,
-  believes_at,
-  find_upkeep,
-  repair_in,
-  retirement_in,
-  Repairs,
-  Retires,
-};
-ghost use Rattle.rt_state.specs.Applying.{Applies};
-ghost use Rattle.rt_state.specs.IsSafeWorld.{IsSafeWorld};
+ghost use Rattle.rt_state.specs.Repairs.{repair_due, retain_due, upkeep_at, believes_at, find_upkeep, repair_in, retirement_in};
 
 use crate::{Cost, State};
 use rt_base::{ControllerId, Partition};
-use rt_events::{Outcome, Refusal};
+use rt_events::Refusal;
 use rt_nodes::Upkeep;
 use rt_repair::{Repair, Retire};
-use std::alloc::Global;
 
 impl State {
     /// What a controller has under way for a partition.
@@ -94,27 +81,6 @@ impl State {
         }
     }
 
-    /// A controller makes the next step of a partition's repair, which begins with its first one.
-    #[tactic(auto, using(crate::proofs::NeedsNodes::repair_needs, crate::proofs::Leading::node_repaired))]
-    pub fn repair(
-        &mut self,
-        alloc: Global,
-        controller: ControllerId,
-        partition: Partition,
-    ) -> Result<Outcome, Refusal>
-        requires { IsSafeWorld self.old }
-        ensures { Applies self.old (repair_due self.old controller partition) (Repairs self.old controller partition) self.new result }
-    {
-        let cost = self.repair_due(controller, partition)?;
-        let before = self.store.history().len();
-        let node = self.controllers.at_mut(controller.0 as usize);
-        let did = node.repair(alloc, partition, &self.setup, self.moment, &mut self.store)?;
-        self.counts
-            .note_set(cost, before, self.store.history().len());
-        self.counts.spend(cost);
-        Ok(Outcome::Repaired(did))
-    }
-
     /// What it costs that a controller makes the next step of a retirement, or why that can't happen now. Takes no memory.
     pub fn retain_due(
         &self,
@@ -133,26 +99,5 @@ impl State {
                 self.price(Cost::none())
             }
         }
-    }
-
-    /// A controller makes the next step of a partition's retirement, which begins with its first one.
-    #[tactic(auto, using(crate::proofs::NeedsNodes::retain_needs, crate::proofs::Leading::node_retired))]
-    pub fn retain(
-        &mut self,
-        alloc: Global,
-        controller: ControllerId,
-        partition: Partition,
-    ) -> Result<Outcome, Refusal>
-        requires { IsSafeWorld self.old }
-        ensures { Applies self.old (retain_due self.old controller partition) (Retires self.old controller partition) self.new result }
-    {
-        let cost = self.retain_due(controller, partition)?;
-        let before = self.store.history().len();
-        let node = self.controllers.at_mut(controller.0 as usize);
-        let did = node.retire(alloc, partition, &self.setup, self.moment, &mut self.store)?;
-        self.counts
-            .note_set(cost, before, self.store.history().len());
-        self.counts.spend(cost);
-        Ok(Outcome::Retired(did))
     }
 }

@@ -82,7 +82,7 @@ impl World {
         if self.spent {
             return Err(Refusal::Memory);
         }
-        self.state.pass()
+        rt_steps::pass(&mut self.state)
     }
 
     /// Has an event happen, and says what came of it. A refused event changes nothing; after want of memory the world is
@@ -115,7 +115,7 @@ impl World {
         if self.spent {
             return Err(Refusal::Memory);
         }
-        let came = self.state.append(alloc, partition, message);
+        let came = rt_steps::append(&mut self.state, alloc, partition, message);
         if ran_out(&came) {
             self.spent = true;
         }

@@ -1,6 +1,6 @@
 use Rattle.std.proofs.Common.{subst, sym}
+use Rattle.rt_desk.specs.IsDesk.{IsDesk}
 use Rattle.rt_play.proofs.Beginnings.{cluster_schema}
-use Rattle.rt_play.specs.Going.{IsDesk}
 use Rattle.rt_play.proofs.beginning.read_beginning.Goals as goal
 
 pub returns-in-Ok-read_cluster_line-clause-desk : goal.returns-in-Ok-read_cluster_line-clause-desk

@@ -1,8 +1,8 @@
 use Rattle.std.proofs.Common.{◌++◌, ◌∷◌, [], ap, length, string_bytes, subst, sym, arith, refl}
 use Rattle.std.proofs.lemmas.List.{length-append}
+use Rattle.rt_desk.specs.IsDesk.{IsDesk}
 use Rattle.rt_lines.specs.Header.{NumberedLine}
 use Rattle.rt_model.specs.declared.setup.Setup.{Setup}
-use Rattle.rt_play.specs.Going.{IsDesk}
 use Rattle.rt_play.specs.Plays.{Puts, going}
 use Rattle.rt_play.proofs.ScriptRuns.{line_keeps}
 use Rattle.rt_play.proofs.Tellings.{nothing_put, one_more, put_text, run_more, tells_end, tells_fault, tells_stop}

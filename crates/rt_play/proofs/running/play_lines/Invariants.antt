@@ -1,7 +1,7 @@
 use Rattle.std.proofs.Common.{◌≡◌, ℕ, ◌+◌, ◌^◌, ◌<◌, ◌++◌, false, List, length}
 use Rattle.std.specs.List.{concat}
+use Rattle.rt_desk.specs.IsDesk.{IsDesk}
 use Rattle.rt_lines.specs.Header.{NumberedLine}
-use Rattle.rt_play.specs.Going.{IsDesk}
 use Rattle.rt_play.specs.Plays.{Puts, going}
 use Rattle.rt_play.specs.Report.{RunAll}
 use Rattle.rt_play.proofs.running.play_lines.Given as goal

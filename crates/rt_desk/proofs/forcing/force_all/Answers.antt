@@ -1,0 +1,12 @@
+use Rattle.rt_desk.specs.Forcing.{ForcesAll, ForcesOne}
+use Rattle.rt_desk.proofs.forcing.force_all.Goals as goal
+use Rattle.rt_macros.proofs.Doing.{list_goes_on, list_stops}
+
+pub loop-replica-preserved : goal.loop-replica-preserved
+loop-replica-preserved c = record {
+  unspent = c.in-Ok.ensures.0;
+  same = list_goes_on ForcesOne c.as_slice-replica-items.result.now c.loop-replica.replica-index _ c.loop-replica.forced c.in-Ok.now c.loop-replica.world.state c.force_one.new.world (ForcesAll c.args.world.now.state) c.loop-replica.invariant.same c.loop-replica-test.true c.in-Ok.ensures;
+}
+
+pub returns-in-Err : goal.returns-in-Err
+returns-in-Err c = list_stops ForcesOne c.as_slice-replica-items.result.now c.loop-replica.replica-index _ c.loop-replica.forced c.loop-replica.world.state c.force_one.new.world c.in-Err.refusal (ForcesAll c.args.world.now.state) c.loop-replica.invariant.same c.loop-replica-test.true c.in-Err.ensures

@@ -1,7 +1,0 @@
-use Rattle.std.proofs.Common.{subst}
-use Rattle.rt_play.proofs.Reaching.{Reaches}
-use Rattle.rt_play.proofs.ReachingLines.{line_goes}
-use Rattle.rt_play.proofs.laws.while_paused_no_replica_begins.Goals as goal
-
-pub returns : goal.returns
-returns c said desk w v told fits paused line = subst (λ b. Reaches b w v) paused (line_goes said desk w fits v told line)
