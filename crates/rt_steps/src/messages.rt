@@ -95,7 +95,7 @@ pub fn reply(state: &mut State, alloc: Global, message: u64) -> Result<Outcome, 
 {
     let cost = state.reply_due(message)?;
     let Some(Sent::Reply(reply)) = state.sent.get(message as usize) else {
-        return Err(Refusal::Memory);
+        unreachable!()
     };
     let reply = reply.copied(alloc)?;
     let node = state.servers.at_mut(reply.number.instance.0 as usize);

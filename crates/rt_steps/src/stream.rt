@@ -28,8 +28,8 @@ pub fn append(
             state.counts.spend(cost);
             Ok(offset)
         }
-        Err(FeedRefused::NoPartition) => Err(Refusal::Memory),
-        Err(FeedRefused::PastEnd { .. }) => Err(Refusal::Memory),
+        Err(FeedRefused::NoPartition) => unreachable!(),
+        Err(FeedRefused::PastEnd { .. }) => unreachable!(),
         Err(FeedRefused::Memory) => Err(Refusal::Memory),
     }
 }
