@@ -1,4 +1,5 @@
 pub mod Files
 pub mod Index
+pub mod Owning
 pub mod Seeing
 pub mod Told

@@ -1,12 +1,12 @@
 -- What each call promises, by what a deep store means before it and after it.
-use Rattle.std.specs.Prelude.{◌≡◌, ℕ, List, ◌⊎◌, Option, Some, None, Result, Ok, Err, ⊤}
+use Rattle.std.specs.Prelude.{◌≡◌, ℕ, List, ◌++◌, ◌⊎◌, Option, Some, None, Result, Ok, Err, ⊤}
 use Rattle.rt_base.specs.declared.fault.Fault.{Fault}
 use Rattle.rt_base.specs.Faults.{fault_of, met_fault, Counts, answer_under, left_under}
 use Rattle.rt_lists.specs.Members.{IsFront}
 use Rattle.rt_deep.specs.declared.deep_put.DeepPut.{DeepPut}
 use Rattle.rt_deep.specs.declared.refused.DeepRefused.{DeepRefused}
 use Rattle.rt_deep.specs.declared.refused.DeepRefused.TheVariants.{Absent, OtherBytes, Failed, Memory}
-use Rattle.rt_deep.specs.Meaning.{Told, Meaning}
+use Rattle.rt_deep.specs.Meaning.{Told, Own, Meaning}
 use Rattle.rt_deep.specs.Files.{AreOnce}
 use Rattle.rt_deep.specs.Answers.{getting, putting, after_put}
 
@@ -31,18 +31,26 @@ pub record Sees (old : Meaning) (base : List DeepPut) : Type 0 where
   pub all : AreAll old.told base
   pub once : AreOnce base
 
+-- what a call leaves behind that on which it stands is its caller's own
+abbrev pub Gains : Option Own → Option Own → List DeepPut → List DeepPut → Type 0
+Gains None new base after = new ≡ None
+Gains (Some o) new base after =
+    (more : List DeepPut) × (after ≡ base ++ more) × (new ≡ Some (record { numbers = o.numbers; files = o.files ++ more }))
+
 -- a call that met a fault, or none, and that would give this answer and leave these files without it
 pub record Goes {X : Type 0} (old new : Meaning) (fault : Fault) (base after : List DeepPut) (answer result : Result X DeepRefused) : Type 0 where
   pub meets : Meets old.told new.told fault new.seen
   pub counts : Counts old.faults new.faults fault
   pub answered : result ≡ answer_under Failed fault answer
   pub seen : new.seen ≡ left_under fault base after
+  pub own : Gains old.own new.own base new.seen
 
 -- a call that ran out of memory: nothing is put, and no fault is met
 pub record Stays (old new : Meaning) (base : List DeepPut) : Type 0 where
   pub told : new.told ≡ old.told
   pub faults : new.faults ≡ old.faults
   pub seen : new.seen ≡ base
+  pub own : new.own ≡ old.own
 
 abbrev pub GoesBy : {X : Type 0} → Meaning → Meaning → Fault → List DeepPut → List DeepPut → Result X DeepRefused → Result X DeepRefused → Type 0
 GoesBy old new fault base after answer (Err Memory) = Stays old new base

@@ -8,10 +8,17 @@ pub record Told : Type 0 where
   pub files : List DeepPut
   pub faults : Planned
 
+-- a caller who is told apart from others: the numbers of its front, and its own files, in order
+pub record Own : Type 0 where
+  pub numbers : List ℕ
+  pub files : List DeepPut
+
 pub record Meaning : Type 0 where
   -- everything, where it is told
   pub told : Option Told
   -- the files that the caller has seen
   pub seen : List DeepPut
+  -- the caller's own, where callers are told apart
+  pub own : Option Own
   -- the count of faults
   pub faults : ℕ

@@ -1,5 +1,5 @@
 -- The deep store in memory: what it carries out.
-use Rattle.std.specs.Prelude.{◌≡◌, [], ◌∷◌, ◌++◌, Some, Result, Ok, Err}
+use Rattle.std.specs.Prelude.{◌≡◌, [], ◌∷◌, ◌++◌, Some, None, Result, Ok, Err}
 use Rattle.rt_deep.specs.declared.deep_put.DeepPut.{DeepPut}
 use Rattle.rt_deep.specs.declared.refused.DeepRefused.{DeepRefused}
 use Rattle.rt_deep.specs.declared.refused.DeepRefused.TheVariants.{Absent, OtherBytes, Failed, Memory}
@@ -9,7 +9,7 @@ use Rattle.rt_deep.specs.Calls.{told_after}
 
 -- it tells everything, and whoever calls it sees all files
 abbrev pub means : Told → Meaning
-means t = record { told = Some t; seen = t.files; faults = t.faults.met }
+means t = record { told = Some t; seen = t.files; own = None; faults = t.faults.met }
 
 -- a file is put
 abbrev pub with_file : Told → DeepPut → Told

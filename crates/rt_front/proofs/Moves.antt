@@ -9,9 +9,9 @@ use Rattle.atomic_table.proofs.Lists.{set_here, set_else}
 use Rattle.rt_front.specs.declared.entry.Entry.{Entry}
 use Rattle.rt_front.specs.declared.rule.Hand.{Hand}
 use Rattle.rt_front.specs.declared.rule.View.{View}
-use Rattle.rt_front.specs.Histories.{stands, first_of, entry}
+use Rattle.rt_front.specs.Histories.{stands, ShareNone, first_of, entry}
 use Rattle.rt_front.specs.Rules.{has_none, hand, knows, empty_hand, beginner, front_view, spent_view, hosting, made_after, given, alone, handed_out, longer, with_entry, Learned, Folded, NoneOf, IsHand, IsView, carries, Kept, Advances, ShowsAll, SeesLength, OneHand}
-use Rattle.rt_front.proofs.Numbers.{either_way, or_left, or_right, or_first, or_cases, stands_first, stands_nowhere, stands_append, none_of_none, none_push, none_left, none_right, none_of_both, mine_seen, between, by_longer}
+use Rattle.rt_front.proofs.Numbers.{either_way, or_left, or_right, or_first, or_cases, stands_first, stands_nowhere, stands_append, all_standing, share_none, share_with_none, none_shares, none_of_none, none_push, none_left, none_right, none_of_both, mine_seen, between, by_longer}
 use Rattle.rt_front.proofs.Views.{within, each_set, each_more, moved, moved_there, moved_not, moved_same, carry_set, carry_more, carry_last}
 
 not_both : (home : ℕ → ℕ) (numbers : List ℕ) (n k j : ℕ) → (stands n numbers ≡ true → home n ≡ k) → home n ≡ j → j ≢ k → stands n numbers ≡ false
@@ -52,6 +52,7 @@ module _ {T : Type 0} where
         keeps = λ e. absurd (true≢false (sym e));
         own = empty_fits log made home k;
         other = empty_fits log made home k;
+        apart = share_with_none [];
       }
 
   -- ---- the start
@@ -63,7 +64,7 @@ module _ {T : Type 0} where
   pub begins : Kept {T = T} (opening (0 ∷ []) [] beginner)
   begins =
       let F : ℕ → View T → Type 0 = IsView [] 0 0 (λ n. 0) in
-      let first : F 0 beginner = record { keeps = λ e. (refl, refl, refl); own = empty_fits [] 0 (λ n. 0) 0; other = empty_fits [] 0 (λ n. 0) 0 } in
+      let first : F 0 beginner = record { keeps = λ e. (refl, refl, refl); own = empty_fits [] 0 (λ n. 0) 0; other = empty_fits [] 0 (λ n. 0) 0; apart = share_with_none [] } in
       record {
         log = [];
         made = 0;
@@ -99,6 +100,7 @@ module _ {T : Type 0} where
           none_later = theirs.own.none_later;
           placed = λ n e. ((theirs.own.placed n e).0, moved_there goes id kept.home n e);
         };
+        apart = share_none kept.home id other v.own.numbers w.own.numbers (λ e. apart (sym e)) (λ n e. (mine.own.placed n e).1) (λ n e. (theirs.own.placed n e).1);
       } in
       let left_alone : (j : ℕ) (u : View T) → j ≢ other → get_elem? s.views j ≡ some u → F j u = λ j u no_j e.
       let fits = kept.views j u e in
@@ -107,6 +109,7 @@ module _ {T : Type 0} where
         keeps = fits.keeps;
         own = hand_kept kept.made home fits.own (omega arith) (λ n t lt h. stays n h);
         other = hand_kept kept.made home fits.other (omega arith) (λ n t lt h. stays n h);
+        apart = fits.apart;
       } in
       let views : List (View T) = set (set s.views id both) other spent_view in
       let here : get_elem? views id ≡ some both = set_else (set s.views id both) other id spent_view (λ e. apart (sym e)) ∙ set_here s.views id both (within s.views id v at) in
@@ -138,11 +141,12 @@ module _ {T : Type 0} where
         placed = fits.placed;
       }
 
-  learned : {log : List (Entry T)} {made keeper : ℕ} {home : ℕ → ℕ} {k : ℕ} (v : View T) → v.own.seen ≡ log → IsView log made keeper home k v → Learned v
-  learned v e fits =
+  learned : {log : List (Entry T)} {made keeper : ℕ} {home : ℕ → ℕ} {k : ℕ} (v : View T) → v.own.seen ≡ log → v.made ≡ made → IsView log made keeper home k v → Learned v
+  learned v e m fits =
       record {
         mine = mine_seen v.other.numbers v.own.seen v.other.seen fits.other.rest (e ∙ fits.other.begins) fits.other.none_later;
         begins = (fits.other.rest, e ∙ fits.other.begins);
+        below = all_standing (λ n. n < v.made) v.other.numbers (λ n t. let p = (fits.other.placed n t).0 in omega (arith, p, m));
       }
 
   pub advances : (slots id : ℕ) (v : View T) (c : List (ℕ × T)) (old : ℕ) (what : T) → v.keeps ≡ true → old ≡ length v.own.seen → has_none v.other.numbers ≡ false
@@ -164,6 +168,7 @@ module _ {T : Type 0} where
         keeps = λ t. (k.0, refl, k.2);
         own = whole_fits log log kept.made kept.home id [] refl (λ n t. absurd (true≢false (sym t)));
         other = whole_fits log log kept.made kept.home id v.other.numbers refl fits.other.placed;
+        apart = none_shares v.other.numbers;
       } in
       let behind : (j : ℕ) (h : Hand T) → j ≢ id → IsHand kept.log kept.made kept.home j h → IsHand log kept.made kept.home j h = λ j h apart x.
       subst (λ l. IsHand l kept.made kept.home j h) longer_is
@@ -174,6 +179,7 @@ module _ {T : Type 0} where
         keeps = λ t. absurd (apart ((old_fits.keeps t).0 ∙ sym k.0));
         own = behind j u.own apart old_fits.own;
         other = behind j u.other apart old_fits.other;
+        apart = old_fits.apart;
       } in
       let all_made : All (λ x. x.front < kept.made) log = All-push (λ x. x.front < kept.made) v.own.seen e (All-same (λ x. x.front < kept.made) v.own.seen kept.log log_is kept.all_made) made_first.0 in
       let words = exchanged old (length kept.log) (length log) (ap length (sym log_is) ∙ sym count) (length-append v.own.seen (e ∷ []) ∙ ap (λ n. n + 1) (sym count)) in
@@ -194,7 +200,7 @@ module _ {T : Type 0} where
         views = each_set F s.views id w mine_fits others;
       } in
       let below : All (λ x. x.front < v.made) log = subst (λ m. All (λ x. x.front < m) log) (sym k.2) all_made in
-      subst P (sym kept.words) (w, keeps, tt, next, (refl, (refl, learned v log_is fits, below)))
+      subst P (sym kept.words) (w, keeps, tt, next, (refl, (refl, learned v log_is k.2 fits, below)))
 
   -- ---- a look at the history
 
@@ -210,6 +216,7 @@ module _ {T : Type 0} where
         keeps = λ t. k;
         own = fits.own;
         other = whole_fits kept.log v.own.seen kept.made kept.home id v.other.numbers log_is fits.other.placed;
+        apart = fits.apart;
       } in
       let P : List ℕ → Type 0 = λ ws. (x : View T) × (a : Act T) × Valid s.homes c a
       × Kept record { words = set ws 0 (slice_index ws 0); homes = homes_after s.homes c a; views = set s.views id x }
@@ -227,7 +234,7 @@ module _ {T : Type 0} where
       } in
       let below : All (λ x. x.front < v.made) v.own.seen =
       subst (λ m. All (λ x. x.front < m) v.own.seen) (sym k.2) (All-same (λ x. x.front < kept.made) v.own.seen kept.log log_is kept.all_made) in
-      subst P (sym kept.words) (w, keeps, tt, next, (refl, refl, learned v log_is fits, below))
+      subst P (sym kept.words) (w, keeps, tt, next, (refl, refl, learned v log_is k.2 fits, below))
 
   pub looks : (slots id : ℕ) (v : View T) (c : List (ℕ × T)) → Allows Kept slots id (v, c) 0 (λ n. n) (SeesLength (step slots 0 0 0 none) (v, c))
   looks slots id v c s kept len at small =
@@ -260,8 +267,8 @@ module _ {T : Type 0} where
       → (n : ℕ) → stands n (a.numbers ++ b.numbers) ≡ true → (n < made) × (home n ≡ k)
   both_placed {a = a} {b = b} x y n e = ⊎_elim (λ t. x.placed n t) (λ t. y.placed n t) (or_cases _ _ (sym (stands_append n a.numbers b.numbers) ∙ e))
 
-  folded_right : {log : List (Entry T)} {made : ℕ} {home : ℕ → ℕ} {k : ℕ} (a b : Hand T) → IsHand log made home k a → IsHand log made home k b → length a.seen ≤ length b.seen → Makes log made home k a b b.seen
-  folded_right a b x y le =
+  folded_right : {log : List (Entry T)} {made : ℕ} {home : ℕ → ℕ} {k : ℕ} (a b : Hand T) → IsHand log made home k a → IsHand log made home k b → ShareNone a.numbers b.numbers → length a.seen ≤ length b.seen → Makes log made home k a b b.seen
+  folded_right a b x y apart le =
       let i = between a.seen b.seen x.rest y.rest (sym x.begins ∙ y.begins) le in
       let none_a : NoneOf a.numbers (i.0 ++ y.rest) = subst (NoneOf a.numbers) i.2 x.none_later in (
         record {
@@ -275,11 +282,12 @@ module _ {T : Type 0} where
           other = ([], sym (append-nil b.seen));
           own_mine = mine_seen a.numbers b.seen a.seen i.0 i.1 (none_left a.numbers i.0 y.rest none_a);
           other_mine = refl;
+          apart = apart;
         },
       )
 
-  folded_left : {log : List (Entry T)} {made : ℕ} {home : ℕ → ℕ} {k : ℕ} (a b : Hand T) → IsHand log made home k a → IsHand log made home k b → length b.seen ≤ length a.seen → Makes log made home k a b a.seen
-  folded_left a b x y le =
+  folded_left : {log : List (Entry T)} {made : ℕ} {home : ℕ → ℕ} {k : ℕ} (a b : Hand T) → IsHand log made home k a → IsHand log made home k b → ShareNone a.numbers b.numbers → length b.seen ≤ length a.seen → Makes log made home k a b a.seen
+  folded_left a b x y apart le =
       let i = between b.seen a.seen y.rest x.rest (sym y.begins ∙ x.begins) le in
       let none_b : NoneOf b.numbers (i.0 ++ x.rest) = subst (NoneOf b.numbers) i.2 y.none_later in (
         record {
@@ -293,6 +301,7 @@ module _ {T : Type 0} where
           other = (i.0, i.1);
           own_mine = refl;
           other_mine = mine_seen b.numbers a.seen b.seen i.0 i.1 (none_left b.numbers i.0 x.rest none_b);
+          apart = apart;
         },
       )
 
@@ -301,7 +310,7 @@ module _ {T : Type 0} where
       let fits = kept.views id v at in
       let seen : List (Entry T) = longer v.own.seen v.other.seen in
       let one = by_longer (Makes kept.log kept.made kept.home id v.own v.other) v.own.seen v.other.seen
-      (λ le. folded_right v.own v.other fits.own fits.other le) (λ le. folded_left v.own v.other fits.own fits.other le) in
+      (λ le. folded_right v.own v.other fits.own fits.other fits.apart le) (λ le. folded_left v.own v.other fits.own fits.other fits.apart le) in
       let w : View T = front_view (hand seen (v.own.numbers ++ v.other.numbers)) in
       let F : ℕ → View T → Type 0 = IsView kept.log kept.made kept.keeper kept.home in
       let mine_fits : F id w =
@@ -309,6 +318,7 @@ module _ {T : Type 0} where
         keeps = λ t. absurd (true≢false (sym t));
         own = one.0;
         other = empty_fits kept.log kept.made kept.home id;
+        apart = share_with_none (v.own.numbers ++ v.other.numbers);
       } in
       let P : List ℕ → Type 0 = λ ws. (x : View T) × (a : Act T) × Valid s.homes c a
       × Kept record { words = set ws 0 (slice_index ws 0); homes = homes_after s.homes c a; views = set s.views id x }
@@ -372,12 +382,14 @@ module _ {T : Type 0} where
         keeps = λ t. (k.0, k.1, refl);
         own = subst (IsHand kept.log more home id) (sym k.1) (whole_fits kept.log kept.log more home id [] refl (λ n t. absurd (true≢false (sym t))));
         other = empty_fits kept.log more home id;
+        apart = share_with_none v.own.numbers;
       } in
       let right : F last (handed_out v) =
       record {
         keeps = λ t. absurd (true≢false (sym t));
         own = whole_fits kept.log v.own.seen more home last numbers log_is (λ n e. (known.below n e, moved_there goes last kept.home n e));
         other = empty_fits kept.log more home last;
+        apart = share_with_none numbers;
       } in
       let others : (j : ℕ) (u : View T) → j ≢ id → get_elem? s.views j ≡ some u → F j u = λ j u apart x.
       let old_fits = kept.views j u x in
@@ -387,6 +399,7 @@ module _ {T : Type 0} where
         keeps = λ t. absurd (apart ((old_fits.keeps t).0 ∙ sym k.0));
         own = hand_kept more home old_fits.own known.grows (λ n t lt h. stays n lt h);
         other = hand_kept more home old_fits.other known.grows (λ n t lt h. stays n lt h);
+        apart = old_fits.apart;
       } in
       let before : List (View T) = set s.views id (alone v) in
       let count : length before ≡ last = length-set s.views id (alone v) in

@@ -1,12 +1,12 @@
 -- Entries that carry a number, and beginnings of one list.
-use Rattle.std.proofs.Common.{◌≡◌, ℕ, ◌+◌, ◌≤◌, max, ◌⊎◌, ◌==◌, ◌||◌, Bool, true, false, cond, true≢false, List, [], ◌∷◌, ◌++◌, length, map, get_or, drop, sym, refl, ap, ◌∙◌, inl, inr, arith, append-nil, eq-eqb, leb-true, leb-false}
-use Rattle.std.proofs.lemmas.List.Elements.{filter-append}
+use Rattle.std.proofs.Common.{◌≡◌, ◌≢◌, ℕ, ◌+◌, ◌≤◌, max, ◌⊎◌, ◌==◌, ◌||◌, Bool, true, false, cond, true≢false, List, [], ◌∷◌, ◌++◌, length, map, get_or, drop, sym, refl, ap, ◌∙◌, inl, inr, ⊎_elim, arith, append-nil, eq-eqb, leb-true, leb-false, All}
+use Rattle.std.proofs.lemmas.List.Elements.{filter-append, All-nil, All-cons}
 use Rattle.std.proofs.lemmas.List.Folds.{list_any-append}
 use Rattle.std.specs.List.{range_with_len}
 use Rattle.std.proofs.lemmas.List.FromFn.{map-range_with_len_more}
 use Rattle.atomic_table.specs.Seated.{TableId}
 use Rattle.rt_front.specs.declared.entry.Entry.{Entry}
-use Rattle.rt_front.specs.Histories.{Known, known, stands, first_of, mine}
+use Rattle.rt_front.specs.Histories.{Known, known, stands, ShareNone, first_of, mine}
 use Rattle.rt_front.specs.Rules.{NoneOf, has_none, longer}
 
 -- ---- tests
@@ -49,6 +49,25 @@ stands_nowhere n (m ∷ numbers) e = absurd (true≢false (sym e))
 
 pub stands_append : (n : ℕ) (ns ms : List ℕ) → stands n (ns ++ ms) ≡ (stands n ns || stands n ms)
 stands_append n ns ms = list_any-append (λ m. m == n) ns ms
+
+-- what holds of each number that stands in a list holds of all of it
+pub all_standing : (P : ℕ → Type 0) (numbers : List ℕ) → ((n : ℕ) → stands n numbers ≡ true → P n) → All P numbers
+all_standing P [] each = All-nil P
+all_standing P (m ∷ numbers) each =
+    All-cons P m numbers (each m (or_left (m == m) (stands m numbers) (eq-eqb m m refl)))
+    (all_standing P numbers (λ n e. each n (or_right (m == n) (stands n numbers) e)))
+
+-- lists whose numbers are at two places share none
+pub share_none : (home : ℕ → ℕ) (j k : ℕ) (ns ms : List ℕ) → j ≢ k → ((n : ℕ) → stands n ns ≡ true → home n ≡ j) → ((n : ℕ) → stands n ms ≡ true → home n ≡ k) → ShareNone ns ms
+share_none home j k ns ms apart here there =
+    all_standing (λ n. stands n ms ≡ false) ns
+    (λ n e. ⊎_elim (λ (t : stands n ms ≡ true). absurd (apart (sym (here n e) ∙ there n t))) (λ t. t) (either_way (stands n ms)))
+
+pub share_with_none : (ns : List ℕ) → ShareNone ns []
+share_with_none ns = all_standing (λ n. false ≡ false) ns (λ n e. refl)
+
+pub none_shares : (ms : List ℕ) → ShareNone [] ms
+none_shares ms = All-nil (λ n. stands n ms ≡ false)
 
 pub has_none_left : (ns ms : List ℕ) → has_none ns ≡ false → has_none (ns ++ ms) ≡ false
 has_none_left [] ms e = absurd (true≢false e)

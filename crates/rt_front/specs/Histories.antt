@@ -1,5 +1,5 @@
 -- A history, and what a caller who holds a front knows of it.
-use Rattle.std.specs.Prelude.{ℕ, ◌==◌, Bool, List, [], ◌∷◌}
+use Rattle.std.specs.Prelude.{◌≡◌, ℕ, ◌<◌, ◌==◌, Bool, false, List, [], ◌∷◌, All}
 use Rattle.std.specs.List.{filter, list_any}
 use Rattle.atomic_table.specs.Seated.{TableId}
 use Rattle.rt_front.specs.declared.entry.Entry.{Entry}
@@ -19,6 +19,14 @@ pub record Known (T : Type 0) : Type 0 where
 -- a number is one of these
 abbrev pub stands : ℕ → List ℕ → Bool
 stands n numbers = list_any (λ m. m == n) numbers
+
+-- each of these numbers is below the count of the fronts that were made
+abbrev pub AreBelow : ℕ → List ℕ → Type 0
+AreBelow made numbers = All (λ n. n < made) numbers
+
+-- no number stands in both lists
+abbrev pub ShareNone : List ℕ → List ℕ → Type 0
+ShareNone ns ms = All (λ n. stands n ms ≡ false) ns
 
 abbrev pub first_of : List ℕ → ℕ
 first_of [] = 0

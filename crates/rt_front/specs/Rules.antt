@@ -8,7 +8,7 @@ use Rattle.atomic_table.specs.declared.shared.Seat.{Seat}
 use Rattle.rt_front.specs.declared.entry.Entry.{Entry}
 use Rattle.rt_front.specs.declared.rule.Hand.{Hand}
 use Rattle.rt_front.specs.declared.rule.View.{View}
-use Rattle.rt_front.specs.Histories.{Known, known, stands, first_of, entry, mine}
+use Rattle.rt_front.specs.Histories.{Known, known, stands, AreBelow, ShareNone, first_of, entry, mine}
 use Rattle.rt_lists.specs.Members.{IsFront as IsPrefix}
 
 abbrev pub has_none : List ℕ → Bool
@@ -70,6 +70,7 @@ module _ {T : Type 0} where
   pub record Learned (v : View T) : Type 0 where
     pub mine : mine v.other.numbers v.own.seen ≡ mine v.other.numbers v.other.seen
     pub begins : IsPrefix v.other.seen v.own.seen
+    pub below : AreBelow v.made v.other.numbers
 
   abbrev pub Added : View T → Option T → View T → Type 0
   Added v none w = ⊥
@@ -94,6 +95,7 @@ module _ {T : Type 0} where
     pub other : IsPrefix b.seen seen
     pub own_mine : mine a.numbers seen ≡ mine a.numbers a.seen
     pub other_mine : mine b.numbers seen ≡ mine b.numbers b.seen
+    pub apart : ShareNone a.numbers b.numbers
 
   abbrev pub OneHand : Step T → Me T (View T) → ℕ → Me T (View T) → Type 0
   OneHand s v found w =
@@ -118,6 +120,7 @@ module _ {T : Type 0} where
     pub keeps : v.keeps ≡ true → (k ≡ keeper) × (v.own ≡ hand log []) × (v.made ≡ made)
     pub own : IsHand log made home k v.own
     pub other : IsHand log made home k v.other
+    pub apart : ShareNone v.own.numbers v.other.numbers
 
   -- a number stands in one of the hands
   abbrev pub carries : ℕ → Option (View T) → Bool

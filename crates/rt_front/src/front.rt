@@ -1,6 +1,6 @@
 ghost use Rattle.std.specs.Prelude.{◌≡◌, ◌≤◌, [], ◌++◌, length};
 ghost use Rattle.rt_front.specs.Rules.{front_view, hand, longer, IsSeat};
-ghost use Rattle.rt_front.specs.Histories.{known, first_of, mine};
+ghost use Rattle.rt_front.specs.Histories.{known, first_of, mine, ShareNone};
 ghost use Rattle.rt_lists.specs.Members.{IsFront as IsPrefix};
 
 use crate::chronicle::Chronicle;
@@ -57,7 +57,8 @@ impl<T> Front<T> {
         look_from(&chronicle.table.shared, seat)
     }
 
-    /// Takes in another front: the longer of what the two have seen, and the numbers of both.
+    /// Takes in another front: the longer of what the two have seen, and the numbers of both, of which none stands in
+    /// both.
     #[tactic(auto, using(crate::proofs::Numbers::first_left, crate::proofs::Numbers::has_none_left, crate::proofs::Numbers::length_longer))]
     pub fn meet(&mut self, chronicle: &Chronicle<T>, other: Front<T>)
         requires { (self.old.chronicle ≡ chronicle.now) × (other.chronicle ≡ chronicle.now) }
@@ -66,6 +67,7 @@ impl<T> Front<T> {
         ensures begins { IsPrefix self.old.seen self.new.seen × IsPrefix other.seen self.new.seen }
         ensures mine { (mine self.old.numbers self.new.seen ≡ mine self.old.numbers self.old.seen)
             × (mine other.numbers self.new.seen ≡ mine other.numbers other.seen) }
+        ensures apart { ShareNone self.old.numbers other.numbers }
     {
         let Front {
             seat: other_seat,
@@ -110,6 +112,7 @@ fn fold<T>(table: &Desk<T>, mut seat: Chair<T>, other: Chair<T>) -> Chair<T>
         ≡ mine seat.me.0.own.numbers seat.me.0.own.seen)
         × (mine other.me.0.own.numbers result.me.0.own.seen
         ≡ mine other.me.0.own.numbers other.me.0.own.seen) }
+    ensures apart { ShareNone seat.me.0.own.numbers other.me.0.own.numbers }
 {
     table.join_seat::<Guest>(&mut seat, other);
     table.load::<Folds>(&mut seat, 0);

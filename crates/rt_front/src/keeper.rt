@@ -1,6 +1,15 @@
 ghost use Rattle.std.specs.Prelude.{◌≡◌, ◌+◌, ◌-◌, ◌^◌, ◌<◌, [], ◌∷◌, ◌++◌, length, All};
 ghost use Rattle.rt_front.specs.Rules.{keeper_view, front_view, hand, IsSeat};
-ghost use Rattle.rt_front.specs.Histories.{History, Known, history, known, entry, first_of, mine};
+ghost use Rattle.rt_front.specs.Histories.{
+  History,
+  Known,
+  history,
+  known,
+  entry,
+  first_of,
+  mine,
+  AreBelow,
+};
 ghost use Rattle.rt_lists.specs.Members.{IsFront as IsPrefix};
 
 use crate::chronicle::Chronicle;
@@ -47,6 +56,7 @@ impl<T> Keeper<T> {
             ++ entry (first_of front.old.numbers) (length front.old.seen) what.now ∷ [] }
         ensures begins { IsPrefix front.old.seen self.old.log }
         ensures made { All (λ e. e.front < self.old.made) self.new.log }
+        ensures below { AreBelow self.old.made front.old.numbers }
     {
         let Some(seat) = front.seat.take() else {
             unreachable!()
@@ -65,6 +75,7 @@ impl<T> Keeper<T> {
         ensures mine { mine front.new.numbers front.new.seen ≡ mine front.old.numbers front.old.seen }
         ensures begins { IsPrefix front.old.seen self.old.log }
         ensures made { All (λ e. e.front < self.old.made) self.old.log }
+        ensures below { AreBelow self.old.made front.old.numbers }
     {
         let Some(seat) = front.seat.take() else {
             unreachable!()
@@ -100,6 +111,7 @@ fn add_for<T>(
         ≡ mine guest.me.0.own.numbers guest.me.0.own.seen }
     ensures begins { IsPrefix guest.me.0.own.seen keeper.old.me.0.own.seen }
     ensures made { All (λ e. e.front < keeper.old.me.0.made) keeper.new.me.0.own.seen }
+    ensures below { AreBelow keeper.old.me.0.made guest.me.0.own.numbers }
 {
     table.join_seat::<Guest>(keeper, guest);
     table.compare_exchange_with::<Adds>(keeper, 0, count, count + 1, what);
@@ -119,6 +131,7 @@ fn show<T>(table: &Desk<T>, keeper: &mut Chair<T>, guest: Chair<T>) -> Chair<T>
         ≡ mine guest.me.0.own.numbers guest.me.0.own.seen }
     ensures begins { IsPrefix guest.me.0.own.seen keeper.old.me.0.own.seen }
     ensures made { All (λ e. e.front < keeper.old.me.0.made) keeper.old.me.0.own.seen }
+    ensures below { AreBelow keeper.old.me.0.made guest.me.0.own.numbers }
 {
     table.join_seat::<Guest>(keeper, guest);
     table.load::<Shows>(keeper, 0);

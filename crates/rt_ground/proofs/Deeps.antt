@@ -1,5 +1,5 @@
 -- What the calls of the deep store behind its lock do, and what shared ones promise.
-use Rattle.std.proofs.Common.{◌≡◌, ℕ, Bool, true, false, List, [], ◌∷◌, length, slice_get, if◌then◌else◌, Option, Some, None, unwrap_or, Result, Ok, Err, refl, sym, ap, ◌∙◌, ⊎_elim, subst, arith}
+use Rattle.std.proofs.Common.{◌≡◌, ℕ, Bool, true, false, List, [], ◌∷◌, append-nil, length, slice_get, if◌then◌else◌, Option, Some, None, unwrap_or, Result, Ok, Err, refl, sym, ap, ◌∙◌, ⊎_elim, subst, arith}
 use Rattle.std.specs.Str.{bytes_eq}
 use Rattle.rt_lists.specs.Members.{IsFront}
 use Rattle.rt_lists.proofs.Members.{slice_get-push}
@@ -7,16 +7,16 @@ use Rattle.rt_base.specs.declared.fault.Fault.TheVariants.{Nothing}
 use Rattle.rt_deep.specs.declared.deep_put.DeepPut.{DeepPut}
 use Rattle.rt_deep.specs.declared.refused.DeepRefused.{DeepRefused}
 use Rattle.rt_deep.specs.declared.refused.DeepRefused.TheVariants.{Absent, OtherBytes, Failed, Memory}
-use Rattle.rt_deep.specs.Meaning.{Told}
+use Rattle.rt_deep.specs.Meaning.{Told, Own}
 use Rattle.rt_deep.specs.Memory.{means}
 use Rattle.rt_deep.specs.Files.{file_of, AreOnce}
 use Rattle.rt_deep.specs.Answers.{getting, compared_in, putting, after_beside, after_put}
-use Rattle.rt_deep.specs.Calls.{Sees, PutsFile, Gets}
+use Rattle.rt_deep.specs.Calls.{Sees, Gains, PutsFile, Gets}
 use Rattle.rt_deep.proofs.Seeing.{told_exact}
 use Rattle.rt_front.specs.declared.entry.Entry.{Entry}
-use Rattle.rt_front.specs.Histories.{Known}
+use Rattle.rt_front.specs.Histories.{Known, mine}
 use Rattle.rt_ground.specs.Histories.{whats, next_entry, Notes, Tells, SeesMore}
-use Rattle.rt_ground.specs.DeepCalls.{shared_meaning, held, NotesAt, SettledBy, AddsBeside, PutsOnce, IsAnswer, GetsFrom, SharesBy}
+use Rattle.rt_ground.specs.DeepCalls.{own_by, shared_meaning, held, NotesAt, SettledBy, AddsBeside, PutsOnce, IsAnswer, GetsFrom, SharesBy}
 use Rattle.rt_ground.proofs.Entries.{forth, back, whats_append, whats_front}
 
 -- ---- behind the lock
@@ -141,6 +141,10 @@ get_done path log t before after result calls told =
       gets = record { same = refl; told = told; answered = given.1; once = subst AreOnce calls.sees.all calls.sees.once };
     }
 
+-- no path has two files, where nothing was added
+pub once_still : (old new : List (Entry DeepPut)) → new ≡ old → AreOnce (whats old) → AreOnce (whats new)
+once_still old new same once = subst (λ (l : List (Entry DeepPut)). AreOnce (whats l)) (sym same) once
+
 -- ---- as the contracts see it
 
 pub record DeepClosed (log : List (Entry DeepPut)) (t : Told) (Says : Type 0) : Type 0 where
@@ -176,6 +180,36 @@ get_closed path v old new t0 t before after result view holds same calls told =
 sees : (before : Known DeepPut) (log : List (Entry DeepPut)) → IsFront before.seen log → AreOnce (whats log) → Sees (shared_meaning before) (whats log)
 sees before log begins once = record { grows = whats_front before.seen log begins; all = tt; once = once }
 
+-- ---- what is the caller's own
+
+abbrev some_own : List ℕ → List DeepPut → Option Own
+some_own numbers files = Some (record { numbers = numbers; files = files })
+
+own_told : (log : List (Entry DeepPut)) (before after : Known DeepPut) → Tells log before after → some_own after.numbers (whats (mine after.numbers after.seen)) ≡ some_own before.numbers (whats (mine before.numbers before.seen))
+own_told log before after t =
+    ap (λ n. some_own n (whats (mine after.numbers after.seen))) (ap (λ (k : Known DeepPut). k.numbers) t.front)
+    ∙ ap (λ es. some_own before.numbers (whats es)) t.mine
+
+-- a call that added nothing adds nothing of the caller's own
+own_kept : (log : List (Entry DeepPut)) (before after : Known DeepPut) (base : List DeepPut) → Tells log before after → whats after.seen ≡ base
+    → Gains (Some (own_by before)) (Some (own_by after)) base (whats after.seen)
+own_kept log before after base t seen = (
+  [],
+  seen ∙ sym (append-nil base),
+  own_told log before after t ∙ ap (some_own before.numbers) (sym (append-nil (whats (mine before.numbers before.seen)))),
+)
+
+-- a file that was noted is the caller's own
+own_noted : (old new : List (Entry DeepPut)) (before after : Known DeepPut) (w : DeepPut) → Notes old new before after w
+    → Gains (Some (own_by before)) (Some (own_by after)) (whats old) (whats after.seen)
+own_noted old new before after w n = (
+  w ∷ [],
+  ap (λ (k : Known DeepPut). whats k.seen) n.front ∙ ap whats n.log ∙ whats_append old (next_entry before w ∷ []),
+  ap (λ m. some_own m (whats (mine after.numbers after.seen))) (ap (λ (k : Known DeepPut). k.numbers) n.front)
+      ∙ ap (λ es. some_own before.numbers (whats es)) n.mine
+      ∙ ap (some_own before.numbers) (whats_append (mine before.numbers before.seen) (next_entry before w ∷ [])),
+)
+
 module _ (put : DeepPut) (before after : Known DeepPut) where
   abbrev Shared : Result (Unit {0}) DeepRefused → Type 0
   Shared result = PutsFile (shared_meaning before) (shared_meaning after) put result
@@ -186,6 +220,10 @@ module _ (put : DeepPut) (before after : Known DeepPut) where
     ap (λ (k : Known DeepPut). whats k.seen) n.front ∙ ap whats n.log ∙ whats_append old (next_entry before put ∷ []),
   )
   beside (Some file) old new t = (t.1.begins, ap (λ (k : Known DeepPut). whats k.seen) t.1.front)
+
+  own_beside : (o : Option DeepPut) (old new : List (Entry DeepPut)) → AddsBeside o old new before after put → Gains (Some (own_by before)) (Some (own_by after)) (whats old) (whats after.seen)
+  own_beside None old new n = own_noted old new before after put n
+  own_beside (Some file) old new t = own_kept old before after (whats old) t.1 (ap (λ (k : Known DeepPut). whats k.seen) t.1.front)
 
   -- a refused put changes nothing
   unchanged : (o : Option DeepPut) (old : List (Entry DeepPut)) (e : DeepRefused) → unwrap_or (compared_in o put.bytes) okay ≡ Err e → after_beside o (whats old) put ≡ whats old
@@ -198,15 +236,15 @@ module _ (put : DeepPut) (before after : Known DeepPut) where
   pub shared_put : (old new : List (Entry DeepPut)) (result : Result (Unit {0}) DeepRefused) → PutsOnce put old new before after result → Shared result
   shared_put old new (Ok x) w =
       let b = beside (file_of (whats old) put.path) old new w.adds in
-      record { fault = Nothing; base = whats old; sees = sees before old b.0 w.once; goes = record { meets = refl; counts = omega arith; answered = sym w.answer; seen = b.1 } }
+      record { fault = Nothing; base = whats old; sees = sees before old b.0 w.once; goes = record { meets = refl; counts = omega arith; answered = sym w.answer; seen = b.1; own = own_beside (file_of (whats old) put.path) old new w.adds } }
   shared_put old new (Err Memory) w =
-      record { fault = Nothing; base = whats old; sees = sees before old w.told.begins w.once; goes = record { told = refl; faults = refl; seen = ap (λ (k : Known DeepPut). whats k.seen) w.told.front } }
+      record { fault = Nothing; base = whats old; sees = sees before old w.told.begins w.once; goes = record { told = refl; faults = refl; seen = ap (λ (k : Known DeepPut). whats k.seen) w.told.front; own = own_told old before after w.told } }
   shared_put old new (Err Absent) w =
-      record { fault = Nothing; base = whats old; sees = sees before old w.told.begins w.once; goes = record { meets = refl; counts = omega arith; answered = sym w.cause; seen = still old w.told (unchanged (file_of (whats old) put.path) old Absent w.cause) } }
+      record { fault = Nothing; base = whats old; sees = sees before old w.told.begins w.once; goes = record { meets = refl; counts = omega arith; answered = sym w.cause; seen = still old w.told (unchanged (file_of (whats old) put.path) old Absent w.cause); own = own_kept old before after (whats old) w.told (ap (λ (k : Known DeepPut). whats k.seen) w.told.front) } }
   shared_put old new (Err (OtherBytes kept offered)) w =
-      record { fault = Nothing; base = whats old; sees = sees before old w.told.begins w.once; goes = record { meets = refl; counts = omega arith; answered = sym w.cause; seen = still old w.told (unchanged (file_of (whats old) put.path) old (OtherBytes kept offered) w.cause) } }
+      record { fault = Nothing; base = whats old; sees = sees before old w.told.begins w.once; goes = record { meets = refl; counts = omega arith; answered = sym w.cause; seen = still old w.told (unchanged (file_of (whats old) put.path) old (OtherBytes kept offered) w.cause); own = own_kept old before after (whats old) w.told (ap (λ (k : Known DeepPut). whats k.seen) w.told.front) } }
   shared_put old new (Err Failed) w =
-      record { fault = Nothing; base = whats old; sees = sees before old w.told.begins w.once; goes = record { meets = refl; counts = omega arith; answered = sym w.cause; seen = still old w.told (unchanged (file_of (whats old) put.path) old Failed w.cause) } }
+      record { fault = Nothing; base = whats old; sees = sees before old w.told.begins w.once; goes = record { meets = refl; counts = omega arith; answered = sym w.cause; seen = still old w.told (unchanged (file_of (whats old) put.path) old Failed w.cause); own = own_kept old before after (whats old) w.told (ap (λ (k : Known DeepPut). whats k.seen) w.told.front) } }
 
   told_only : (log : List (Entry DeepPut)) → Tells log before after → SeesMore before after
   told_only log told = record { log = log; told = told }
@@ -222,17 +260,17 @@ module _ (put : DeepPut) (before after : Known DeepPut) where
   mine_put old new (Err (OtherBytes kept offered)) w = told_only old w.told
   mine_put old new (Err Failed) w = told_only old w.told
 
-got : (path : List ℕ) (before after : Known DeepPut) (old : List (Entry DeepPut)) (r : Result (List ℕ) DeepRefused) → Sees (shared_meaning before) (whats old) → whats after.seen ≡ whats old → IsAnswer (getting path (whats old)) r → Gets (shared_meaning before) (shared_meaning after) path r
-got path before after old (Err Memory) s seen a = record { fault = Nothing; base = whats old; sees = s; goes = record { told = refl; faults = refl; seen = seen } }
-got path before after old (Ok x) s seen a = record { fault = Nothing; base = whats old; sees = s; goes = record { meets = refl; counts = omega arith; answered = sym a; seen = seen } }
-got path before after old (Err Absent) s seen a = record { fault = Nothing; base = whats old; sees = s; goes = record { meets = refl; counts = omega arith; answered = sym a; seen = seen } }
-got path before after old (Err (OtherBytes kept offered)) s seen a = record { fault = Nothing; base = whats old; sees = s; goes = record { meets = refl; counts = omega arith; answered = sym a; seen = seen } }
-got path before after old (Err Failed) s seen a = record { fault = Nothing; base = whats old; sees = s; goes = record { meets = refl; counts = omega arith; answered = sym a; seen = seen } }
+got : (path : List ℕ) (before after : Known DeepPut) (old : List (Entry DeepPut)) (r : Result (List ℕ) DeepRefused) → Tells old before after → Sees (shared_meaning before) (whats old) → whats after.seen ≡ whats old → IsAnswer (getting path (whats old)) r → Gets (shared_meaning before) (shared_meaning after) path r
+got path before after old (Err Memory) t s seen a = record { fault = Nothing; base = whats old; sees = s; goes = record { told = refl; faults = refl; seen = seen; own = own_told old before after t } }
+got path before after old (Ok x) t s seen a = record { fault = Nothing; base = whats old; sees = s; goes = record { meets = refl; counts = omega arith; answered = sym a; seen = seen; own = own_kept old before after (whats old) t seen } }
+got path before after old (Err Absent) t s seen a = record { fault = Nothing; base = whats old; sees = s; goes = record { meets = refl; counts = omega arith; answered = sym a; seen = seen; own = own_kept old before after (whats old) t seen } }
+got path before after old (Err (OtherBytes kept offered)) t s seen a = record { fault = Nothing; base = whats old; sees = s; goes = record { meets = refl; counts = omega arith; answered = sym a; seen = seen; own = own_kept old before after (whats old) t seen } }
+got path before after old (Err Failed) t s seen a = record { fault = Nothing; base = whats old; sees = s; goes = record { meets = refl; counts = omega arith; answered = sym a; seen = seen; own = own_kept old before after (whats old) t seen } }
 
 pub shared_get : (path : List ℕ) (before after : Known DeepPut) (old new : List (Entry DeepPut)) (result : Result (List ℕ) DeepRefused) → GetsFrom path old new before after result
     → Gets (shared_meaning before) (shared_meaning after) path result
 shared_get path before after old new result w =
-    got path before after old result (sees before old w.told.begins w.once) (ap (λ (k : Known DeepPut). whats k.seen) w.told.front) w.answered
+    got path before after old result w.told (sees before old w.told.begins w.once) (ap (λ (k : Known DeepPut). whats k.seen) w.told.front) w.answered
 
 pub mine_get : (path : List ℕ) (before after : Known DeepPut) (old new : List (Entry DeepPut)) (result : Result (List ℕ) DeepRefused) → GetsFrom path old new before after result → SeesMore before after
 mine_get path before after old new result w = record { log = old; told = w.told }

@@ -1,5 +1,5 @@
 -- What a shared call of the store promises, by the call of the value behind the lock.
-use Rattle.std.proofs.Common.{◌≡◌, List, [], ◌∷◌, Option, Some, Result, Ok, Err, refl, sym, ap, ◌∙◌, subst, arith}
+use Rattle.std.proofs.Common.{◌≡◌, ℕ, List, [], ◌∷◌, append-nil, Option, Some, Result, Ok, Err, refl, sym, ap, ◌∙◌, subst, arith}
 use Rattle.rt_lists.specs.Members.{IsFront}
 use Rattle.rt_lists.proofs.Members.{front_same}
 use Rattle.rt_base.specs.declared.fault.Fault.TheVariants.{Nothing}
@@ -9,14 +9,16 @@ use Rattle.rt_model.specs.Lawful.{Write, written_by, IsLawfulHistory}
 use Rattle.rt_store.specs.declared.refused.StoreRefused.{StoreRefused}
 use Rattle.rt_store.specs.declared.refused.StoreRefused.TheVariants.{NoNode, Exists, VersionChanged, Failed, Memory}
 use Rattle.rt_store.specs.Answers.{refusal_of, answer_by, after_by, answer_of, after_call}
-use Rattle.rt_store.specs.Calls.{Calls, Sees}
+use Rattle.rt_store.specs.Calls.{Calls, Sees, Gains}
+use Rattle.rt_store.specs.Meaning.{Own}
 use Rattle.rt_store.proofs.Beginnings.{lawful_from}
 use Rattle.rt_front.specs.declared.entry.Entry.{Entry}
-use Rattle.rt_front.specs.Histories.{Known}
-use Rattle.rt_ground.specs.Histories.{next_entry, Notes, Tells, SeesMore}
+use Rattle.rt_front.specs.Histories.{Known, mine}
+use Rattle.rt_ground.specs.Histories.{whats, next_entry, Notes, Tells, SeesMore}
 use Rattle.rt_ground.specs.Lawfulness.{IsLawfulStore}
-use Rattle.rt_ground.specs.StoreCalls.{history_of, seen_by, shared_meaning, WritesOnce, IsAnswer, Looks, SharesBy, ShowsAll}
+use Rattle.rt_ground.specs.StoreCalls.{history_of, seen_by, own_by, shared_meaning, WritesOnce, IsAnswer, Looks, SharesBy, ShowsAll}
 use Rattle.rt_ground.proofs.Stores.{opened_append, opened_front}
+use Rattle.rt_ground.proofs.Entries.{whats_append}
 
 -- the history on which a call stands begins with what its caller has seen, and is lawful where that is
 sees : (o : Starting) (before : Known Seen) (log : List (Entry Seen)) → IsFront before.seen log → IsLawfulStore o log → Sees (shared_meaning o before) (history_of o log)
@@ -30,6 +32,39 @@ sees o before log begins lawful =
 
 still : (o : Starting) (before : Known Seen) → Sees (shared_meaning o before) (seen_by o before)
 still o before = record { grows = front_same (seen_by o before); all = tt; lawful = λ s seen. seen }
+
+-- ---- what is the caller's own
+
+abbrev some_own : List ℕ → List Seen → Option Own
+some_own numbers writes = Some (record { numbers = numbers; writes = writes })
+
+own_told : (log : List (Entry Seen)) (before after : Known Seen) → Tells log before after → some_own after.numbers (whats (mine after.numbers after.seen)) ≡ some_own before.numbers (whats (mine before.numbers before.seen))
+own_told log before after t =
+    ap (λ n. some_own n (whats (mine after.numbers after.seen))) (ap (λ (k : Known Seen). k.numbers) t.front)
+    ∙ ap (λ es. some_own before.numbers (whats es)) t.mine
+
+own_same : (before after : Known Seen) → after ≡ before → some_own after.numbers (whats (mine after.numbers after.seen)) ≡ some_own before.numbers (whats (mine before.numbers before.seen))
+own_same before after e = ap (λ (k : Known Seen). some_own k.numbers (whats (mine k.numbers k.seen))) e
+
+-- a call that added nothing adds nothing of the caller's own
+own_kept : (o : Starting) (log : List (Entry Seen)) (before after : Known Seen) (base : List Seen) → Tells log before after → seen_by o after ≡ base
+    → Gains (Some (own_by before)) (Some (own_by after)) base (seen_by o after)
+own_kept o log before after base t seen = (
+  [],
+  seen ∙ sym (append-nil base),
+  own_told log before after t ∙ ap (some_own before.numbers) (sym (append-nil (whats (mine before.numbers before.seen)))),
+)
+
+-- a write that was noted is the caller's own
+own_noted : (o : Starting) (old new : List (Entry Seen)) (before after : Known Seen) (w : Seen) → Notes old new before after w
+    → Gains (Some (own_by before)) (Some (own_by after)) (history_of o old) (seen_by o after)
+own_noted o old new before after w n = (
+  w ∷ [],
+  ap (λ (k : Known Seen). seen_by o k) n.front ∙ ap (λ l. history_of o l) n.log ∙ opened_append o old (next_entry before w ∷ []),
+  ap (λ m. some_own m (whats (mine after.numbers after.seen))) (ap (λ (k : Known Seen). k.numbers) n.front)
+      ∙ ap (λ es. some_own before.numbers (whats es)) n.mine
+      ∙ ap (some_own before.numbers) (whats_append (mine before.numbers before.seen) (next_entry before w ∷ [])),
+)
 
 module _ {X : Type 0} (tell : Seen → X) (call : Write) (o : Starting) (before after : Known Seen) where
   abbrev okay : X → Result X StoreRefused
@@ -68,22 +103,23 @@ module _ {X : Type 0} (tell : Seen → X) (call : Write) (o : Starting) (before 
               ∙ ap (λ l. history_of o l) w.noted.log
               ∙ opened_append o old (next_entry before (written_by h call) ∷ [])
               ∙ sym (ap (λ r. after_by r h (written_by h call)) w.free);
+          own = own_noted o old new before after (written_by h call) w.noted;
         };
       }
   shared_write old new (Err Memory) w =
-      record { fault = Nothing; base = seen_by o before; sees = still o before; goes = record { told = refl; faults = refl; seen = ap (λ (k : Known Seen). seen_by o k) w.1 } }
+      record { fault = Nothing; base = seen_by o before; sees = still o before; goes = record { told = refl; faults = refl; seen = ap (λ (k : Known Seen). seen_by o k) w.1; own = own_same before after w.1 } }
   shared_write old new (Err NoNode) w =
       let g = refusal old NoNode w.cause w.told in
-      record { fault = Nothing; base = history_of o old; sees = sees o before old w.told.begins w.lawful; goes = record { meets = refl; counts = omega arith; answered = sym g.0; seen = g.1 } }
+      record { fault = Nothing; base = history_of o old; sees = sees o before old w.told.begins w.lawful; goes = record { meets = refl; counts = omega arith; answered = sym g.0; seen = g.1; own = own_kept o old before after (history_of o old) w.told (ap (λ (k : Known Seen). seen_by o k) w.told.front) } }
   shared_write old new (Err (Exists found)) w =
       let g = refusal old (Exists found) w.cause w.told in
-      record { fault = Nothing; base = history_of o old; sees = sees o before old w.told.begins w.lawful; goes = record { meets = refl; counts = omega arith; answered = sym g.0; seen = g.1 } }
+      record { fault = Nothing; base = history_of o old; sees = sees o before old w.told.begins w.lawful; goes = record { meets = refl; counts = omega arith; answered = sym g.0; seen = g.1; own = own_kept o old before after (history_of o old) w.told (ap (λ (k : Known Seen). seen_by o k) w.told.front) } }
   shared_write old new (Err (VersionChanged expected found)) w =
       let g = refusal old (VersionChanged expected found) w.cause w.told in
-      record { fault = Nothing; base = history_of o old; sees = sees o before old w.told.begins w.lawful; goes = record { meets = refl; counts = omega arith; answered = sym g.0; seen = g.1 } }
+      record { fault = Nothing; base = history_of o old; sees = sees o before old w.told.begins w.lawful; goes = record { meets = refl; counts = omega arith; answered = sym g.0; seen = g.1; own = own_kept o old before after (history_of o old) w.told (ap (λ (k : Known Seen). seen_by o k) w.told.front) } }
   shared_write old new (Err Failed) w =
       let g = refusal old Failed w.cause w.told in
-      record { fault = Nothing; base = history_of o old; sees = sees o before old w.told.begins w.lawful; goes = record { meets = refl; counts = omega arith; answered = sym g.0; seen = g.1 } }
+      record { fault = Nothing; base = history_of o old; sees = sees o before old w.told.begins w.lawful; goes = record { meets = refl; counts = omega arith; answered = sym g.0; seen = g.1; own = own_kept o old before after (history_of o old) w.told (ap (λ (k : Known Seen). seen_by o k) w.told.front) } }
 
   told_only : (log : List (Entry Seen)) → Tells log before after → SeesMore before after
   told_only log told = record { log = log; told = told }
@@ -103,18 +139,18 @@ module _ {X : Type 0} (answer : List Seen → Result X StoreRefused) (o : Starti
   abbrev Reading : Result X StoreRefused → Type 0
   Reading result = Calls (shared_meaning o before) (shared_meaning o after) answer (λ base. base) result
 
-  by_result : (log : List (Entry Seen)) (r : Result X StoreRefused) → Sees (shared_meaning o before) (history_of o log) → seen_by o after ≡ history_of o log
+  by_result : (log : List (Entry Seen)) (r : Result X StoreRefused) → Tells log before after → Sees (shared_meaning o before) (history_of o log) → seen_by o after ≡ history_of o log
       → IsAnswer (answer (history_of o log)) r → Reading r
-  by_result log (Err Memory) s seen a = record { fault = Nothing; base = history_of o log; sees = s; goes = record { told = refl; faults = refl; seen = seen } }
-  by_result log (Ok x) s seen a = record { fault = Nothing; base = history_of o log; sees = s; goes = record { meets = refl; counts = omega arith; answered = sym a; seen = seen } }
-  by_result log (Err NoNode) s seen a = record { fault = Nothing; base = history_of o log; sees = s; goes = record { meets = refl; counts = omega arith; answered = sym a; seen = seen } }
-  by_result log (Err (Exists found)) s seen a = record { fault = Nothing; base = history_of o log; sees = s; goes = record { meets = refl; counts = omega arith; answered = sym a; seen = seen } }
-  by_result log (Err (VersionChanged expected found)) s seen a = record { fault = Nothing; base = history_of o log; sees = s; goes = record { meets = refl; counts = omega arith; answered = sym a; seen = seen } }
-  by_result log (Err Failed) s seen a = record { fault = Nothing; base = history_of o log; sees = s; goes = record { meets = refl; counts = omega arith; answered = sym a; seen = seen } }
+  by_result log (Err Memory) t s seen a = record { fault = Nothing; base = history_of o log; sees = s; goes = record { told = refl; faults = refl; seen = seen; own = own_told log before after t } }
+  by_result log (Ok x) t s seen a = record { fault = Nothing; base = history_of o log; sees = s; goes = record { meets = refl; counts = omega arith; answered = sym a; seen = seen; own = own_kept o log before after (history_of o log) t seen } }
+  by_result log (Err NoNode) t s seen a = record { fault = Nothing; base = history_of o log; sees = s; goes = record { meets = refl; counts = omega arith; answered = sym a; seen = seen; own = own_kept o log before after (history_of o log) t seen } }
+  by_result log (Err (Exists found)) t s seen a = record { fault = Nothing; base = history_of o log; sees = s; goes = record { meets = refl; counts = omega arith; answered = sym a; seen = seen; own = own_kept o log before after (history_of o log) t seen } }
+  by_result log (Err (VersionChanged expected found)) t s seen a = record { fault = Nothing; base = history_of o log; sees = s; goes = record { meets = refl; counts = omega arith; answered = sym a; seen = seen; own = own_kept o log before after (history_of o log) t seen } }
+  by_result log (Err Failed) t s seen a = record { fault = Nothing; base = history_of o log; sees = s; goes = record { meets = refl; counts = omega arith; answered = sym a; seen = seen; own = own_kept o log before after (history_of o log) t seen } }
 
   pub shared_read : (old new : List (Entry Seen)) (result : Result X StoreRefused) → Looks answer o old new before after result → Reading result
   shared_read old new result w =
-      by_result old result (sees o before old w.told.begins w.lawful) (ap (λ (k : Known Seen). seen_by o k) w.told.front) w.answered
+      by_result old result w.told (sees o before old w.told.begins w.lawful) (ap (λ (k : Known Seen). seen_by o k) w.told.front) w.answered
 
   pub mine_read : (old new : List (Entry Seen)) (result : Result X StoreRefused) → Looks answer o old new before after result → SeesMore before after
   mine_read old new result w = record { log = old; told = w.told }

@@ -103,10 +103,11 @@ module _ {X : Type 0} (tell : Seen → X) (call : Write) (o : Starting) (old new
   carried lawful may free noted =
       let h : List Seen = opened o (whats old) in
       let w : Seen = written_by h call in
+      let with_it : IsLawfulLog o new = subst (IsLawfulLog o) (sym noted.log) (log_more o old before call lawful noted.begins may (effect_of h call free)) in
       record {
         holds = ap told_of (sym (opened_append o old (next_entry before w ∷ [])) ∙ ap (λ l. opened o (whats l)) (sym noted.log));
-        lawful = subst (IsLawfulLog o) (sym noted.log) (log_more o old before call lawful noted.begins may (effect_of h call free));
-        wrote = record { free = free; answer = refl; noted = noted; lawful = lawful_store o old lawful };
+        lawful = with_it;
+        wrote = record { free = free; answer = refl; noted = noted; lawful = lawful_store o old lawful; lawful_after = lawful_store o new with_it };
       }
 
   unwritten : (answer : Result X StoreRefused) → IsLawfulLog o old → new ≡ old → (new ≡ old → WritesOnce tell call o old new before after answer)

@@ -1,5 +1,5 @@
 -- What the calls of the stream behind its lock do, and what shared ones promise.
-use Rattle.std.proofs.Common.{◌≡◌, ℕ, List, [], ◌∷◌, ◌++◌, fold, replicate, length, Result, Ok, Err, refl, sym, ap, ◌∙◌, subst, arith, length-set, lt_of_not-le}
+use Rattle.std.proofs.Common.{◌≡◌, ℕ, List, [], ◌∷◌, ◌++◌, fold, map, replicate, length, Option, Some, Result, Ok, Err, refl, sym, ap, ◌∙◌, subst, arith, length-set, lt_of_not-le}
 use Rattle.std.proofs.lemmas.List.{set_past}
 use Rattle.std.proofs.lemmas.List.Sums.{fold-append}
 use mathlib.Core.Logic.{dite}
@@ -11,13 +11,13 @@ use Rattle.rt_base.specs.declared.numbers.Offset.{Offset}
 use Rattle.rt_stream.specs.declared.feed.FeedRefused.{FeedRefused}
 use Rattle.rt_stream.specs.declared.feed.FeedRefused.TheVariants.{NoPartition, PastEnd, Memory}
 use Rattle.rt_stream.specs.Log.{Log, messages_of, fetched, measured, Appends}
-use Rattle.rt_stream.specs.Feed.{Grows, Fetches, Measures, answered}
+use Rattle.rt_stream.specs.Feed.{FeedOwn, Grows, Fetches, Measures, answered}
 use Rattle.rt_stream.proofs.Growth.{log_message, log_same, log_then}
 use Rattle.rt_front.specs.declared.entry.Entry.{Entry}
-use Rattle.rt_front.specs.Histories.{Known}
+use Rattle.rt_front.specs.Histories.{Known, mine}
 use Rattle.rt_ground.specs.declared.appended.Appended.{Appended}
 use Rattle.rt_ground.specs.Histories.{whats, next_entry, Notes, Tells, SeesMore}
-use Rattle.rt_ground.specs.StreamCalls.{with_appended, log_of, messages, seen_by, shared_meaning, SettledBy, Looks, AppendsOnce, SharesBy}
+use Rattle.rt_ground.specs.StreamCalls.{sent_to, with_appended, log_of, messages, seen_by, shared_meaning, SettledBy, Looks, AppendsOnce, SharesBy}
 use Rattle.rt_ground.proofs.Entries.{whats_append, whats_front}
 
 -- ---- logs
@@ -88,19 +88,23 @@ pub record StreamClosed (n : ℕ) (log : List (Entry Appended)) (t : Log) (Says 
 abbrev message_in : Partition → List ℕ → Appended
 message_in p m = record { partition = p; message = m }
 
-pub append_closed : (n : ℕ) (v old : List (Entry Appended)) (t0 t : Log) (before after : Known Appended) (p : Partition) (m copy : List ℕ) (r_old r_new : List (Entry Appended)) (answer result : Result Offset FeedRefused)
-    → old ≡ v → t0 ≡ log_of n (whats old) → r_old ≡ old → copy ≡ m → Appends t0 t p m answer → SettledBy (message_in p copy) r_old r_new before after answer → result ≡ answer
-    → StreamClosed n r_new t (AppendsOnce n v r_new before after (message_in p m) result)
-append_closed n v old t0 t before after p m copy r_old r_new answer result view holds same copied calls settled given =
-    let a : Appended = message_in p m in
+pub append_closed : (n : ℕ) (v old : List (Entry Appended)) (t0 t : Log) (before after : Known Appended) (a : Appended) (m : List ℕ) (r_old r_new : List (Entry Appended)) (answer result : Result Offset FeedRefused)
+    → old ≡ v → t0 ≡ log_of n (whats old) → r_old ≡ old → m ≡ a.message → Appends t0 t a.partition m answer → SettledBy a r_old r_new before after answer → result ≡ answer
+    → StreamClosed n r_new t (AppendsOnce n v r_new before after a result)
+append_closed n v old t0 t before after a m r_old r_new answer result view holds same is calls settled given =
     let done : AppendDone n old r_new t before after a answer =
-    append_done n old t before after a r_old r_new answer same (subst (λ (x : Log). Appends x t p m answer) holds calls)
-    (subst (λ x. SettledBy (message_in p x) r_old r_new before after answer) copied settled) in
+    append_done n old t before after a r_old r_new answer same
+    (subst (λ (x : Log). Appends x t a.partition a.message answer) holds (subst (λ x. Appends t0 t a.partition x answer) is calls)) settled in
     record {
       holds = done.holds;
       says = subst (λ (x : List (Entry Appended)). AppendsOnce n x r_new before after a result) view
           (subst (λ y. AppendsOnce n old r_new before after a y) (sym given) done.appends);
     }
+
+-- the same, of a copy of the message
+pub copy_appended : (n : ℕ) (old new : List (Entry Appended)) (before after : Known Appended) (p : Partition) (m copy : List ℕ) (result : Result Offset FeedRefused) → copy ≡ m
+    → AppendsOnce n old new before after (message_in p copy) result → AppendsOnce n old new before after (message_in p m) result
+copy_appended n old new before after p m copy result copied w = subst (λ x. AppendsOnce n old new before after (message_in p x) result) copied w
 
 pub look_closed : (n : ℕ) (v old new : List (Entry Appended)) (before after : Known Appended) → old ≡ v → new ≡ old → Tells old before after → Looks n v new before after
 look_closed n v old new before after view same told =
@@ -122,6 +126,11 @@ mine_appended n before after a old new (Err Memory) w = w.1
 mine_appended n before after a old new (Err NoPartition) w = (w.0, record { log = old; told = w.2 })
 mine_appended n before after a old new (Err (PastEnd from length)) w = absurd w
 
+pub copy_shared : (n : ℕ) (before after : Known Appended) (p : Partition) (m copy : List ℕ) (old new : List (Entry Appended)) (result : Result Offset FeedRefused) → copy ≡ m
+    → AppendsOnce n old new before after (message_in p copy) result → SharesBy n before after (message_in p m) result
+copy_shared n before after p m copy old new result copied w =
+    mine_appended n before after (message_in p m) old new result (copy_appended n old new before after p m copy result copied w)
+
 -- what a front that was told has seen is the whole log
 whole : (n : ℕ) (before after : Known Appended) (old : List (Entry Appended)) → Tells old before after → messages n old ≡ seen_by n after
 whole n before after old told = ap (λ (k : Known Appended). log_of n (whats k.seen)) (sym told.front)
@@ -129,15 +138,24 @@ whole n before after old told = ap (λ (k : Known Appended). log_of n (whats k.s
 seen_grows : (n : ℕ) (before after : Known Appended) (old new : List (Entry Appended)) → Looks n old new before after → Grows (seen_by n before) (seen_by n after)
 seen_grows n before after old new w = subst (λ l. Grows (seen_by n before) l) (whole n before after old w.told) w.grows
 
+abbrev some_own : List ℕ → List (Partition × List ℕ) → Option FeedOwn
+some_own numbers messages = Some (record { numbers = numbers; messages = messages })
+
+-- a look adds nothing of the caller's own
+own_looked : (log : List (Entry Appended)) (before after : Known Appended) → Tells log before after → some_own after.numbers (map sent_to (whats (mine after.numbers after.seen))) ≡ some_own before.numbers (map sent_to (whats (mine before.numbers before.seen)))
+own_looked log before after t =
+    ap (λ m. some_own m (map sent_to (whats (mine after.numbers after.seen)))) (ap (λ (k : Known Appended). k.numbers) t.front)
+    ∙ ap (λ es. some_own before.numbers (map sent_to (whats es))) t.mine
+
 pub shared_fetch : (n : ℕ) (before after : Known Appended) (old new : List (Entry Appended)) (p : Partition) (from : Offset) (max : ℕ) (result : Result (List (List ℕ)) FeedRefused) → Looks n old new before after
     → answered result (fetched (messages n old) p from max) → Fetches (shared_meaning n before) (shared_meaning n after) p from max result
 shared_fetch n before after old new p from max result w a =
-    record { sees = refl; grows = seen_grows n before after old new w; answer = subst (λ l. answered result (fetched l p from max)) (whole n before after old w.told) a }
+    record { sees = refl; grows = seen_grows n before after old new w; answer = subst (λ l. answered result (fetched l p from max)) (whole n before after old w.told) a; own = own_looked old before after w.told }
 
 pub shared_length : (n : ℕ) (before after : Known Appended) (old new : List (Entry Appended)) (p : Partition) (result : Result Offset FeedRefused) → Looks n old new before after
     → result ≡ measured (messages n old) p → Measures (shared_meaning n before) (shared_meaning n after) p result
 shared_length n before after old new p result w a =
-    record { sees = refl; grows = seen_grows n before after old new w; answer = subst (λ l. result ≡ measured l p) (whole n before after old w.told) a }
+    record { sees = refl; grows = seen_grows n before after old new w; answer = subst (λ l. result ≡ measured l p) (whole n before after old w.told) a; own = own_looked old before after w.told }
 
 pub mine_looked : (n : ℕ) (before after : Known Appended) (old new : List (Entry Appended)) → Looks n old new before after → SeesMore before after
 mine_looked n before after old new w = record { log = old; told = w.told }

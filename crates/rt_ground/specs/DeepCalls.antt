@@ -3,16 +3,20 @@ use Rattle.std.specs.Prelude.{◌≡◌, ℕ, List, [], slice_get, Option, Some,
 use Rattle.rt_deep.specs.declared.deep_put.DeepPut.{DeepPut}
 use Rattle.rt_deep.specs.declared.refused.DeepRefused.{DeepRefused}
 use Rattle.rt_deep.specs.declared.refused.DeepRefused.TheVariants.{Absent, OtherBytes, Failed, Memory}
-use Rattle.rt_deep.specs.Meaning.{Told, Meaning}
+use Rattle.rt_deep.specs.Meaning.{Told, Own, Meaning}
 use Rattle.rt_deep.specs.Files.{file_of, AreOnce}
 use Rattle.rt_deep.specs.Answers.{getting, putting}
 use Rattle.rt_front.specs.declared.entry.Entry.{Entry}
-use Rattle.rt_front.specs.Histories.{Known}
+use Rattle.rt_front.specs.Histories.{Known, mine}
 use Rattle.rt_ground.specs.Histories.{whats, Notes, Tells, SeesMore}
+
+-- the numbers of a front, and its own files
+abbrev pub own_by : Known DeepPut → Own
+own_by front = record { numbers = front.numbers; files = whats (mine front.numbers front.seen) }
 
 -- what the deep store means to one who shares it
 abbrev pub shared_meaning : Known DeepPut → Meaning
-shared_meaning front = record { told = None; seen = whats front.seen; faults = 0 }
+shared_meaning front = record { told = None; seen = whats front.seen; own = Some (own_by front); faults = 0 }
 
 -- the deep store in memory that holds a history
 abbrev pub held : List (Entry DeepPut) → Told

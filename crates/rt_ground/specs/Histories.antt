@@ -1,5 +1,5 @@
 -- What becomes of a history and of a front, whatever the entries are.
-use Rattle.std.specs.Prelude.{◌≡◌, Bool, List, [], ◌∷◌, ◌++◌, map, length}
+use Rattle.std.specs.Prelude.{◌≡◌, ℕ, ◌<◌, Bool, List, [], ◌∷◌, ◌++◌, map, length, All}
 use Rattle.atomic_table.specs.Seated.{TableId}
 use Rattle.rt_lists.specs.Members.{IsFront}
 use Rattle.rt_front.specs.declared.entry.Entry.{Entry}
@@ -7,15 +7,21 @@ use Rattle.rt_front.specs.Histories.{Known, known, entry, first_of, mine}
 use Rattle.rt_front.specs.Rules.{longer}
 use Rattle.rt_ground.specs.declared.noted.Noted.{Noted}
 
--- a register: the name of the history, its entries, and whether there is room for one more
+-- a register: the name of the history, its entries, the number of fronts with which it was founded, and whether there is
+-- room for an entry more
 pub record Registered (T : Type 0) : Type 0 where
   pub chronicle : TableId
   pub log : List (Entry T)
+  pub made : ℕ
   pub room : Bool
 
 module _ {T : Type 0} where
-  abbrev pub registered : TableId → List (Entry T) → Bool → Registered T
-  registered chronicle log room = record { chronicle = chronicle; log = log; room = room }
+  abbrev pub registered : TableId → List (Entry T) → ℕ → Bool → Registered T
+  registered chronicle log made room = record { chronicle = chronicle; log = log; made = made; room = room }
+
+  -- each entry was added for one of so many callers
+  abbrev pub AreOfCallers : ℕ → List (Entry T) → Type 0
+  AreOfCallers callers log = All (λ e. e.front < callers) log
 
   -- for whom an entry was added
   abbrev pub noted_of : Entry T → Noted

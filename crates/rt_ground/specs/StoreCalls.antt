@@ -5,10 +5,10 @@ use Rattle.rt_model.specs.Starting.{Starting}
 use Rattle.rt_model.specs.Lawful.{Write, written_by}
 use Rattle.rt_store.specs.declared.refused.StoreRefused.{StoreRefused}
 use Rattle.rt_store.specs.declared.refused.StoreRefused.TheVariants.{NoNode, Exists, VersionChanged, Failed, Memory}
-use Rattle.rt_store.specs.Meaning.{Told, Meaning}
+use Rattle.rt_store.specs.Meaning.{Told, Own, Meaning}
 use Rattle.rt_store.specs.Answers.{refusal_of}
 use Rattle.rt_front.specs.declared.entry.Entry.{Entry}
-use Rattle.rt_front.specs.Histories.{Known}
+use Rattle.rt_front.specs.Histories.{Known, mine}
 use Rattle.rt_ground.specs.Histories.{whats, Notes, Tells, SeesMore}
 use Rattle.rt_ground.specs.Lawfulness.{opened, IsLawfulStore}
 
@@ -20,9 +20,13 @@ history_of s log = opened s (whats log)
 abbrev pub seen_by : Starting → Known Seen → List Seen
 seen_by s front = opened s (whats front.seen)
 
+-- the numbers of a front, and its own writes
+abbrev pub own_by : Known Seen → Own
+own_by front = record { numbers = front.numbers; writes = whats (mine front.numbers front.seen) }
+
 -- what the store means to one who shares it
 abbrev pub shared_meaning : Starting → Known Seen → Meaning
-shared_meaning s front = record { told = None; seen = seen_by s front; faults = 0 }
+shared_meaning s front = record { told = None; seen = seen_by s front; own = Some (own_by front); faults = 0 }
 
 -- the memory store that holds a history
 abbrev pub held : Starting → List (Entry Seen) → Told
@@ -42,12 +46,13 @@ SettledBy writes old new before after (Err (Exists found)) = (new ≡ old) × Te
 SettledBy writes old new before after (Err (VersionChanged expected found)) = (new ≡ old) × Tells old before after
 SettledBy writes old new before after (Err Failed) = (new ≡ old) × Tells old before after
 
--- a write that was carried out
+-- a write that was carried out: the history was lawful, and it is lawful with the write
 pub record CarriesOut {X : Type 0} (tell : Seen → X) (call : Write) (s : Starting) (old new : List (Entry Seen)) (before after : Known Seen) (x : X) : Type 0 where
   pub free : refusal_of (history_of s old) call ≡ None
   pub answer : x ≡ tell (written_by (history_of s old) call)
   pub noted : Notes old new before after (written_by (history_of s old) call)
   pub lawful : IsLawfulStore s old
+  pub lawful_after : IsLawfulStore s new
 
 -- a write that was refused
 pub record Refuses (call : Write) (s : Starting) (old new : List (Entry Seen)) (before after : Known Seen) (refused : StoreRefused) : Type 0 where

@@ -1,12 +1,13 @@
 -- The calls of the stream behind its lock, and of those who share it.
-use Rattle.std.specs.Prelude.{◌≡◌, ℕ, ◌<◌, ◌≤◌, List, [], fold, replicate, None, Result, Ok, Err}
+use Rattle.std.specs.Prelude.{◌≡◌, ℕ, ◌<◌, ◌≤◌, List, [], fold, map, replicate, Some, None, Result, Ok, Err}
 use Rattle.rt_base.specs.declared.numbers.Offset.{Offset}
+use Rattle.rt_base.specs.declared.numbers.Partition.{Partition}
 use Rattle.rt_stream.specs.declared.feed.FeedRefused.{FeedRefused}
 use Rattle.rt_stream.specs.declared.feed.FeedRefused.TheVariants.{NoPartition, PastEnd, Memory}
 use Rattle.rt_stream.specs.Log.{Log, messages_of, end_of, with_message}
-use Rattle.rt_stream.specs.Feed.{FeedMeaning, Grows}
+use Rattle.rt_stream.specs.Feed.{FeedMeaning, FeedOwn, Grows}
 use Rattle.rt_front.specs.declared.entry.Entry.{Entry}
-use Rattle.rt_front.specs.Histories.{Known}
+use Rattle.rt_front.specs.Histories.{Known, mine}
 use Rattle.rt_ground.specs.declared.appended.Appended.{Appended}
 use Rattle.rt_ground.specs.Histories.{whats, Notes, Tells, SeesMore}
 
@@ -25,9 +26,17 @@ messages partitions log = log_of partitions (whats log)
 abbrev pub seen_by : ℕ → Known Appended → Log
 seen_by partitions front = log_of partitions (whats front.seen)
 
+-- a message and where it went
+abbrev pub sent_to : Appended → Partition × List ℕ
+sent_to a = (a.partition, a.message)
+
+-- the numbers of a front, and its own messages
+abbrev pub own_by : Known Appended → FeedOwn
+own_by front = record { numbers = front.numbers; messages = map sent_to (whats (mine front.numbers front.seen)) }
+
 -- what the stream means to one who shares it
 abbrev pub shared_meaning : ℕ → Known Appended → FeedMeaning
-shared_meaning partitions front = record { told = None; seen = seen_by partitions front }
+shared_meaning partitions front = record { told = None; seen = seen_by partitions front; own = Some (own_by front) }
 
 -- what became of an append's answer: a message that was added is noted, a refusal is told, and want of memory leaves all
 abbrev pub SettledBy : Appended → List (Entry Appended) → List (Entry Appended) → Known Appended → Known Appended → Result Offset FeedRefused → Type 0

@@ -1,8 +1,9 @@
 ghost use Rattle.std.specs.Prelude.{◌≡◌, [], true, IfOk};
 ghost use Rattle.rt_ground.specs.Callers.{fronts_from};
 ghost use Rattle.rt_ground.specs.DeepCalls.{SettledBy, PutsOnce, GetsFrom};
+ghost use Rattle.rt_ground.specs.Histories.{whats, Tells, AreOfCallers};
+ghost use Rattle.rt_deep.specs.Files.{AreOnce};
 
-use crate::locked::Locked;
 use crate::naming::Naming;
 use crate::register::Register;
 use rt_deep::{DeepPut, DeepRefused, DeepStore, MemoryDeep};
@@ -31,32 +32,37 @@ impl<J: Naming> Model for DeepValue<J> {
     ghost Value = { List (Entry DeepPut) };
 
     ghost use Rattle.std.specs.Prelude.{◌≡◌};
+    ghost use Rattle.rt_deep.specs.Files.{AreOnce};
+    ghost use Rattle.rt_ground.specs.Histories.{whats};
     ghost use Rattle.rt_ground.specs.DeepCalls.{held};
 
     ghost view = { λ v. v.register.log };
 
-    ghost invariant = { λ v. (v.register.chronicle ≡ J.names.deep) × (v.files ≡ held v.register.log) };
+    ghost invariant = { λ v. (v.register.chronicle ≡ J.names.deep) × (v.files ≡ held v.register.log)
+        × (v.register.made ≡ J.callers) × AreOnce (whats v.register.log) };
 }
 
 impl<J: Naming> DeepValue<J> {
-    /// Founds a deep store without any file, behind its lock, and the fronts of so many callers.
-    pub(crate) fn found(
+    /// Founds a deep store without any file, and the fronts of so many callers. No other front of it is made.
+    pub fn found(
         alloc: Global,
         blank: Blank<DeepPut>,
         callers: u32,
-    ) -> Result<(Locked<DeepPut, DeepValue<J>>, Vec<Front<DeepPut>>), AllocError>
+    ) -> Result<(Chronicle<DeepPut>, DeepValue<J>, Vec<Front<DeepPut>>), AllocError>
         requires name { blank ≡ J.names.deep }
-        ensures locked { IfOk result (λ r. r.0 ≡ J.names.deep) }
-        ensures fronts { IfOk result (λ r. r.1.items ≡ fronts_from J.names.deep 0 callers) }
+        requires callers { callers ≡ J.callers }
+        ensures chronicle { IfOk result (λ r. r.0 ≡ J.names.deep) }
+        ensures empty { IfOk result (λ r. r.1 ≡ []) }
+        ensures fronts { IfOk result (λ r. r.2.items ≡ fronts_from J.names.deep 0 callers) }
     {
         let (chronicle, keeper, fronts) = found(alloc, blank, callers)?;
         let value = DeepValue::fresh(alloc, keeper);
-        Ok((Locked::of(alloc, chronicle, value)?, fronts))
+        Ok((chronicle, value, fronts))
     }
 
     /// A deep store without any file. It takes no memory yet.
-    pub(crate) fn fresh(alloc: Global, keeper: Keeper<DeepPut>) -> Self
-        requires keeper { (keeper.chronicle ≡ J.names.deep) × (keeper.log ≡ []) }
+    fn fresh(alloc: Global, keeper: Keeper<DeepPut>) -> Self
+        requires keeper { (keeper.chronicle ≡ J.names.deep) × (keeper.log ≡ []) × (keeper.made ≡ J.callers) }
         ensures { result ≡ [] }
     {
         DeepValue {
@@ -106,6 +112,18 @@ impl<J: Naming> DeepValue<J> {
         self.register.tell(chronicle, front);
         answer
     }
+
+    /// Brings a front up to the whole history.
+    pub(crate) fn tell(&mut self, chronicle: &Chronicle<DeepPut>, front: &mut Front<DeepPut>)
+        requires { (chronicle.now ≡ J.names.deep) × (front.old.chronicle ≡ J.names.deep) }
+        ensures same { self.new ≡ self.old }
+        ensures name { front.new.chronicle ≡ front.old.chronicle }
+        ensures told { Tells self.old front.old front.new }
+        ensures callers { AreOfCallers J.callers self.old }
+        ensures once { AreOnce (whats self.old) }
+    {
+        self.register.tell(chronicle, front);
+    }
 }
 
 /// Notes the file at this place, where a put added one; else tells the front.
@@ -121,6 +139,7 @@ fn settle(
     requires room { register.old.room ≡ true }
     ensures same { result ≡ answer }
     ensures names { (register.new.chronicle ≡ register.old.chronicle) × (front.new.chronicle ≡ front.old.chronicle) }
+    ensures made { register.new.made ≡ register.old.made }
     ensures settled { SettledBy files.now count register.old.log register.new.log front.old front.new answer }
 {
     match answer {

@@ -4,7 +4,9 @@ ghost use Rattle.std.specs.Vec.Iter.{into_iter_items, into_iter_len};
 ghost use Rattle.rt_model.specs.Setup.{IsSetup};
 ghost use Rattle.rt_store.specs.Contents.{starting_of};
 ghost use Rattle.rt_ground.specs.Callers.{new_caller, fronts_from};
-ghost use Rattle.rt_ground.specs.Histories.{SeesMore};
+ghost use Rattle.rt_deep.specs.Files.{AreOnce};
+ghost use Rattle.rt_ground.specs.Histories.{whats, SeesMore, AreOfCallers};
+ghost use Rattle.rt_ground.specs.Lawfulness.{IsLawfulStore};
 ghost use Rattle.rt_ground.specs.StoreCalls.{ShowsAll};
 
 use crate::appended::Appended;
@@ -28,6 +30,9 @@ use std::vec::IntoIter;
 
 /// A store, a deep store and a stream, each behind a lock, and what their callers share. Contracts see it as the names of
 /// its three histories.
+///
+/// A call of a shared store tells its caller what is its own; that each entry was lawful after those before it, and whose
+/// entry it is, reaches a caller by `tell` and `history` alone.
 #[derive(Drop)]
 pub struct Ground<R, J: Naming> {
     rt: R,
@@ -60,6 +65,7 @@ impl<R: Wait + Copy, J: Naming> Ground<R, J> {
     ) -> Result<(Ground<R, J>, Vec<Caller<R, J>>), AllocError>
         requires names { (blanks ≡ J.names) × (starting_of setup.now ≡ J.starting) }
         requires setup { IsSetup setup.now }
+        requires callers { callers ≡ J.callers }
         requires some { 1 ≤ callers }
         ensures ground { IfOk result (λ r. r.0 ≡ J.names) }
         ensures callers { IfOk result (λ r. r.1.items ≡ map (new_caller J.names) (range_with_len 0 callers)) }
@@ -69,9 +75,17 @@ impl<R: Wait + Copy, J: Naming> Ground<R, J> {
             deep,
             stream,
         } = blanks;
-        let (store, stores) = StoreValue::found(alloc, store, setup, callers)?;
-        let (deep, deeps) = DeepValue::found(alloc, deep, callers)?;
-        let (stream, streams) = StreamValue::found(alloc, stream, setup.partitions, callers)?;
+        let (seen, store, stores) = StoreValue::found(alloc, store, setup, callers)?;
+        let store = Locked::of(alloc, seen, store)?;
+        let (put, deep, deeps) = DeepValue::found(alloc, deep, callers)?;
+        let deep = Locked::of(alloc, put, deep)?;
+        let (appended, stream, streams) = StreamValue::found(
+            alloc,
+            stream,
+            setup.partitions,
+            callers,
+        )?;
+        let stream = Locked::of(alloc, appended, stream)?;
         let ground = Ground {
             rt,
             store,
@@ -82,9 +96,25 @@ impl<R: Wait + Copy, J: Naming> Ground<R, J> {
         Ok((ground, made))
     }
 
+    /// Brings a caller's fronts up to what is shared: of each of the three histories it has then seen all that there was
+    /// at a moment of the call. It takes no memory.
+    pub fn tell(&self, caller: &mut Caller<R, J>)
+        ensures store { SeesMore caller.old.store caller.new.store
+            × AreOfCallers J.callers caller.new.store.seen × IsLawfulStore J.starting caller.new.store.seen }
+        ensures deep { SeesMore caller.old.deep caller.new.deep
+            × AreOfCallers J.callers caller.new.deep.seen × AreOnce (whats caller.new.deep.seen) }
+        ensures stream { SeesMore caller.old.stream caller.new.stream
+            × AreOfCallers J.callers caller.new.stream.seen }
+    {
+        caller.store.tell(&self.rt, &self.store);
+        caller.deep.tell(&self.rt, &self.deep);
+        caller.stream.tell(&self.rt, &self.stream);
+    }
+
     /// The store's whole history at a moment of the call, the earliest write first, which the caller has seen then.
     pub fn history(&self, alloc: Global, caller: &mut Caller<R, J>) -> Result<Vec<Seen>, AllocError>
         ensures sees { SeesMore caller.old.store caller.new.store }
+        ensures callers { AreOfCallers J.callers caller.new.store.seen }
         ensures whole { IfOk result (λ writes. ShowsAll J.starting caller.old.store caller.new.store writes.items) }
         ensures others { (caller.new.deep ≡ caller.old.deep) × (caller.new.stream ≡ caller.old.stream) }
     {

@@ -3,6 +3,10 @@
 //! A caller holds a front of each of the three histories, so what it has seen can be compared with what others have seen,
 //! and its own writes stand in each history once, in its order, behind all that it had seen. Whenever the store's lock is
 //! free its history is lawful, whatever the threads do.
+//!
+//! The three values behind the locks can be founded and called without a lock too, by one who holds chronicle and fronts:
+//! their contracts say what each call does to the history, and the shared calls stand on them. The value of a ground is
+//! reached by its lock alone.
 #![tactic(auto)]
 
 mod appended;

@@ -1,6 +1,7 @@
 ghost use Rattle.std.specs.Prelude.{◌≡◌, IfOk};
 ghost use Rattle.rt_deep.specs.Calls.{Puts, Gets};
-ghost use Rattle.rt_ground.specs.Histories.{Meets, SeesMore};
+ghost use Rattle.rt_deep.specs.Files.{AreOnce};
+ghost use Rattle.rt_ground.specs.Histories.{whats, Meets, SeesMore, AreOfCallers};
 ghost use Rattle.rt_ground.specs.DeepCalls.{shared_meaning, SharesBy};
 
 use crate::deep_value::DeepValue;
@@ -66,6 +67,19 @@ impl<R: Copy, J: Naming> SharedDeep<R, J> {
     {
         let SharedDeep { front, .. } = other;
         self.front.meet(self.shared.chronicle(), front);
+    }
+}
+
+impl<R: Wait + Copy, J: Naming> SharedDeep<R, J> {
+    /// Brings the caller's front up to all files at a moment of the call.
+    pub(crate) fn tell(&mut self, rt: &R, locked: &Locked<DeepPut, DeepValue<J>>)
+        requires { locked.now ≡ J.names.deep }
+        ensures sees { SeesMore self.old self.new }
+        ensures callers { AreOfCallers J.callers self.new.seen }
+        ensures once { AreOnce (whats self.new.seen) }
+    {
+        let mut value = locked.lock(rt);
+        value.tell(locked.chronicle(), &mut self.front);
     }
 }
 

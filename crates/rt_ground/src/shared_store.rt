@@ -13,7 +13,8 @@ ghost use Rattle.rt_store.specs.Calls.{
   MayDelete,
   MayCreateAfter,
 };
-ghost use Rattle.rt_ground.specs.Histories.{Meets, SeesMore};
+ghost use Rattle.rt_ground.specs.Histories.{Meets, SeesMore, AreOfCallers};
+ghost use Rattle.rt_ground.specs.Lawfulness.{IsLawfulStore};
 ghost use Rattle.rt_ground.specs.StoreCalls.{shared_meaning, SharesBy, ShowsAll};
 
 use crate::locked::Locked;
@@ -85,6 +86,17 @@ impl<R: Copy, J: Naming> SharedStore<R, J> {
 }
 
 impl<R: Wait + Copy, J: Naming> SharedStore<R, J> {
+    /// Brings the caller's front up to all writes at a moment of the call.
+    pub(crate) fn tell(&mut self, rt: &R, locked: &Locked<Seen, StoreValue<J>>)
+        requires { locked.now ≡ J.names.store }
+        ensures sees { SeesMore self.old self.new }
+        ensures callers { AreOfCallers J.callers self.new.seen }
+        ensures lawful { IsLawfulStore J.starting self.new.seen }
+    {
+        let mut value = locked.lock(rt);
+        value.tell(locked.chronicle(), &mut self.front);
+    }
+
     /// All writes at a moment of the call, the earliest first, which the caller has seen then.
     pub(crate) fn history(
         &mut self,
@@ -94,6 +106,7 @@ impl<R: Wait + Copy, J: Naming> SharedStore<R, J> {
     ) -> Result<Vec<Seen>, AllocError>
         requires { locked.now ≡ J.names.store }
         ensures sees { SeesMore self.old self.new }
+        ensures callers { AreOfCallers J.callers self.new.seen }
         ensures whole { IfOk result (λ writes. ShowsAll J.starting self.old self.new writes.items) }
     {
         let mut value = locked.lock(rt);

@@ -1,6 +1,6 @@
 ghost use Rattle.std.specs.Prelude.{◌≡◌, ◌≤◌, length, IfOk};
 ghost use Rattle.rt_stream.specs.Feed.{Fetches, Measures};
-ghost use Rattle.rt_ground.specs.Histories.{Meets, SeesMore};
+ghost use Rattle.rt_ground.specs.Histories.{Meets, SeesMore, AreOfCallers};
 ghost use Rattle.rt_ground.specs.StreamCalls.{shared_meaning, SharesBy};
 
 use crate::appended::Appended;
@@ -10,14 +10,14 @@ use crate::stream_value::StreamValue;
 use rt_base::limits::LONGEST_MESSAGE;
 use rt_base::{Offset, Partition};
 use rt_front::Front;
-use rt_stream::{Feed, FeedRefused, Messages};
+use rt_stream::{Feed, FeedRefused, Message, Messages};
 use std::alloc::{AllocError, Global};
 use std::marker::Model;
 use std::sync::Wait;
 
 /// The stream as one of its callers has it. Contracts see the caller's front.
 ///
-/// Each call takes the lock, makes one call of the value behind it and lets go.
+/// Each call takes the lock, makes one call of the value behind it and lets go. An append copies its message before that.
 #[derive(Drop)]
 pub struct SharedStream<R, J: Naming> {
     rt: R,
@@ -83,14 +83,22 @@ impl<R: Wait + Copy, J: Naming> SharedStream<R, J> {
         ensures { SharesBy J.starting.partitions self.old self.new
             (record { partition = partition; message = message.now }) result }
     {
-        let mut value = self.shared.lock(&self.rt);
-        value.append(
-            alloc,
-            self.shared.chronicle(),
-            &mut self.front,
+        let appended = Appended {
             partition,
-            message,
-        )
+            message: Message::copied_from(alloc, message)?,
+        };
+        let mut value = self.shared.lock(&self.rt);
+        value.add(alloc, self.shared.chronicle(), &mut self.front, &appended)
+    }
+
+    /// Brings the caller's front up to all messages at a moment of the call.
+    pub(crate) fn tell(&mut self, rt: &R, locked: &Locked<Appended, StreamValue<J>>)
+        requires { locked.now ≡ J.names.stream }
+        ensures sees { SeesMore self.old self.new }
+        ensures callers { AreOfCallers J.callers self.new.seen }
+    {
+        let mut value = locked.lock(rt);
+        value.tell(locked.chronicle(), &mut self.front);
     }
 }
 

@@ -4,11 +4,10 @@ ghost use Rattle.rt_model.specs.Lawful.{IsLawful, create, set, delete, create_af
 ghost use Rattle.rt_store.specs.Answers.{reading, listing};
 ghost use Rattle.rt_store.specs.Contents.{starting_of};
 ghost use Rattle.rt_ground.specs.Callers.{fronts_from};
-ghost use Rattle.rt_ground.specs.Histories.{Tells};
+ghost use Rattle.rt_ground.specs.Histories.{Tells, AreOfCallers};
 ghost use Rattle.rt_ground.specs.Lawfulness.{IsLawfulStore};
 ghost use Rattle.rt_ground.specs.StoreCalls.{history_of, seen_by, SettledBy, WritesOnce, Looks};
 
-use crate::locked::Locked;
 use crate::naming::Naming;
 use crate::register::Register;
 use rt_base::{Instance, Partition};
@@ -23,7 +22,8 @@ use std::marker::{Model, PhantomData};
 ///
 /// Each call answers by the whole history, which the front has seen afterwards. A write needs to be lawful over what the
 /// front has seen. A write that is carried out is the last entry then, and the front has one entry more of its own; a
-/// refused one adds nothing. After a write that ran out of memory all is as before.
+/// refused one adds nothing. After a write that ran out of memory all is as before; after every other call the history is
+/// told lawful.
 #[derive(Drop)]
 pub struct StoreValue<J: Naming> {
     store: MemoryStore,
@@ -45,37 +45,37 @@ impl<J: Naming> Model for StoreValue<J> {
     ghost view = { λ v. v.register.log };
 
     ghost invariant = { λ v. (v.register.chronicle ≡ J.names.store)
-        × (v.store ≡ held J.starting v.register.log) × IsLawfulLog J.starting v.register.log };
+        × (v.store ≡ held J.starting v.register.log) × IsLawfulLog J.starting v.register.log
+        × (v.register.made ≡ J.callers) };
 }
 
 impl<J: Naming> StoreValue<J> {
-    /// Founds the store of a fresh cluster, behind its lock, and the fronts of so many callers.
-    pub(crate) fn found(
+    /// Founds the store of a fresh cluster, which has no write behind the starting contents, and the fronts of so many
+    /// callers. No other front of it is made.
+    pub fn found(
         alloc: Global,
         blank: Blank<Seen>,
         setup: &Setup,
         callers: u32,
-    ) -> Result<(Locked<Seen, StoreValue<J>>, Vec<Front<Seen>>), AllocError>
+    ) -> Result<(Chronicle<Seen>, StoreValue<J>, Vec<Front<Seen>>), AllocError>
         requires name { blank ≡ J.names.store }
         requires setup { IsSetup setup.now }
         requires starting { starting_of setup.now ≡ J.starting }
-        ensures locked { IfOk result (λ r. r.0 ≡ J.names.store) }
-        ensures fronts { IfOk result (λ r. r.1.items ≡ fronts_from J.names.store 0 callers) }
+        requires callers { callers ≡ J.callers }
+        ensures chronicle { IfOk result (λ r. r.0 ≡ J.names.store) }
+        ensures empty { IfOk result (λ r. r.1 ≡ []) }
+        ensures fronts { IfOk result (λ r. r.2.items ≡ fronts_from J.names.store 0 callers) }
     {
         let (chronicle, keeper, fronts) = found(alloc, blank, callers)?;
         let value = StoreValue::fresh(alloc, setup, keeper)?;
-        Ok((Locked::of(alloc, chronicle, value)?, fronts))
+        Ok((chronicle, value, fronts))
     }
 
     /// The store of a fresh cluster.
-    pub(crate) fn fresh(
-        alloc: Global,
-        setup: &Setup,
-        keeper: Keeper<Seen>,
-    ) -> Result<Self, AllocError>
+    fn fresh(alloc: Global, setup: &Setup, keeper: Keeper<Seen>) -> Result<Self, AllocError>
         requires setup { IsSetup setup.now }
         requires starting { starting_of setup.now ≡ J.starting }
-        requires keeper { (keeper.chronicle ≡ J.names.store) × (keeper.log ≡ []) }
+        requires keeper { (keeper.chronicle ≡ J.names.store) × (keeper.log ≡ []) × (keeper.made ≡ J.callers) }
         ensures { IfOk result (λ value. value ≡ []) }
     {
         Ok(StoreValue {
@@ -215,6 +215,18 @@ impl<J: Naming> StoreValue<J> {
         settle(&self.store, &mut self.register, chronicle, front, answer)
     }
 
+    /// Brings a front up to the whole history.
+    pub(crate) fn tell(&mut self, chronicle: &Chronicle<Seen>, front: &mut Front<Seen>)
+        requires { (chronicle.now ≡ J.names.store) × (front.old.chronicle ≡ J.names.store) }
+        ensures same { self.new ≡ self.old }
+        ensures name { front.new.chronicle ≡ front.old.chronicle }
+        ensures told { Tells self.old front.old front.new }
+        ensures callers { AreOfCallers J.callers self.old }
+        ensures lawful { IsLawfulStore J.starting self.old }
+    {
+        self.register.tell(chronicle, front);
+    }
+
     /// All writes, the earliest first, which the front has then seen.
     pub(crate) fn history(
         &mut self,
@@ -227,6 +239,7 @@ impl<J: Naming> StoreValue<J> {
         ensures name { front.new.chronicle ≡ front.old.chronicle }
         ensures told { Tells self.old front.old front.new }
         ensures writes { IfOk result (λ writes. writes.items ≡ history_of J.starting self.old) }
+        ensures callers { AreOfCallers J.callers self.old }
         ensures lawful { IsLawfulStore J.starting self.old }
     {
         self.register.tell(chronicle, front);
@@ -246,6 +259,7 @@ fn settle<X>(
     requires room { register.old.room ≡ true }
     ensures same { result ≡ answer }
     ensures names { (register.new.chronicle ≡ register.old.chronicle) × (front.new.chronicle ≡ front.old.chronicle) }
+    ensures made { register.new.made ≡ register.old.made }
     ensures settled { SettledBy store.now.writes register.old.log register.new.log front.old front.new answer }
 {
     match answer {

@@ -2,10 +2,10 @@ ghost use Rattle.std.specs.Prelude.{◌≡◌, ◌≤◌, [], length, true, IfOk
 ghost use Rattle.rt_stream.specs.Feed.{answered};
 ghost use Rattle.rt_stream.specs.Log.{fetched, measured};
 ghost use Rattle.rt_ground.specs.Callers.{fronts_from};
+ghost use Rattle.rt_ground.specs.Histories.{Tells, AreOfCallers};
 ghost use Rattle.rt_ground.specs.StreamCalls.{messages, SettledBy, AppendsOnce, Looks};
 
 use crate::appended::Appended;
-use crate::locked::Locked;
 use crate::naming::Naming;
 use crate::register::Register;
 use rt_base::limits::LONGEST_MESSAGE;
@@ -41,35 +41,35 @@ impl<J: Naming> Model for StreamValue<J> {
     ghost view = { λ v. v.register.log };
 
     ghost invariant = { λ v. (v.register.chronicle ≡ J.names.stream)
-        × (v.messages ≡ log_of J.starting.partitions (whats v.register.log)) };
+        × (v.messages ≡ log_of J.starting.partitions (whats v.register.log))
+        × (v.register.made ≡ J.callers) };
 }
 
 impl<J: Naming> StreamValue<J> {
-    /// Founds a stream of this many partitions, without any message, behind its lock, and the fronts of so many callers.
-    pub(crate) fn found(
+    /// Founds a stream of this many partitions, without any message, and the fronts of so many callers. No other front of
+    /// it is made.
+    pub fn found(
         alloc: Global,
         blank: Blank<Appended>,
         partitions: u32,
         callers: u32,
-    ) -> Result<(Locked<Appended, StreamValue<J>>, Vec<Front<Appended>>), AllocError>
+    ) -> Result<(Chronicle<Appended>, StreamValue<J>, Vec<Front<Appended>>), AllocError>
         requires name { blank ≡ J.names.stream }
         requires partitions { partitions ≡ J.starting.partitions }
-        ensures locked { IfOk result (λ r. r.0 ≡ J.names.stream) }
-        ensures fronts { IfOk result (λ r. r.1.items ≡ fronts_from J.names.stream 0 callers) }
+        requires callers { callers ≡ J.callers }
+        ensures chronicle { IfOk result (λ r. r.0 ≡ J.names.stream) }
+        ensures empty { IfOk result (λ r. r.1 ≡ []) }
+        ensures fronts { IfOk result (λ r. r.2.items ≡ fronts_from J.names.stream 0 callers) }
     {
         let (chronicle, keeper, fronts) = found(alloc, blank, callers)?;
         let value = StreamValue::fresh(alloc, partitions, keeper)?;
-        Ok((Locked::of(alloc, chronicle, value)?, fronts))
+        Ok((chronicle, value, fronts))
     }
 
     /// A stream of this many partitions, without any message.
-    pub(crate) fn fresh(
-        alloc: Global,
-        partitions: u32,
-        keeper: Keeper<Appended>,
-    ) -> Result<Self, AllocError>
+    fn fresh(alloc: Global, partitions: u32, keeper: Keeper<Appended>) -> Result<Self, AllocError>
         requires partitions { partitions ≡ J.starting.partitions }
-        requires keeper { (keeper.chronicle ≡ J.names.stream) × (keeper.log ≡ []) }
+        requires keeper { (keeper.chronicle ≡ J.names.stream) × (keeper.log ≡ []) × (keeper.made ≡ J.callers) }
         ensures { IfOk result (λ value. value ≡ []) }
     {
         Ok(StreamValue {
@@ -114,6 +114,17 @@ impl<J: Naming> StreamValue<J> {
         self.messages.length(partition)
     }
 
+    /// Brings a front up to the whole history.
+    pub(crate) fn tell(&mut self, chronicle: &Chronicle<Appended>, front: &mut Front<Appended>)
+        requires { (chronicle.now ≡ J.names.stream) × (front.old.chronicle ≡ J.names.stream) }
+        ensures same { self.new ≡ self.old }
+        ensures name { front.new.chronicle ≡ front.old.chronicle }
+        ensures told { Tells self.old front.old front.new }
+        ensures callers { AreOfCallers J.callers self.old }
+    {
+        self.register.tell(chronicle, front);
+    }
+
     /// Adds a message at the end of a partition, and answers its offset.
     pub fn append(
         &mut self,
@@ -129,13 +140,29 @@ impl<J: Naming> StreamValue<J> {
         ensures stream { AppendsOnce J.starting.partitions self.old self.new front.old front.new
             (record { partition = partition; message = message.now }) result }
     {
-        self.register.reserve()?;
         let appended = Appended {
             partition,
             message: Message::copied_from(alloc, message)?,
         };
-        let answer = self.messages.append(alloc, partition, message);
-        settle(&mut self.register, chronicle, front, &appended, answer)
+        self.add(alloc, chronicle, front, &appended)
+    }
+
+    /// The same, of a message that was copied already: a caller makes the copy before it takes the lock.
+    pub fn add(
+        &mut self,
+        alloc: Global,
+        chronicle: &Chronicle<Appended>,
+        front: &mut Front<Appended>,
+        appended: &Appended,
+    ) -> Result<Offset, FeedRefused>
+        requires { (chronicle.now ≡ J.names.stream) × (front.old.chronicle ≡ J.names.stream) }
+        ensures name { front.new.chronicle ≡ front.old.chronicle }
+        ensures stream { AppendsOnce J.starting.partitions self.old self.new front.old front.new appended.now result }
+    {
+        self.register.reserve()?;
+        let message = appended.message.as_slice();
+        let answer = self.messages.append(alloc, appended.partition, message);
+        settle(&mut self.register, chronicle, front, appended, answer)
     }
 }
 
@@ -151,6 +178,7 @@ fn settle(
     requires room { register.old.room ≡ true }
     ensures same { result ≡ answer }
     ensures names { (register.new.chronicle ≡ register.old.chronicle) × (front.new.chronicle ≡ front.old.chronicle) }
+    ensures made { register.new.made ≡ register.old.made }
     ensures settled { SettledBy appended.now register.old.log register.new.log front.old front.new answer }
 {
     match answer {

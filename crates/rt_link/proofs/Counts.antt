@@ -103,21 +103,29 @@ of_senders made taken gathered items adds p past = of_left p taken items (adds.n
 
 -- ---- the posts, one after another
 
-abbrev new_posts : TableId → ℕ → List Sending
-new_posts line n = map (λ k. sending line k []) (range_with_len 0 n)
+abbrev new_posts : TableId → ℕ → ℕ → List Sending
+new_posts line capacity n = map (λ k. sending line capacity k []) (range_with_len 0 n)
 
-pub posts_more : (line : TableId) (n : ℕ) (before after : List Sending) (x : Sending) → x ≡ sending line n [] → after ≡ before ++ x ∷ [] → before ≡ new_posts line n → after ≡ new_posts line (n + 1)
-posts_more line n before after x is pushed so_far =
+posts_more : (line : TableId) (capacity n : ℕ) (before after : List Sending) (x : Sending) → x ≡ sending line capacity n [] → after ≡ before ++ x ∷ [] → before ≡ new_posts line capacity n
+    → after ≡ new_posts line capacity (n + 1)
+posts_more line capacity n before after x is pushed so_far =
     pushed
     ∙ ap (λ l. l ++ x ∷ []) so_far
-    ∙ ap (λ y. new_posts line n ++ y ∷ []) is
-    ∙ sym (map-range_with_len_more (λ k. sending line k []) 0 n n (omega arith))
+    ∙ ap (λ y. new_posts line capacity n ++ y ∷ []) is
+    ∙ sym (map-range_with_len_more (λ k. sending line capacity k []) 0 n n (omega arith))
 
--- the same, where the link is that of an inbox which made the post
-pub links_more : (n : ℕ) (old new : Taking) (before after : List Sending) (x : Sending) → new ≡ taking old.line (n + 1) [] [] → x ≡ sending old.line n []
-    → after ≡ before ++ x ∷ [] → before ≡ new_posts old.line n → after ≡ new_posts new.line (n + 1)
-links_more n old new before after x made is pushed so_far =
-    posts_more old.line n before after x is pushed so_far ∙ ap (λ (i : Taking). new_posts i.line (n + 1)) (sym made)
+-- an inbox that made a post
+pub inbox_more : (capacity n : ℕ) (old new : Taking) → old ≡ taking old.line capacity n [] [] → new ≡ taking old.line old.capacity (n + 1) [] [] → new ≡ taking new.line capacity (n + 1) [] []
+inbox_more capacity n old new is made =
+    let here : new ≡ taking old.line capacity (n + 1) [] [] = made ∙ ap (λ (i : Taking). taking old.line i.capacity (n + 1) [] []) is in
+    here ∙ ap (λ (i : Taking). taking i.line capacity (n + 1) [] []) (sym here)
+
+-- the posts with the one that it made
+pub links_more : (capacity n : ℕ) (old new : Taking) (before after : List Sending) (x : Sending) → old ≡ taking old.line capacity n [] [] → new ≡ taking old.line old.capacity (n + 1) [] []
+    → x ≡ sending old.line old.capacity n [] → after ≡ before ++ x ∷ [] → before ≡ new_posts old.line capacity n → after ≡ new_posts new.line capacity (n + 1)
+links_more capacity n old new before after x is made posted pushed so_far =
+    posts_more old.line capacity n before after x (posted ∙ ap (λ (i : Taking). sending old.line i.capacity n []) is) pushed so_far
+    ∙ ap (λ (i : Taking). new_posts i.line capacity (n + 1)) (sym made)
 
 -- ---- the owner's end, after a taking
 

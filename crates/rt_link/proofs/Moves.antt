@@ -6,13 +6,13 @@ use lib.ListN.{get_elem?}
 use Rattle.std.proofs.lemmas.List.Elements.{All-nil, All-push, All-weaker}
 use Rattle.atomic_table.proofs.Lists.{set_else}
 use Rattle.crossbeam_queue.specs.Fifo.{Pushes, Pops, Forks, Merges, Learns}
-use Rattle.rt_front.proofs.Views.{each_set, each_more}
 use Rattle.rt_link.specs.declared.envelope.Envelope.{Envelope}
 use Rattle.rt_link.specs.declared.rule.Sent.{Sent}
 use Rattle.rt_link.specs.declared.rule.Account.{Account}
 use Rattle.rt_link.specs.declared.rule.Knows.{Knows}
 use Rattle.rt_link.specs.Delivery.{of, account, owner, sender, idle, maker, next_sender, gatherer, Accepts, TakesOne, AddsUp, Fits, Delivers}
 use Rattle.rt_link.proofs.Counts.{of_here, of_else, of_some}
+use Rattle.rt_link.proofs.Views.{each_set, each_more}
 
 -- the one view, at its place
 only : (v : Knows) (k : ℕ) (u : Knows) → get_elem? (v ∷ []) k ≡ some u → (k ≡ 0) × (v ≡ u)

@@ -11,34 +11,38 @@ use Rattle.rt_link.specs.declared.rule.Account.{Account}
 use Rattle.rt_link.specs.declared.rule.Knows.{Knows}
 use Rattle.rt_link.specs.Delivery.{of, owner, sender}
 
--- a sender's end: the link, the sender's number, and what was accepted of it
+-- a sender's end: the link, how many envelopes its queue can hold, the sender's number, and what was accepted of it
 pub record Sending : Type 0 where
   pub line : TableId
+  pub capacity : ℕ
   pub from : ℕ
   pub accepted : List Envelope
 
--- the owner's end: the link, the number of senders, what was taken, and the accounts of the gathered senders
+-- the owner's end: the link, how many envelopes its queue can hold, the number of senders, what was taken, and the accounts
+-- of the gathered senders
 pub record Taking : Type 0 where
   pub line : TableId
+  pub capacity : ℕ
   pub made : ℕ
   pub taken : List Sent
   pub gathered : List Account
 
-abbrev pub sending : TableId → ℕ → List Envelope → Sending
-sending line from accepted = record { line = line; from = from; accepted = accepted }
+abbrev pub sending : TableId → ℕ → ℕ → List Envelope → Sending
+sending line capacity from accepted = record { line = line; capacity = capacity; from = from; accepted = accepted }
 
-abbrev pub taking : TableId → ℕ → List Sent → List Account → Taking
-taking line made taken gathered = record { line = line; made = made; taken = taken; gathered = gathered }
+abbrev pub taking : TableId → ℕ → ℕ → List Sent → List Account → Taking
+taking line capacity made taken gathered =
+    record { line = line; capacity = capacity; made = made; taken = taken; gathered = gathered }
 
 -- all that was accepted of the gathered senders was taken
 abbrev pub WasDrained : List Sent → List Account → Type 0
 WasDrained taken gathered = All (λ a. a.accepted ≡ of a.from taken) gathered
 
-abbrev pub sending_by : Pass Sent Knows → Sending
-sending_by p = sending p.table_id (view p).mine.from (view p).mine.accepted
+abbrev pub sending_by : ℕ → Pass Sent Knows → Sending
+sending_by capacity p = sending p.table_id capacity (view p).mine.from (view p).mine.accepted
 
-abbrev pub taking_by : Pass Sent Knows → Taking
-taking_by p = taking p.table_id (view p).made (view p).taken (view p).gathered
+abbrev pub taking_by : ℕ → Pass Sent Knows → Taking
+taking_by capacity p = taking p.table_id capacity (view p).made (view p).taken (view p).gathered
 
 -- how many were taken of each sender
 abbrev pub AreCounts : List ℕ → List Sent → Type 0

@@ -1,16 +1,17 @@
 ghost use Rattle.std.specs.Prelude.{ℕ, ◌≡◌, ◌+◌, ◌<◌, [], ◌∷◌, ◌++◌, length, slice_set, slice_index_or, MatchOption};
 ghost use Rattle.rt_link.specs.Delivery.{of, sent, account, TookInOrder, TookOfSenders};
-ghost use Rattle.rt_link.specs.Ends.{taking, WasDrained};
+ghost use Rattle.rt_link.specs.Ends.{WasDrained};
 
 use crate::envelope::Envelope;
-use crate::post::{Post, never};
+use crate::forever::never;
+use crate::post::Post;
 use crate::rule::{Gathers, Line, Sent, Takes, Ticket};
 use std::alloc::Global;
 use std::marker::Model;
 use std::sync::{Arc, Wait};
 
-/// The end of an owner. Contracts see it as its link, the number of senders, what was taken, and the accounts of the
-/// senders that were gathered.
+/// The end of an owner. Contracts see it as its link, the queue's capacity, the number of senders, what was taken, and
+/// the accounts of the senders that were gathered.
 #[derive(Drop)]
 pub struct Inbox {
     pub(crate) line: Arc<Line, Global>,
@@ -25,9 +26,10 @@ impl Model for Inbox {
     ghost Value = { Taking };
 
     ghost use Rattle.std.specs.Arc.{arc_value};
+    ghost use Rattle.crossbeam_queue.specs.Passes.{ruled_capacity};
     ghost use Rattle.rt_link.specs.Ends.{taking_by, IsOwner};
 
-    ghost view = { λ i. taking_by i.ticket };
+    ghost view = { λ i. taking_by (ruled_capacity (arc_value i.line)) i.ticket };
 
     ghost invariant = { λ i. IsOwner (arc_value i.line) i.ticket i.counts.items };
 }
@@ -39,7 +41,7 @@ impl Inbox {
         ensures { MatchOption result
             ((self.new ≡ self.old) × WasDrained self.old.taken self.old.gathered)
             (λ e. (p : ℕ) × (p < self.old.made)
-            × (self.new ≡ taking self.old.line self.old.made (self.old.taken ++ sent p e ∷ []) self.old.gathered)) }
+            × (self.new ≡ record self.old { taken = self.old.taken ++ sent p e ∷ [] })) }
     {
         let Sent { sender, envelope } = self.line.pop_as::<Takes, R>(rt, &mut self.ticket)?;
         count_one(rt, &mut self.counts, sender as usize);
@@ -60,8 +62,9 @@ impl Inbox {
     /// accepted of it.
     pub fn gather(&mut self, post: Post)
         requires { post.line ≡ self.old.line }
-        ensures new { self.new ≡ taking self.old.line self.old.made self.old.taken
-            (self.old.gathered ++ account post.from post.accepted ∷ []) }
+        ensures new { self.new ≡ record self.old {
+          gathered = self.old.gathered ++ account post.from post.accepted ∷ [];
+        } }
         ensures order { TookInOrder self.new.taken self.new.gathered }
         ensures senders { TookOfSenders self.new.made self.new.taken }
     {

@@ -7,6 +7,7 @@
 
 mod ends;
 mod envelope;
+mod forever;
 mod full;
 mod inbox;
 mod post;
@@ -14,6 +15,7 @@ mod rule;
 
 pub use ends::link;
 pub use envelope::Envelope;
+pub use forever::never;
 pub use full::Full;
 pub use inbox::Inbox;
 pub use post::Post;

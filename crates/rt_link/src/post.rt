@@ -1,14 +1,15 @@
 ghost use Rattle.std.specs.Prelude.{◌≡◌, [], ◌∷◌, ◌++◌, length, MatchResult};
-ghost use Rattle.rt_link.specs.Ends.{sending};
 
 use crate::envelope::Envelope;
+use crate::forever::never;
 use crate::full::Full;
 use crate::rule::{Line, Posts, Sent, Ticket};
 use std::alloc::Global;
 use std::marker::Model;
 use std::sync::{Arc, Wait};
 
-/// The end of a sender. Contracts see it as its link, the sender's number, and what was accepted of it.
+/// The end of a sender. Contracts see it as its link, the queue's capacity, the sender's number, and what was accepted of
+/// it.
 #[derive(Drop)]
 pub struct Post {
     pub(crate) line: Arc<Line, Global>,
@@ -23,9 +24,10 @@ impl Model for Post {
     ghost Value = { Sending };
 
     ghost use Rattle.std.specs.Arc.{arc_value};
+    ghost use Rattle.crossbeam_queue.specs.Passes.{ruled_capacity};
     ghost use Rattle.rt_link.specs.Ends.{sending_by, IsSender};
 
-    ghost view = { λ p. sending_by p.ticket };
+    ghost view = { λ p. sending_by (ruled_capacity (arc_value p.line)) p.ticket };
 
     ghost invariant = { λ p. IsSender (arc_value p.line) p.ticket p.from p.count };
 }
@@ -34,7 +36,7 @@ impl Post {
     /// Offers an envelope. Where the queue was full at some moment of the call, it comes back.
     pub fn post<R: Wait>(&mut self, rt: &R, envelope: Envelope) -> Result<(), (Envelope, Full)>
         ensures { MatchResult result
-            (λ _. self.new ≡ sending self.old.line self.old.from (self.old.accepted ++ envelope ∷ []))
+            (λ _. self.new ≡ record self.old { accepted = self.old.accepted ++ envelope ∷ [] })
             (λ e. (e.0 ≡ envelope) × (self.new ≡ self.old)) }
     {
         if self.count == u64::MAX {
@@ -59,12 +61,4 @@ impl Post {
     {
         self.count
     }
-}
-
-/// Waits for ever: a count has come to its last value.
-pub(crate) fn never<T, R: Wait>(rt: &R) -> T
-    ensures { ⊥ }
-{
-    for _ in rt.forever() {}
-    unreachable!()
 }

@@ -6,6 +6,7 @@ pub mod Keys
 pub mod Latest
 pub mod Listing
 pub mod Nodes
+pub mod Owning
 pub mod Realized
 pub mod Refusals
 pub mod Seeing

@@ -39,15 +39,15 @@ goes_told : {X : Type 0} (t : Told) (answer : List Seen → Result X StoreRefuse
     → result ≡ answer_on t answer → IsNamed result
     → GoesBy (means t) (means (told_on t after)) (fault_of t.faults.plan) t.writes (after t.writes) (answer t.writes) result
 goes_told t answer after (Ok x) e n =
-    record { meets = (refl, refl); counts = counted t.faults (fault_of t.faults.plan); answered = e; seen = refl }
+    record { meets = (refl, refl); counts = counted t.faults (fault_of t.faults.plan); answered = e; seen = refl; own = refl }
 goes_told t answer after (Err NoNode) e n =
-    record { meets = (refl, refl); counts = counted t.faults (fault_of t.faults.plan); answered = e; seen = refl }
+    record { meets = (refl, refl); counts = counted t.faults (fault_of t.faults.plan); answered = e; seen = refl; own = refl }
 goes_told t answer after (Err (Exists found)) e n =
-    record { meets = (refl, refl); counts = counted t.faults (fault_of t.faults.plan); answered = e; seen = refl }
+    record { meets = (refl, refl); counts = counted t.faults (fault_of t.faults.plan); answered = e; seen = refl; own = refl }
 goes_told t answer after (Err (VersionChanged expected found)) e n =
-    record { meets = (refl, refl); counts = counted t.faults (fault_of t.faults.plan); answered = e; seen = refl }
+    record { meets = (refl, refl); counts = counted t.faults (fault_of t.faults.plan); answered = e; seen = refl; own = refl }
 goes_told t answer after (Err Failed) e n =
-    record { meets = (refl, refl); counts = counted t.faults (fault_of t.faults.plan); answered = e; seen = refl }
+    record { meets = (refl, refl); counts = counted t.faults (fault_of t.faults.plan); answered = e; seen = refl; own = refl }
 goes_told t answer after (Err Memory) e n = absurd n
 
 pub calls_told : {X Y : Type 0} (t : Told) (answer : List Seen → Result X StoreRefused) (after : List Seen → List Seen)

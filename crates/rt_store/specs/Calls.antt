@@ -1,5 +1,5 @@
 -- What each call promises, by what a store means before it and after it.
-use Rattle.std.specs.Prelude.{◌≡◌, ℕ, List, ◌⊎◌, Option, Some, None, Result, Ok, Err, ⊤}
+use Rattle.std.specs.Prelude.{◌≡◌, ℕ, List, ◌++◌, ◌⊎◌, Option, Some, None, Result, Ok, Err, ⊤}
 use Rattle.rt_base.specs.declared.fault.Fault.{Fault}
 use Rattle.rt_base.specs.Faults.{fault_of, met_fault, Counts, answer_under, left_under}
 use Rattle.rt_base.specs.declared.numbers.Partition.{Partition}
@@ -13,7 +13,7 @@ use Rattle.rt_model.specs.Starting.{Starting}
 use Rattle.rt_model.specs.Lawful.{Write, create, set, delete, create_after, bump, IsLawful, IsLawfulHistory}
 use Rattle.rt_store.specs.declared.refused.StoreRefused.{StoreRefused}
 use Rattle.rt_store.specs.declared.refused.StoreRefused.TheVariants.{NoNode, Exists, VersionChanged, Failed, Memory}
-use Rattle.rt_store.specs.Meaning.{Told, Meaning}
+use Rattle.rt_store.specs.Meaning.{Told, Own, Meaning}
 use Rattle.rt_store.specs.Answers.{reading, listing, answer_of, after_call}
 
 -- what is told after a call that left these writes
@@ -37,18 +37,26 @@ pub record Sees (old : Meaning) (base : List Seen) : Type 0 where
   pub all : AreAll old.told base
   pub lawful : (s : Starting) → IsLawfulHistory s old.seen → IsLawfulHistory s base
 
+-- what a call leaves behind that on which it stands is its caller's own
+abbrev pub Gains : Option Own → Option Own → List Seen → List Seen → Type 0
+Gains None new base after = new ≡ None
+Gains (Some o) new base after =
+    (more : List Seen) × (after ≡ base ++ more) × (new ≡ Some (record { numbers = o.numbers; writes = o.writes ++ more }))
+
 -- a call that met a fault, or none, and that would give this answer and leave these writes without it
 pub record Goes {X : Type 0} (old new : Meaning) (fault : Fault) (base after : List Seen) (answer result : Result X StoreRefused) : Type 0 where
   pub meets : Meets old.told new.told fault new.seen
   pub counts : Counts old.faults new.faults fault
   pub answered : result ≡ answer_under Failed fault answer
   pub seen : new.seen ≡ left_under fault base after
+  pub own : Gains old.own new.own base new.seen
 
 -- a call that ran out of memory: nothing is written, and no fault is met
 pub record Stays (old new : Meaning) (base : List Seen) : Type 0 where
   pub told : new.told ≡ old.told
   pub faults : new.faults ≡ old.faults
   pub seen : new.seen ≡ base
+  pub own : new.own ≡ old.own
 
 abbrev pub GoesBy : {X : Type 0} → Meaning → Meaning → Fault → List Seen → List Seen → Result X StoreRefused → Result X StoreRefused → Type 0
 GoesBy old new fault base after answer (Err Memory) = Stays old new base

@@ -8,10 +8,17 @@ pub record Told : Type 0 where
   pub writes : List Seen
   pub faults : Planned
 
+-- a caller who is told apart from others: the numbers of its front, and its own writes, in order
+pub record Own : Type 0 where
+  pub numbers : List ℕ
+  pub writes : List Seen
+
 pub record Meaning : Type 0 where
   -- everything, where it is told
   pub told : Option Told
   -- the writes that the caller has seen
   pub seen : List Seen
+  -- the caller's own, where callers are told apart
+  pub own : Option Own
   -- the count of faults
   pub faults : ℕ

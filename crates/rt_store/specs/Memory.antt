@@ -1,5 +1,5 @@
 -- The store in memory: what it carries out.
-use Rattle.std.specs.Prelude.{◌≡◌, ℕ, [], ◌∷◌, ◌++◌, Some, Result, Ok, Err}
+use Rattle.std.specs.Prelude.{◌≡◌, ℕ, [], ◌∷◌, ◌++◌, Some, None, Result, Ok, Err}
 use Rattle.rt_model.specs.declared.node.Key.{Key}
 use Rattle.rt_model.specs.declared.node.Node.{Node}
 use Rattle.rt_model.specs.History.{next_version}
@@ -14,7 +14,7 @@ use Rattle.rt_store.specs.Calls.{told_after}
 
 -- it tells everything, and whoever calls it sees all writes
 abbrev pub means : Told → Meaning
-means t = record { told = Some t; seen = t.writes; faults = t.faults.met }
+means t = record { told = Some t; seen = t.writes; own = None; faults = t.faults.met }
 
 -- a key is written
 abbrev pub with_write : Told → Key → Node → Told

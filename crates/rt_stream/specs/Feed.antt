@@ -5,10 +5,17 @@ use Rattle.rt_stream.specs.declared.feed.FeedRefused.{FeedRefused}
 use Rattle.rt_stream.specs.declared.feed.FeedRefused.TheVariants.{NoPartition, PastEnd, Memory}
 use Rattle.rt_stream.specs.Log.{Log, messages_of, fetched, measured}
 
--- what a feed means: the log, where it is told, and the messages that its caller has seen
+-- a caller who is told apart from others: the numbers of its front, and the messages that it appended, in order
+pub record FeedOwn : Type 0 where
+  pub numbers : List ℕ
+  pub messages : List (Partition × List ℕ)
+
+-- what a feed means: the log, where it is told, the messages that its caller has seen, and the caller's own, where
+-- callers are told apart
 pub record FeedMeaning : Type 0 where
   pub told : Option Log
   pub seen : Log
+  pub own : Option FeedOwn
 
 -- a log has the messages of an earlier one, and maybe more behind them in each partition
 pub record Grows (old new : Log) : Type 0 where
@@ -34,6 +41,7 @@ pub record Fetches (old new : FeedMeaning) (partition : Partition) (from : Offse
   pub sees : Sees old.told new
   pub grows : Grows old.seen new.seen
   pub answer : answered result (fetched new.seen partition from max)
+  pub own : new.own ≡ old.own
 
 -- and so does a look at the length, which takes no memory
 pub record Measures (old new : FeedMeaning) (partition : Partition)
@@ -41,7 +49,8 @@ pub record Measures (old new : FeedMeaning) (partition : Partition)
   pub sees : Sees old.told new
   pub grows : Grows old.seen new.seen
   pub answer : result ≡ measured new.seen partition
+  pub own : new.own ≡ old.own
 
 -- a log in memory tells everything, and its caller has seen it
 abbrev pub log_meaning : Log → FeedMeaning
-log_meaning log = record { told = Some log; seen = log }
+log_meaning log = record { told = Some log; seen = log; own = None }

@@ -1,5 +1,7 @@
-use crate::role::{OFFERED, Role, SENDERS, envelope};
-use rt_link::link;
+ghost use Rattle.std.specs.Prelude.{◌≤◌};
+
+use crate::role::{OFFERED, Role, SENDERS, count_of, envelope};
+use rt_link::{Inbox, Post, link};
 use std::alloc::{AllocError, Global};
 use std::sync::Wait;
 use std::sync::atomic::AtomicU64;
@@ -22,6 +24,66 @@ pub fn of_one<R: Wait>(rt: &R, alloc: Global) -> Result<String, AllocError> {
     format!(in alloc;
         "post {first}, back where full {back}, take {taken}, then none {nothing}; accepted {accepted}, taken {took}"
     )
+}
+
+/// What an inbox of this capacity answers to so many posts of its senders in turn, to one take more than it can hold, and
+/// to one post more.
+pub fn of_capacity<R: Wait>(
+    rt: &R,
+    alloc: Global,
+    capacity: u32,
+    senders: u32,
+    posts: u64,
+) -> Result<String, AllocError>
+    requires capacity { 1 ≤ capacity }
+    requires senders { 1 ≤ senders }
+{
+    let (mut inbox, mut ends) = link(alloc, capacity, senders)?;
+    let mut posted = String::new(alloc);
+    for number in 0..posts {
+        let Some(post) = ends.get_mut((number % u64::from(senders)) as usize) else {
+            return Err(AllocError);
+        };
+        posted.push_str(offered(rt, post, number))?;
+    }
+    let taken = taken(rt, alloc, &mut inbox, u64::from(capacity) + 1)?;
+    let Some(post) = ends.get_mut(0) else {
+        return Err(AllocError);
+    };
+    let after = offered(rt, post, posts);
+    format!(in alloc; "post{posted}, take{taken}, post{after}")
+}
+
+/// What a post answers to the envelope of this number.
+fn offered<R: Wait>(rt: &R, post: &mut Post, number: u64) -> &'static str {
+    match post.post(rt, envelope(number)) {
+        Ok(()) => " Ok",
+        Err((back, _full)) => {
+            if back == envelope(number) {
+                " Full"
+            } else {
+                " another"
+            }
+        }
+    }
+}
+
+/// The numbers of the envelopes that so many takes give.
+fn taken<R: Wait>(
+    rt: &R,
+    alloc: Global,
+    inbox: &mut Inbox,
+    takes: u64,
+) -> Result<String, AllocError> {
+    let mut taken = String::new(alloc);
+    for _take in 0..takes {
+        let answer = match inbox.take(rt) {
+            Some(envelope) => format!(in alloc; " {}", count_of(&envelope))?,
+            None => format!(in alloc; " None")?,
+        };
+        taken.push_str(answer.as_str())?;
+    }
+    Ok(taken)
 }
 
 /// What four threads that offer and one that takes come to.

@@ -2,6 +2,7 @@
 //! schedule.
 #![tactic(auto)]
 
+mod boots;
 mod inboxes;
 mod looks;
 mod role;
@@ -24,6 +25,16 @@ fn main(rt: HostRuntime) -> io::Result<()> {
     show(&rt, "in turn", sections::in_turn(rt, alloc))?;
     show(&rt, "looks between two writes", looks::between(alloc))?;
     show(&rt, "an inbox of one", inboxes::of_one(&rt, alloc))?;
+    show(
+        &rt,
+        "an inbox of two",
+        inboxes::of_capacity(&rt, alloc, 2, 1, 3),
+    )?;
+    show(
+        &rt,
+        "an inbox of four",
+        inboxes::of_capacity(&rt, alloc, 4, 2, 6),
+    )?;
     show(&rt, "inboxes of 1024", inboxes::of_four(&rt, alloc))
 }
 

@@ -46,6 +46,14 @@ pub fn envelope(count: u64) -> Envelope {
     })
 }
 
+/// The count of such an envelope.
+pub fn count_of(envelope: &Envelope) -> u64 {
+    match envelope {
+        Envelope::Asks(request) => request.number.count,
+        Envelope::Replies(reply) => reply.number.count,
+    }
+}
+
 /// Offers all envelopes, and answers how many were lost to a full queue.
 fn offer<R: Wait>(rt: &R, post: &mut Post) -> u64 {
     let mut lost = 0u64;

@@ -2,6 +2,7 @@ ghost use Rattle.std.specs.Prelude.{◌≡◌, ◌≤◌};
 ghost use Rattle.rt_model.specs.Setup.{IsSetup};
 ghost use Rattle.rt_store.specs.Contents.{starting_of};
 
+use crate::boots::booted;
 use crate::rows::{ends, once, versions};
 use crate::sharer::Sharer;
 use rt_ground::{Blanks, Caller, Ground, Naming};
@@ -19,6 +20,7 @@ pub fn alone<R: Wait + Copy, J: Naming>(
 ) -> Result<Vec<String>, AllocError>
     requires names { (blanks ≡ J.names) × (starting_of setup.now ≡ J.starting) }
     requires setup { IsSetup setup.now }
+    requires callers { J.callers ≡ 1 }
 {
     let mut callers = callers::<R, J>(rt, alloc, blanks, setup, 1)?;
     match callers.as_mut_slice().first_mut() {
@@ -36,6 +38,7 @@ pub fn apart<R: Threads + Wait + Copy + Send + Sync, J: Naming + Send + Sync>(
 ) -> Result<Vec<String>, AllocError>
     requires names { (blanks ≡ J.names) × (starting_of setup.now ≡ J.starting) }
     requires setup { IsSetup setup.now }
+    requires callers { J.callers ≡ 3 }
 {
     let callers = callers::<R, J>(rt, alloc, blanks, setup, 3)?;
     let mut sharers = sharers(alloc, callers)?;
@@ -53,6 +56,7 @@ fn callers<R: Wait + Copy, J: Naming>(
 ) -> Result<Vec<Caller<R, J>>, AllocError>
     requires names { (blanks ≡ J.names) × (starting_of setup.now ≡ J.starting) }
     requires setup { IsSetup setup.now }
+    requires callers { count ≡ J.callers }
     requires some { 1 ≤ count }
 {
     let (_ground, callers) = Ground::<R, J>::found(rt, alloc, blanks, setup, count)?;
@@ -67,7 +71,8 @@ fn all_rows<R: Wait + Copy, J: Naming>(
     let store = versions(alloc, &mut caller.store)?;
     let deep = once(alloc, &mut caller.deep)?;
     let stream = ends(alloc, &mut caller.stream)?;
-    Ok(vec![in alloc; store, deep, stream]?)
+    let boot = booted(alloc, &mut caller.store)?;
+    Ok(vec![in alloc; store, deep, stream, boot]?)
 }
 
 /// Those who go through the rows.

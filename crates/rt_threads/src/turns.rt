@@ -20,6 +20,7 @@ pub fn in_turn<R: Threads + Wait + Copy + Send + Sync, J: Naming + Send + Sync>(
 ) -> Result<String, AllocError>
     requires names { (blanks ≡ J.names) × (starting_of setup.now ≡ J.starting) }
     requires setup { IsSetup setup.now }
+    requires callers { J.callers ≡ 3 }
 {
     let (ground, callers) = Ground::<R, J>::found(rt, alloc, blanks, setup, 3)?;
     let mut takers = takers(alloc, callers)?;

@@ -1,6 +1,5 @@
-use Rattle.rt_ground.proofs.Streams.{append_closed}
+use Rattle.rt_ground.proofs.Streams.{copy_appended}
 use Rattle.rt_ground.proofs.stream_value.StreamValue.append.Goals as goal
 
 pub returns-clause-stream : goal.returns-clause-stream
-returns-clause-stream g c =
-    (append_closed g.J.Naming.starting.partitions c.args.self.now _ _ _ _ _ c.args.partition c.args.message.now c.in_ok-copied_from.field-0 _ _ _ _ c.self.view_is c.self.invariant.1 c.reserve.ensures.same.1 c.in_ok-copied_from.ensures c.append-answer.ensures c.settle.ensures.settled c.settle.ensures.same).says
+returns-clause-stream g c = copy_appended g.J.Naming.starting.partitions _ _ _ _ _ _ _ _ c.in_ok-copied_from.ensures c.add.ensures.stream
