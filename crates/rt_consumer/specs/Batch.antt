@@ -113,6 +113,7 @@ consumed r max now log =
 pub record Looks (old new : FeedMeaning) : Type 0 where
   pub sees : Sees old.told new
   pub grows : Grows old.seen new.seen
+  pub own : new.own ≡ old.own
 
 -- consuming takes from the log as its caller has seen it after the call; a refused call changes nothing
 abbrev pub Consumes : FeedMeaning → FeedMeaning → Consumer → Consumer → ℕ → Moment → Result (Unit {0}) ReplicaRefused → Type 0

@@ -1,4 +1,5 @@
 pub mod Consumer
+pub mod Next
 pub mod Replies
 pub mod Batch
 pub mod Requests

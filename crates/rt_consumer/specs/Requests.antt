@@ -1,6 +1,5 @@
 -- The calls of a replica beside consuming and taking answers.
-use Rattle.std.specs.Prelude.{◌≡◌, ◌+◌, ◌&&◌, ◌||◌, ℕ, List, ◌++◌, Bool, true, false, codes, length, nat_lt, if◌then◌else◌, Option, Some, None, IsSome, Result, Ok, Err}
-use Rattle.std.specs.Fmt.{decimal}
+use Rattle.std.specs.Prelude.{◌≡◌, ◌+◌, ◌&&◌, ◌||◌, ℕ, List, Bool, true, false, length, nat_lt, if◌then◌else◌, Option, Some, None, IsSome, Result, Ok, Err}
 use Rattle.rt_base.specs.declared.numbers.Moment.{Moment}
 use Rattle.rt_base.specs.declared.numbers.Offset.{Offset}
 use Rattle.rt_mutable.specs.Consuming.{Consuming}
@@ -12,7 +11,7 @@ use Rattle.rt_model.specs.declared.request.RequestKind.{RequestKind}
 use Rattle.rt_model.specs.declared.request.RequestKind.TheVariants as kind
 use Rattle.rt_model.specs.declared.request.RequestNumber.{RequestNumber}
 use Rattle.rt_model.specs.declared.seg_meta.SeenMeta.{SeenMeta}
-use Rattle.rt_msgs.specs.Numbered.{Numbered, number_at}
+use Rattle.rt_msgs.specs.Numbered.{Numbered, number_at, upload_path}
 use Rattle.rt_consumer.specs.declared.phase.Phase.{Phase}
 use Rattle.rt_consumer.specs.declared.phase.Phase.TheVariants as phase
 use Rattle.rt_consumer.specs.declared.refused.ReplicaRefused.{ReplicaRefused}
@@ -123,15 +122,10 @@ Builds old new (Err Memory) = (builds_in old.phase ≡ true) × (new ≡ old)
 
 -- ---- requests
 
--- the path of an upload: the segment's name, and the number of the request
-abbrev pub path_of : List ℕ → RequestNumber → List ℕ
-path_of name number =
-    name ++ codes "." ++ decimal number.instance.0 ++ codes "." ++ decimal number.incarnation ++ codes "." ++ decimal number.count
-
 abbrev pub kind_at : List ℕ → RequestNumber → Stage → Option RequestKind
 kind_at name number (Holding reason) = Some (kind.Consumed reason)
 kind_at name number (Starting reason built) = Some kind.CommitStart
-kind_at name number (Uploading reason built) = Some (kind.Upload (path_of name number) (file_of built))
+kind_at name number (Uploading reason built) = Some (kind.Upload (upload_path name number) (file_of built))
 kind_at name number (Ending reason built path) = Some (kind.CommitEnd path)
 kind_at name number InitialConsuming = None
 kind_at name number (CatchingUp target reason) = None

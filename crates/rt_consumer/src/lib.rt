@@ -7,6 +7,7 @@
 mod built_file;
 mod consumer;
 mod consuming;
+mod next;
 mod phase;
 mod refused;
 mod replies;
@@ -19,6 +20,7 @@ mod waited;
 
 pub use built_file::BuiltFile;
 pub use consumer::Consumer;
+pub use next::{ReplicaDue, takes_messages};
 pub use phase::{CommittedFile, Discarded, Phase};
 pub use refused::ReplicaRefused;
 pub use settings::Settings;

@@ -1,7 +1,8 @@
 //! What a replica asks of a controller, and which of its calls are due.
 ghost use Rattle.std.specs.Prelude.{◌≡◌, ◌<◌, ◌^◌, IfOk, IfErr, IsSome};
+ghost use Rattle.rt_msgs.specs.Numbered.{upload_path};
 ghost use Rattle.rt_consumer.specs.Consumer.{extends_in};
-ghost use Rattle.rt_consumer.specs.Requests.{Requests, Extends, request_with, is_due, forced, builds_in, asks_now, size_in, path_of, kind_in, kind_at};
+ghost use Rattle.rt_consumer.specs.Requests.{Requests, Extends, request_with, is_due, forced, builds_in, asks_now, size_in, kind_in, kind_at};
 
 use crate::{Consumer, Phase, ReplicaRefused, Stage, Waited};
 use rt_lists::Text;
@@ -167,7 +168,7 @@ impl Stage {
 
 /// The path of an upload: the segment's name, and the number of the request.
 fn path_of(alloc: Global, name: &Text, number: RequestNumber) -> Result<Text, AllocError>
-    ensures { IfOk result (λ path. path ≡ path_of name.now number) }
+    ensures { IfOk result (λ path. path ≡ upload_path name.now number) }
 {
     let name = name.as_str();
     let instance = number.instance.0;

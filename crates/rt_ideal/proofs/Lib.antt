@@ -1,3 +1,5 @@
 pub mod Added
 pub mod Members
+pub mod Setting
+pub mod Shown
 pub mod Unnamed

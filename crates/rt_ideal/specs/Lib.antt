@@ -1,2 +1,4 @@
 pub mod Others
+pub mod Setting
+pub mod Shown
 pub mod Text

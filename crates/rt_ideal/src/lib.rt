@@ -10,7 +10,10 @@ mod places;
 mod steps;
 mod written;
 
-pub use laws::{steps_change_named_entries_alone, steps_keep_the_order};
+pub use laws::{
+    a_text_has_each_entry_once, steps_change_named_entries_alone, steps_keep_the_order,
+    steps_set_what_they_name,
+};
 pub use lookup::{has_entry, mode};
 pub use places::add_segment;
 pub use steps::{add_consuming, comes_next, commit_step, remove_segment, set_offline};

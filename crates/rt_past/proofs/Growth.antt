@@ -1,4 +1,4 @@
--- What is right of a past is right of a later one.
+-- What is right of a past is right of one that has all of it, as a later one has.
 use Rattle.std.proofs.Common.{◌≡◌, ℕ, ◌≤◌, List, ◌++◌, length, sym, ap, ◌∙◌, arith}
 use Rattle.std.proofs.lemmas.List.{length-append}
 use Rattle.rt_base.specs.declared.numbers.Instance.{Instance}
@@ -22,8 +22,10 @@ use Rattle.rt_model.specs.declared.reply.ReplyStatus.TheVariants as status
 use Rattle.rt_model.specs.declared.request.Request.{Request}
 use Rattle.rt_model.specs.declared.request.RequestKind.{RequestKind}
 use Rattle.rt_model.specs.declared.request.RequestKind.TheVariants as kind
+use Rattle.rt_model.specs.declared.request.RequestNumber.{RequestNumber}
 use Rattle.rt_model.specs.declared.seg_meta.SegMeta.{SegMeta}
 use Rattle.rt_model.specs.declared.seg_meta.SeenMeta.{SeenMeta}
+use Rattle.rt_model.specs.declared.sent.Sent.TheVariants as sent
 use Rattle.rt_model.specs.declared.setup.Setup.{Setup}
 use Rattle.rt_model.specs.declared.status.Status.{Status}
 use Rattle.rt_model.specs.declared.status.Status.TheVariants.{InProgress, Done, Abandoned}
@@ -36,10 +38,11 @@ use Rattle.rt_stream.proofs.Growth.{log_same, log_then}
 use Rattle.rt_deep.specs.declared.deep_put.DeepPut.{DeepPut}
 use Rattle.rt_deep.proofs.Files.{file_of-stays}
 use Rattle.rt_past.specs.Past.{Past, Grows}
-use Rattle.rt_past.specs.Segments.{OpensAt, IsBegun, HadEntry, WasMeta, WasOpen, WasDone, IsIncarnation}
+use Rattle.rt_past.specs.Segments.{OpensAt, OpensAs, IsBegun, IsBegunAs, HadEntry, WasMeta, WasOpen, WasDone, IsIncarnation}
 use Rattle.rt_past.specs.Files.{IsRightFile, Stands, IsStored}
-use Rattle.rt_past.specs.Requests.{IsKind, IsRequest}
+use Rattle.rt_past.specs.Requests.{IsUploadPath, IsKind, IsRequest}
 use Rattle.rt_past.specs.Replies.{IsStatus, IsReply}
+use Rattle.rt_past.specs.View.{Within, IsNamed}
 use Rattle.rt_past.specs.Writes.{IsRightStatus, IsRightMeta, IsRightNode, IsRightWrite}
 
 -- ---- growth itself
@@ -55,6 +58,21 @@ grows_then a b c f g =
       history = front_then a.history b.history c.history f.history g.history;
       files = front_then a.files b.files c.files f.files g.files;
       sent = front_then a.sent b.sent c.sent f.sent g.sent;
+    }
+
+-- ---- a past within another
+
+pub within_grows : (a b : Past) → Grows a b → Within a b
+within_grows a b g =
+    record { log = g.log; history = g.history; files = g.files; sent = λ m has. Has-front a.sent b.sent m g.sent has }
+
+pub within_then : (a b c : Past) → Within a b → Within b c → Within a c
+within_then a b c f g =
+    record {
+      log = log_then a.log b.log c.log f.log g.log;
+      history = front_then a.history b.history c.history f.history g.history;
+      files = front_then a.files b.files c.files f.files g.files;
+      sent = λ m has. g.sent m (f.sent m has);
     }
 
 -- ---- the log
@@ -79,6 +97,9 @@ node_grows h k p s P g (w, has, of, shows) = (w, Has-front h k w g has, of, show
 pub begun_grows : (h k : List Seen) (p : Partition) (s : Sequence) (start : Offset) → IsFront h k → IsBegun h p s start → IsBegun k p s start
 begun_grows h k p s start g b = node_grows h k p s.0 (OpensAt start) g b
 
+pub begun_as_grows : (h k : List Seen) (p : Partition) (s : Sequence) (name : List ℕ) → IsFront h k → IsBegunAs h p s name → IsBegunAs k p s name
+begun_as_grows h k p s name g b = node_grows h k p s.0 (OpensAs name) g b
+
 pub entry_grows : (h k : List Seen) (p : Partition) (s : Sequence) → IsFront h k → HadEntry h p s → HadEntry k p s
 entry_grows h k p s g (w, is, has) = (w, record { has = Has-front h k w g is.has; is_ideal = is.is_ideal }, has)
 
@@ -100,9 +121,9 @@ incarnation_grows h k i n g lt =
 
 -- ---- files
 
-pub right_file_grows : (setup : Setup) (a b : Past) (p : Partition) (s : Sequence) (start end : Offset) (bytes : List ℕ)
-    → Grows a b → IsRightFile setup a p s start end bytes → IsRightFile setup b p s start end bytes
-right_file_grows setup a b p s start end bytes g r =
+pub right_file_within : (setup : Setup) (a b : Past) (p : Partition) (s : Sequence) (start end : Offset) (bytes : List ℕ)
+    → Within a b → IsRightFile setup a p s start end bytes → IsRightFile setup b p s start end bytes
+right_file_within setup a b p s start end bytes g r =
     let f = r.file in
     record {
       file = record {
@@ -115,37 +136,51 @@ right_file_grows setup a b p s start end bytes g r =
         rows = f.rows ∙ sym (rows_grow setup.schema a.log b.log p start.0 end.0 g.log (omega (arith, f.within.0)) f.within.1);
       };
       begun = begun_grows a.history b.history p s start g.history r.begun;
+      format = r.format;
+      indexed = r.indexed;
     }
 
 pub stands_grows : (a b : List DeepPut) (path bytes : List ℕ) → IsFront a b → Stands a path bytes → Stands b path bytes
 stands_grows a b path bytes g e = file_of-stays a b path (record { path = path; bytes = bytes }) g e
 
-pub stored_grows : (setup : Setup) (a b : Past) (p : Partition) (s : Sequence) (start : Offset) (commit : Commit)
-    → Grows a b → IsStored setup a p s start commit → IsStored setup b p s start commit
-unfolding right_file_grows
-stored_grows setup a b p s start commit g k =
+pub stored_within : (setup : Setup) (a b : Past) (p : Partition) (s : Sequence) (start : Offset) (commit : Commit)
+    → Within a b → IsStored setup a p s start commit → IsStored setup b p s start commit
+unfolding right_file_within
+stored_within setup a b p s start commit g k =
     record {
       bytes = k.bytes;
       stands = stands_grows a.files b.files commit.path k.bytes g.files k.stands;
-      right = right_file_grows setup a b p s start commit.end k.bytes g k.right;
+      right = right_file_within setup a b p s start commit.end k.bytes g k.right;
       header = k.header;
     }
 
+pub named_grows : (a b : List DeepPut) (p : Partition) (s : Sequence) (start : Offset) (commit : Commit) → IsFront a b
+    → IsNamed a p s start commit → IsNamed b p s start commit
+named_grows a b p s start commit g n =
+    record { bytes = n.bytes; stands = stands_grows a b commit.path n.bytes g n.stands; header = n.header }
+
 -- ---- messages
 
-kind_grows : (setup : Setup) (a b : Past) (q : Request) (start : Offset) (k : RequestKind)
-    → Grows a b → IsKind setup a q start k → IsKind setup b q start k
-kind_grows setup a b q start kind.Stopped g k = k
-kind_grows setup a b q start (kind.Consumed reason) g k = k
-kind_grows setup a b q start kind.CommitStart g k = k
-kind_grows setup a b q start (kind.Extend millis) g k = k
-kind_grows setup a b q start (kind.Upload path bytes) g k =
-    (k.0, right_file_grows setup a b q.partition q.sequence start q.offset bytes g k.1)
-kind_grows setup a b q start (kind.CommitEnd path) g (bytes, stands, right) =
-    (bytes, stands_grows a.files b.files path bytes g.files stands, right_file_grows setup a b q.partition q.sequence start q.offset bytes g right)
+pub upload_path_grows : (h k : List Seen) (p : Partition) (s : Sequence) (number : RequestNumber) (path : List ℕ) → IsFront h k
+    → IsUploadPath h p s number path → IsUploadPath k p s number path
+upload_path_grows h k p s number path g u =
+    record { name = u.name; begun = begun_as_grows h k p s u.name g u.begun; spelled = u.spelled }
 
-pub request_grows : (setup : Setup) (a b : Past) (q : Request) → Grows a b → IsRequest setup a q → IsRequest setup b q
-request_grows setup a b q g r =
+kind_within : (setup : Setup) (a b : Past) (q : Request) (start : Offset) (k : RequestKind)
+    → Within a b → IsKind setup a q start k → IsKind setup b q start k
+kind_within setup a b q start kind.Stopped g k = k
+kind_within setup a b q start (kind.Consumed reason) g k = k
+kind_within setup a b q start kind.CommitStart g k = k
+kind_within setup a b q start (kind.Extend millis) g k = k
+kind_within setup a b q start (kind.Upload path bytes) g k = (
+  upload_path_grows a.history b.history q.partition q.sequence q.number path g.history k.0,
+  right_file_within setup a b q.partition q.sequence start q.offset bytes g k.1,
+)
+kind_within setup a b q start (kind.CommitEnd path) g (bytes, stands, right) =
+    (bytes, stands_grows a.files b.files path bytes g.files stands, right_file_within setup a b q.partition q.sequence start q.offset bytes g right)
+
+pub request_within : (setup : Setup) (a b : Past) (q : Request) → Within a b → IsRequest setup a q → IsRequest setup b q
+request_within setup a b q g r =
     record {
       partition = r.partition;
       assigned = r.assigned;
@@ -155,51 +190,70 @@ request_grows setup a b q g r =
       start = r.start;
       begun = begun_grows a.history b.history q.partition q.sequence r.start g.history r.begun;
       within = omega (arith, r.within, length_grows a.log b.log q.partition g.log);
-      kind = kind_grows setup a b q r.start q.kind g r.kind;
+      kind = kind_within setup a b q r.start q.kind g r.kind;
     }
 
-status_grows : (a b : Past) (q : Request) (s : ReplyStatus) → Grows a b → IsStatus a q s → IsStatus b q s
-status_grows a b q (status.Keep seen) g k = done_grows a.history b.history q.partition q.sequence seen g.history k
-status_grows a b q (status.CommitSuccess seen) g k = done_grows a.history b.history q.partition q.sequence seen g.history k
-status_grows a b q (status.UploadSuccess path) g (bytes, of, stands) =
+status_within : (a b : Past) (q : Request) (s : ReplyStatus) → Within a b → IsStatus a q s → IsStatus b q s
+status_within a b q (status.Keep seen) g k = done_grows a.history b.history q.partition q.sequence seen g.history k
+status_within a b q (status.CommitSuccess seen) g k = done_grows a.history b.history q.partition q.sequence seen g.history k
+status_within a b q (status.UploadSuccess path) g (bytes, of, stands) =
     (bytes, of, stands_grows a.files b.files path bytes g.files stands)
-status_grows a b q status.Hold g k = tt
-status_grows a b q (status.CatchUp offset) g k = tt
-status_grows a b q status.Discard g k = tt
-status_grows a b q (status.Commit offset) g k = tt
-status_grows a b q status.NotLeader g k = tt
-status_grows a b q status.CommitContinue g k = tt
-status_grows a b q status.Processed g k = tt
-status_grows a b q (status.Failed cause) g k = tt
+status_within a b q status.Hold g k = tt
+status_within a b q (status.CatchUp offset) g k = tt
+status_within a b q status.Discard g k = tt
+status_within a b q (status.Commit offset) g k = tt
+status_within a b q status.NotLeader g k = tt
+status_within a b q status.CommitContinue g k = tt
+status_within a b q status.Processed g k = tt
+status_within a b q (status.Failed cause) g k = tt
 
-pub reply_grows : (a b : Past) (r : Reply) → Grows a b → IsReply a r → IsReply b r
-reply_grows a b r g k =
+pub reply_within : (a b : Past) (r : Reply) → Within a b → IsReply a r → IsReply b r
+reply_within a b r g k =
     record {
       request = k.request;
-      was_sent = Has-front a.sent b.sent _ g.sent k.was_sent;
+      was_sent = g.sent (sent.Request k.request) k.was_sent;
       answers = k.answers;
-      status = status_grows a b k.request r.status g k.status;
+      status = status_within a b k.request r.status g k.status;
     }
 
 -- ---- writes
 
-right_status_grows : (setup : Setup) (a b : Past) (p : Partition) (s : Sequence) (m : SegMeta) (t : Status)
-    → Grows a b → IsRightStatus setup a p s m t → IsRightStatus setup b p s m t
-right_status_grows setup a b p s m InProgress g k = tt
-right_status_grows setup a b p s m (Done commit) g k =
-    (entry_grows a.history b.history p s g.history k.0, stored_grows setup a b p s m.start commit g k.1)
-right_status_grows setup a b p s m Abandoned g k = entry_grows a.history b.history p s g.history k
+right_status_within : (setup : Setup) (a b : Past) (p : Partition) (s : Sequence) (m : SegMeta) (t : Status)
+    → Within a b → IsRightStatus setup a p s m t → IsRightStatus setup b p s m t
+right_status_within setup a b p s m InProgress g k = k
+right_status_within setup a b p s m (Done commit) g k =
+    (entry_grows a.history b.history p s g.history k.0, stored_within setup a b p s m.start commit g k.1)
+right_status_within setup a b p s m Abandoned g k = entry_grows a.history b.history p s g.history k
 
-right_meta_grows : (setup : Setup) (a b : Past) (k : Key) (m : SegMeta) → Grows a b → IsRightMeta setup a k m → IsRightMeta setup b k m
-right_meta_grows setup a b (key.Meta p s) m g r = right_status_grows setup a b p s m m.status g r
-right_meta_grows setup a b key.Ideal m g r = tt
-right_meta_grows setup a b (key.Boot i) m g r = tt
+right_meta_within : (setup : Setup) (a b : Past) (k : Key) (m : SegMeta) → Within a b → IsRightMeta setup a k m → IsRightMeta setup b k m
+right_meta_within setup a b (key.Meta p s) m g r = right_status_within setup a b p s m m.status g r
+right_meta_within setup a b key.Ideal m g r = tt
+right_meta_within setup a b (key.Boot i) m g r = tt
 
-right_node_grows : (setup : Setup) (a b : Past) (k : Key) (n : Node) → Grows a b → IsRightNode setup a k n → IsRightNode setup b k n
-right_node_grows setup a b k (node.Meta m) g r = right_meta_grows setup a b k m g r
-right_node_grows setup a b k (node.Ideal i) g r = r
-right_node_grows setup a b k node.Boot g r = tt
-right_node_grows setup a b k node.Gone g r = tt
+right_node_within : (setup : Setup) (a b : Past) (k : Key) (n : Node) → Within a b → IsRightNode setup a k n → IsRightNode setup b k n
+right_node_within setup a b k (node.Meta m) g r = right_meta_within setup a b k m g r
+right_node_within setup a b k (node.Ideal i) g r = r
+right_node_within setup a b k node.Boot g r = tt
+right_node_within setup a b k node.Gone g r = tt
+
+pub right_write_within : (setup : Setup) (a b : Past) (w : Seen) → Within a b → IsRightWrite setup a w → IsRightWrite setup b w
+right_write_within setup a b w g r = right_node_within setup a b w.key w.node g r
+
+-- ---- as the past grows
+
+pub right_file_grows : (setup : Setup) (a b : Past) (p : Partition) (s : Sequence) (start end : Offset) (bytes : List ℕ)
+    → Grows a b → IsRightFile setup a p s start end bytes → IsRightFile setup b p s start end bytes
+right_file_grows setup a b p s start end bytes g = right_file_within setup a b p s start end bytes (within_grows a b g)
+
+pub stored_grows : (setup : Setup) (a b : Past) (p : Partition) (s : Sequence) (start : Offset) (commit : Commit)
+    → Grows a b → IsStored setup a p s start commit → IsStored setup b p s start commit
+stored_grows setup a b p s start commit g = stored_within setup a b p s start commit (within_grows a b g)
+
+pub request_grows : (setup : Setup) (a b : Past) (q : Request) → Grows a b → IsRequest setup a q → IsRequest setup b q
+request_grows setup a b q g = request_within setup a b q (within_grows a b g)
+
+pub reply_grows : (a b : Past) (r : Reply) → Grows a b → IsReply a r → IsReply b r
+reply_grows a b r g = reply_within a b r (within_grows a b g)
 
 pub right_write_grows : (setup : Setup) (a b : Past) (w : Seen) → Grows a b → IsRightWrite setup a w → IsRightWrite setup b w
-right_write_grows setup a b w g r = right_node_grows setup a b w.key w.node g r
+right_write_grows setup a b w g = right_write_within setup a b w (within_grows a b g)

@@ -1,9 +1,11 @@
 pub mod Entries
 pub mod Growth
 pub mod Lowest
+pub mod Named
 pub mod Numbers
 pub mod Paths
 pub mod Reaching
+pub mod Sound
 pub mod Starts
 pub mod Uploads
 pub mod Ways

@@ -8,7 +8,7 @@ use Rattle.std.proofs.lemmas.Fmt.{decimal_is_IsNumeral, decimal_injective}
 use Rattle.rt_base.specs.declared.numbers.Instance.{Instance}
 use Rattle.rt_model.specs.declared.request.RequestNumber.{RequestNumber}
 use Rattle.rt_model.proofs.Histories.{same_instance}
-use Rattle.rt_past.specs.Requests.{upload_path}
+use Rattle.rt_msgs.specs.Numbered.{upload_path}
 
 -- ---- the last dot of a text
 

@@ -1,5 +1,5 @@
 -- The past of a fresh cluster.
-use Rattle.std.proofs.Common.{◌≡◌, ◌<◌, ℕ, zero, suc, ◌⊎◌, inl, inr, [], ◌++◌, subst, arith}
+use Rattle.std.proofs.Common.{◌≡◌, ◌<◌, ℕ, zero, suc, ◌⊎◌, inl, inr, [], ◌++◌, refl, subst, arith}
 use Rattle.std.proofs.lemmas.List.{length-replicate}
 use Rattle.rt_base.specs.declared.numbers.Partition.{Partition}
 use Rattle.rt_lists.specs.Members.{Has}
@@ -43,7 +43,7 @@ metas_right setup a (suc n) w has =
     at_case : Has (starting_metas (starting_of setup) n) w ⊎ (starting_meta (starting_of setup) n ≡ w)
         → (Has (starting_metas (starting_of setup) n) w → IsRightWrite setup a w) → IsRightWrite setup a w
     at_case (inl h) further = further h
-    at_case (inr e) further = subst (λ x. IsRightWrite setup a x) e tt
+    at_case (inr e) further = subst (λ x. IsRightWrite setup a x) e refl
 
 start_right : (setup : Setup) (a : Past) (w : Seen) → Has (starting_boots setup.servers ++ starting_metas (starting_of setup) setup.partitions) w ⊎ (starting_ideal (starting_of setup) ≡ w)
     → IsRightWrite setup a w

@@ -42,7 +42,7 @@ words setup a q s small r =
       count = r.count;
     }
 
-kind_is : (setup : Setup) (a : Past) (q : Request) (start : Offset) (k : RequestKind) → q.kind ≡ k → IsKind setup a q start q.kind → IsKind setup a q start k
+pub kind_is : (setup : Setup) (a : Past) (q : Request) (start : Offset) (k : RequestKind) → q.kind ≡ k → IsKind setup a q start q.kind → IsKind setup a q start k
 kind_is setup a q start k e is = subst (IsKind setup a q start) e is
 
 pub one_upload : (setup : Setup) (a : Past) (q r : Request) (path bytes other : List ℕ) → IsSetup setup → length a.history < 2 ^ 64 → IsPast setup a
@@ -53,7 +53,7 @@ one_upload setup a q r path bytes other s small k hq hr eq er =
     let x = kind_is setup a q first.start (kind.Upload path bytes) eq first.kind in
     let y = kind_is setup a r second.start (kind.Upload path other) er second.kind in
     k.unique q r hq hr
-    (one_path x.0.0 y.0.0 q.number r.number (words setup a q s small first) (words setup a r s small second) (sym x.0.1 ∙ y.0.1))
+    (one_path x.0.name y.0.name q.number r.number (words setup a q s small first) (words setup a r s small second) (sym x.0.spelled ∙ y.0.spelled))
 
 same_bytes : (k : RequestKind) (path bytes other : List ℕ) → k ≡ kind.Upload path bytes → k ≡ kind.Upload path other → bytes ≡ other
 same_bytes k path bytes other e f = cc

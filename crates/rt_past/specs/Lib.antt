@@ -6,3 +6,4 @@ pub mod Replies
 pub mod Writes
 pub mod IsPast
 pub mod Reaching
+pub mod View

@@ -1,25 +1,38 @@
 -- Which requests are right, and how they are numbered.
-use Rattle.std.specs.Prelude.{◌≡◌, ◌<◌, ◌≤◌, ◌^◌, ℕ, List, ◌++◌, codes, length}
-use Rattle.std.specs.Fmt.{decimal}
+use Rattle.std.specs.Prelude.{◌≡◌, ◌<◌, ◌≤◌, ◌^◌, ℕ, List, length}
 use Rattle.rt_base.specs.declared.numbers.Offset.{Offset}
+use Rattle.rt_base.specs.declared.numbers.Partition.{Partition}
+use Rattle.rt_base.specs.declared.numbers.Sequence.{Sequence}
 use Rattle.rt_lists.specs.Members.{Has}
+use Rattle.rt_model.specs.declared.node.Node.TheVariants as node
+use Rattle.rt_model.specs.declared.node.Seen.{Seen}
 use Rattle.rt_model.specs.declared.request.Request.{Request}
 use Rattle.rt_model.specs.declared.request.RequestKind.{RequestKind}
 use Rattle.rt_model.specs.declared.request.RequestKind.TheVariants as kind
 use Rattle.rt_model.specs.declared.request.RequestNumber.{RequestNumber}
+use Rattle.rt_model.specs.declared.seg_meta.SegMeta.{SegMeta}
 use Rattle.rt_model.specs.declared.sent.Sent.{Sent}
 use Rattle.rt_model.specs.declared.sent.Sent.TheVariants as sent
 use Rattle.rt_model.specs.declared.setup.Setup.{Setup}
-use Rattle.rt_msgs.specs.Numbered.{Numbered}
+use Rattle.rt_model.specs.Metadata.{HasNode, IsInProgress}
+use Rattle.rt_msgs.specs.Numbered.{Numbered, upload_path}
 use Rattle.rt_stream.specs.Log.{messages_of}
 use Rattle.rt_past.specs.Past.{Past}
-use Rattle.rt_past.specs.Segments.{HadEntry, IsAssignedTo, IsBegun, IsIncarnation}
+use Rattle.rt_past.specs.Segments.{HadEntry, IsAssignedTo, IsBegun, IsBegunAs, IsIncarnation, name_at}
 use Rattle.rt_past.specs.Files.{IsRightFile, Stands}
 
--- the path of an upload: the segment's name, and the number of the request
-abbrev pub upload_path : List ℕ → RequestNumber → List ℕ
-upload_path name number =
-    name ++ codes "." ++ decimal number.instance.0 ++ codes "." ++ decimal number.incarnation ++ codes "." ++ decimal number.count
+-- the path of a request's own upload: the name under which the segment's node was created, and the request's number
+pub record IsUploadPath (h : List Seen) (p : Partition) (s : Sequence) (number : RequestNumber) (path : List ℕ) : Type 0 where
+  pub name : List ℕ
+  pub begun : IsBegunAs h p s name
+  pub spelled : path ≡ upload_path name number
+
+-- the name in it is that of the moment at which the node was created
+pub record IsNamedByCreation (setup : Setup) (h : List Seen) (p : Partition) (s : Sequence) (number : RequestNumber) (path : List ℕ) : Type 0 where
+  pub meta : SegMeta
+  pub created : HasNode h p s.0 (λ n. n ≡ node.Meta meta)
+  pub begins : IsInProgress meta.status
+  pub spelled : path ≡ upload_path (name_at setup p s meta.written) number
 
 -- by its kind, how far the sender has come from the segment's start, and which file the request is about
 abbrev pub IsKind : Setup → Past → Request → Offset → RequestKind → Type 0
@@ -28,7 +41,7 @@ IsKind setup past q start (kind.Consumed reason) = start.0 < q.offset.0
 IsKind setup past q start kind.CommitStart = start.0 < q.offset.0
 IsKind setup past q start (kind.Extend millis) = start.0 < q.offset.0
 IsKind setup past q start (kind.Upload path bytes) =
-    ((name : List ℕ) × (path ≡ upload_path name q.number))
+    IsUploadPath past.history q.partition q.sequence q.number path
     × IsRightFile setup past q.partition q.sequence start q.offset bytes
 IsKind setup past q start (kind.CommitEnd path) =
     (bytes : List ℕ) × Stands past.files path bytes × IsRightFile setup past q.partition q.sequence start q.offset bytes

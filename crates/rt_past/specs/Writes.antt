@@ -1,5 +1,5 @@
 -- Which writes of the store are right, beside being lawful.
-use Rattle.std.specs.Prelude.{◌<◌, List}
+use Rattle.std.specs.Prelude.{◌≡◌, ◌<◌, List}
 use Rattle.rt_base.specs.declared.numbers.Partition.{Partition}
 use Rattle.rt_base.specs.declared.numbers.Sequence.{Sequence}
 use Rattle.rt_lists.specs.Members.{Has}
@@ -14,12 +14,13 @@ use Rattle.rt_model.specs.declared.setup.Setup.{Setup}
 use Rattle.rt_model.specs.declared.status.Status.{Status}
 use Rattle.rt_model.specs.declared.status.Status.TheVariants.{InProgress, Done, Abandoned}
 use Rattle.rt_past.specs.Past.{Past}
-use Rattle.rt_past.specs.Segments.{HadEntry, IsAssignedTo}
+use Rattle.rt_past.specs.Segments.{HadEntry, IsAssignedTo, name_at}
 use Rattle.rt_past.specs.Files.{IsStored}
 
--- a segment that ends had an entry, and the file of one that is committed stands
+-- a segment is created under the name of its table, its place and the minute; one that ends had an entry, and the file of
+-- one that is committed stands
 abbrev pub IsRightStatus : Setup → Past → Partition → Sequence → SegMeta → Status → Type 0
-IsRightStatus setup past p s m InProgress = Unit {0}
+IsRightStatus setup past p s m InProgress = m.name ≡ name_at setup p s m.written
 IsRightStatus setup past p s m (Done commit) = HadEntry past.history p s × IsStored setup past p s m.start commit
 IsRightStatus setup past p s m Abandoned = HadEntry past.history p s
 

@@ -1,9 +1,11 @@
 //! The laws of a growing past. Each stands on a function that does nothing: its clause is the law.
 ghost use Rattle.std.specs.Prelude.{◌≡◌, ◌+◌, ◌<◌, ◌^◌, ℕ, List, [], ◌∷◌, ◌++◌, length, Some};
 ghost use Rattle.rt_base.specs.declared.numbers.Instance.{Instance};
+ghost use Rattle.rt_base.specs.declared.numbers.Offset.{Offset};
 ghost use Rattle.rt_base.specs.declared.numbers.Partition.{Partition};
 ghost use Rattle.rt_base.specs.declared.numbers.Sequence.{Sequence};
 ghost use Rattle.rt_lists.specs.Members.{Has, IsFront};
+ghost use Rattle.rt_model.specs.declared.commit.Commit.{Commit};
 ghost use Rattle.rt_model.specs.declared.ideal_state.IdealEntry.{IdealEntry};
 ghost use Rattle.rt_model.specs.declared.node.Seen.{Seen};
 ghost use Rattle.rt_model.specs.declared.reply.Reply.{Reply};
@@ -28,7 +30,9 @@ ghost use Rattle.rt_deep.specs.Files.{AreOnce, file_of};
 ghost use Rattle.rt_store.specs.Answers.{Leaves};
 ghost use Rattle.rt_store.specs.Contents.{starting_of};
 ghost use Rattle.rt_past.specs.Past.{Past, Grows, with_files, with_history, with_log, with_reply, with_request};
-ghost use Rattle.rt_past.specs.Requests.{AreDrawn, IsFresh, IsRequest};
+ghost use Rattle.rt_past.specs.Files.{IsRightFile, IsStored};
+ghost use Rattle.rt_past.specs.Requests.{AreDrawn, IsFresh, IsNamedByCreation, IsRequest};
+ghost use Rattle.rt_past.specs.View.{IsNamed, IsSound, Within};
 ghost use Rattle.rt_past.specs.Replies.{IsReply};
 ghost use Rattle.rt_past.specs.Writes.{AreRightEntries, IsRightWrite};
 ghost use Rattle.rt_past.specs.IsPast.{IsPast, IsRightUpload, IsUploaded, fresh_past};
@@ -40,11 +44,48 @@ pub fn growth_goes_on()
     ensures again { (a b c : Past) → Grows a b → Grows b c → Grows a c }
 {}
 
-/// A right request, reply or write stays right as the past grows.
+/// A past that grew has all of the earlier one, and what lies within a view lies within whatever has
+/// all of that view.
+pub fn growth_keeps_all()
+    ensures grows { (a b : Past) → Grows a b → Within a b }
+    ensures again { (a b c : Past) → Within a b → Within b c → Within a c }
+{}
+
+/// A right request, reply, write or file is right of each past that has all of the one that it was
+/// right of; so it stays right as the past grows.
 pub fn what_is_right_stays_right()
-    ensures requests { (setup : Setup) (a b : Past) (q : Request) → Grows a b → IsRequest setup a q → IsRequest setup b q }
-    ensures replies { (a b : Past) (r : Reply) → Grows a b → IsReply a r → IsReply b r }
-    ensures writes { (setup : Setup) (a b : Past) (w : Seen) → Grows a b → IsRightWrite setup a w → IsRightWrite setup b w }
+    ensures requests { (setup : Setup) (a b : Past) (q : Request) → Within a b
+        → IsRequest setup a q → IsRequest setup b q }
+    ensures replies { (a b : Past) (r : Reply) → Within a b → IsReply a r → IsReply b r }
+    ensures writes { (setup : Setup) (a b : Past) (w : Seen) → Within a b
+        → IsRightWrite setup a w → IsRightWrite setup b w }
+    ensures files { (setup : Setup) (a b : Past) (p : Partition) (s : Sequence) (start end : Offset)
+        (bytes : List ℕ) → Within a b
+        → IsRightFile setup a p s start end bytes → IsRightFile setup b p s start end bytes }
+    ensures stored { (setup : Setup) (a b : Past) (p : Partition) (s : Sequence) (start : Offset)
+        (commit : Commit) → Within a b
+        → IsStored setup a p s start commit → IsStored setup b p s start commit }
+    ensures named { (a b : Past) (p : Partition) (s : Sequence) (start : Offset) (commit : Commit)
+        → Within a b → IsNamed a.files p s start commit → IsNamed b.files p s start commit }
+{}
+
+/// A right past is sound.
+pub fn a_right_past_is_sound()
+    ensures { (setup : Setup) (a : Past) → IsPast setup a → IsSound setup a }
+{}
+
+/// Where the file of a commit is stored, what stands at its path has the header that it names.
+pub fn a_stored_file_is_named()
+    ensures { (setup : Setup) (a : Past) (p : Partition) (s : Sequence) (start : Offset)
+        (commit : Commit) → IsStored setup a p s start commit → IsNamed a.files p s start commit }
+{}
+
+/// The path of an upload has its segment's name: its table, its place, and the minute at which it
+/// was created.
+pub fn an_upload_has_its_segments_name()
+    ensures { (setup : Setup) (a : Past) (q : Request) (path bytes : List ℕ) → IsPast setup a
+        → Has a.sent (sent.Request q) → q.kind ≡ kind.Upload path bytes
+        → IsNamedByCreation setup a.history q.partition q.sequence q.number path }
 {}
 
 /// A fresh cluster's past is right.

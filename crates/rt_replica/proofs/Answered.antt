@@ -1,11 +1,12 @@
 -- What lasts of a replica is kept by an answer.
-use Rattle.std.proofs.Common.{◌≡◌, ◌<◌, ◌==◌, ℕ, Bool, true, false, cond, nat_lt, Option, Some, None, refl, sym, ap, subst, ◌∙◌}
+use Rattle.std.proofs.Common.{◌≡◌, ◌<◌, ◌==◌, ℕ, Bool, true, false, cond, nat_lt, List, Option, Some, None, refl, sym, ap, subst, ◌∙◌}
 use Rattle.rt_base.specs.declared.numbers.Instance.{Instance}
 use Rattle.rt_base.specs.declared.numbers.Offset.{Offset}
 use Rattle.rt_base.specs.declared.numbers.Partition.{Partition}
 use Rattle.rt_base.specs.declared.numbers.Sequence.{Sequence}
 use Rattle.rt_mutable.specs.Consuming.{Consuming}
 use Rattle.rt_segment.specs.Segment.{SealedSegment}
+use Rattle.rt_segment.specs.Spelling.{file_of}
 use Rattle.rt_model.specs.Messages.{same_number}
 use Rattle.rt_model.specs.declared.asked.Asked.{Asked}
 use Rattle.rt_model.proofs.Messages.{same_number_true}
@@ -15,17 +16,21 @@ use Rattle.rt_model.specs.declared.reply.ReplyStatus.{ReplyStatus}
 use Rattle.rt_model.specs.declared.reply.ReplyStatus.TheVariants.{Hold, CatchUp, Keep, Discard, Commit, NotLeader, CommitContinue, UploadSuccess, CommitSuccess, Processed, Failed}
 use Rattle.rt_model.specs.declared.request.Reason.{Reason}
 use Rattle.rt_model.specs.declared.request.Request.{Request}
+use Rattle.rt_model.specs.declared.request.RequestKind.{RequestKind}
 use Rattle.rt_model.specs.declared.request.RequestKind.TheVariants as kind
+use Rattle.rt_model.specs.declared.request.RequestNumber.{RequestNumber}
+use Rattle.rt_model.specs.declared.seg_meta.SeenMeta.{SeenMeta}
 use Rattle.rt_model.specs.declared.setup.Setup.{Setup}
 use Rattle.rt_model.specs.Chain.{start_by}
 use Rattle.rt_store.specs.Contents.{starting_of}
 use Rattle.rt_model.proofs.Lawful.{has_chains}
 use Rattle.rt_past.specs.Past.{Past}
-use Rattle.rt_past.specs.Files.{IsRightFile}
+use Rattle.rt_past.specs.Files.{IsRightFile, Stands}
 use Rattle.rt_past.specs.IsPast.{IsPast}
 use Rattle.rt_past.specs.Replies.{IsReply, IsStatus}
-use Rattle.rt_past.specs.Requests.{IsRequest, IsKind}
+use Rattle.rt_past.specs.Requests.{IsKind}
 use Rattle.rt_past.specs.Segments.{IsBegun, WasDone}
+use Rattle.rt_consumer.specs.declared.phase.Discarded.{Discarded}
 use Rattle.rt_consumer.specs.declared.phase.Phase.{Phase}
 use Rattle.rt_consumer.specs.declared.phase.Phase.TheVariants as phase
 use Rattle.rt_consumer.specs.declared.replies.Turn.{Turn}
@@ -35,25 +40,46 @@ use Rattle.rt_consumer.specs.declared.stage.Stage.TheVariants.{InitialConsuming,
 use Rattle.rt_consumer.specs.declared.waited.Waited.{Waited}
 use Rattle.rt_consumer.specs.declared.waited.Waited.TheVariants.{Step, Extend}
 use Rattle.rt_consumer.specs.declared.consumer.Consumer.{Consumer}
-use Rattle.rt_consumer.specs.Consumer.{IsConsumer, cur, cur_in, ends_at, number_of}
+use Rattle.rt_consumer.specs.Consumer.{IsConsumer, at, cur_in, ends_at, number_of}
+use Rattle.rt_consumer.specs.Requests.{kind_at}
+use Rattle.rt_msgs.specs.Numbered.{upload_path}
 use Rattle.rt_consumer.specs.Replies.{consumed, continued, uploaded, ended, answered_at, answered, extended_at, extended, is_processed, turned, turn_by, replied_to, replied}
 use Rattle.rt_replica.specs.Held.{IsHeld}
-use Rattle.rt_replica.specs.Lasting.{StandsRight, IsToldAt, IsToldIn, WasAsked, WaitsFor, IsReplica}
+use Rattle.rt_replica.specs.Lasting.{HasUploaded, IsAskedIn, IsReplica, ToldAt, ToldIn, WaitsFor, WasAsked}
 use Rattle.rt_replica.proofs.Holding.{replied_held}
 
--- what an answer to a request about the segment, at an offset, may carry
-abbrev pub MayCarry : Setup → Past → Partition → Sequence → Offset → Offset → ReplyStatus → Type 0
-MayCarry setup past p s start x (Keep seen) = WasDone past.history p s seen
-MayCarry setup past p s start x (CommitSuccess seen) = WasDone past.history p s seen
-MayCarry setup past p s start x (UploadSuccess path) = StandsRight setup past p s start x path
-MayCarry setup past p s start x Hold = Unit {0}
-MayCarry setup past p s start x (CatchUp t) = Unit {0}
-MayCarry setup past p s start x Discard = Unit {0}
-MayCarry setup past p s start x (Commit o) = Unit {0}
-MayCarry setup past p s start x NotLeader = Unit {0}
-MayCarry setup past p s start x CommitContinue = Unit {0}
-MayCarry setup past p s start x Processed = Unit {0}
-MayCarry setup past p s start x (Failed cause) = Unit {0}
+-- what an answer may carry: a commit that was written, and the path of an upload
+abbrev pub MayBear : (SeenMeta → Type 0) → (List ℕ → Type 0) → ReplyStatus → Type 0
+MayBear Was At (Keep seen) = Was seen
+MayBear Was At (CommitSuccess seen) = Was seen
+MayBear Was At (UploadSuccess path) = At path
+MayBear Was At Hold = Unit {0}
+MayBear Was At (CatchUp t) = Unit {0}
+MayBear Was At Discard = Unit {0}
+MayBear Was At (Commit o) = Unit {0}
+MayBear Was At NotLeader = Unit {0}
+MayBear Was At CommitContinue = Unit {0}
+MayBear Was At Processed = Unit {0}
+MayBear Was At (Failed cause) = Unit {0}
+
+-- what a path tells that answers the request of a stage: the built file is there, if that was uploaded
+abbrev pub UpAt : (Offset → SealedSegment → List ℕ → Type 0) → Offset → Stage → List ℕ → Type 0
+UpAt Up x (Uploading reason built) path = Up x built path
+UpAt Up x InitialConsuming path = Unit {0}
+UpAt Up x (CatchingUp target reason) path = Unit {0}
+UpAt Up x (Holding reason) path = Unit {0}
+UpAt Up x (ConsumingToOnline end done) path = Unit {0}
+UpAt Up x (Retaining done) path = Unit {0}
+UpAt Up x (Building reason) path = Unit {0}
+UpAt Up x (Starting reason built) path = Unit {0}
+UpAt Up x (Ending reason built old) path = Unit {0}
+
+abbrev pub UpIn : (Offset → SealedSegment → List ℕ → Type 0) → Phase → Waited → List ℕ → Type 0
+UpIn Up (phase.Unsealed o) (Step number) path = UpAt Up o.rows.end o.stage path
+UpIn Up (phase.Unsealed o) (Extend number) path = Unit {0}
+UpIn Up (phase.Retained kept) w path = Unit {0}
+UpIn Up (phase.Committed kept) w path = Unit {0}
+UpIn Up (phase.Discarded d) w path = Unit {0}
 
 -- a segment is begun from one offset
 pub one_start : (setup : Setup) (past : Past) (p : Partition) (s : Sequence) (a b : Offset) → IsPast setup past → p.0 < setup.partitions
@@ -63,88 +89,159 @@ one_start setup past p s a b k within (v, hv, ov, sv) (w, hw, ow, sw) =
     let same : v ≡ w = chain.once s.0 v w (record { has = hv; is_of = ov; starts = sv.0 }) (record { has = hw; is_of = ow; starts = sw.0 }) in
     ap (λ n. record { 0 = n }) (sym sv.1 ∙ ap (λ (z : Seen). start_by z.node) same ∙ sw.1)
 
-carried : (setup : Setup) (past : Past) (q : Request) (p : Partition) (s : Sequence) (start x : Offset) (status : ReplyStatus)
-    → IsPast setup past → IsRequest setup past q → p.0 < setup.partitions → IsBegun past.history p s start
-    → q.partition ≡ p → q.sequence ≡ s → q.offset ≡ x → IsStatus past q status → MayCarry setup past p s start x status
-carried setup past q p s start x (Keep seen) k r within begun ep es ex t =
-    subst (λ z. WasDone past.history p z seen) es (subst (λ z. WasDone past.history z q.sequence seen) ep t)
-carried setup past q p s start x (CommitSuccess seen) k r within begun ep es ex t =
-    subst (λ z. WasDone past.history p z seen) es (subst (λ z. WasDone past.history z q.sequence seen) ep t)
-carried setup past q p s start x (UploadSuccess path) k r within begun ep es ex (bytes, uploads, stands) =
-    let right : IsKind setup past q r.start (kind.Upload path bytes) = subst (IsKind setup past q r.start) uploads r.kind in
-    let begun_here : IsBegun past.history p s r.start = subst (λ z. IsBegun past.history p z r.start) es (subst (λ z. IsBegun past.history z q.sequence r.start) ep r.begun) in
-    let same : r.start ≡ start = one_start setup past p s r.start start k within begun_here begun in (
-      bytes,
-      stands,
-      subst (λ z. IsRightFile setup past p s z x bytes) same
-          (subst (λ z. IsRightFile setup past p s r.start z bytes) ex
-          (subst (λ z. IsRightFile setup past p z r.start q.offset bytes) es
-          (subst (λ z. IsRightFile setup past z q.sequence r.start q.offset bytes) ep right.1))),
-    )
-carried setup past q p s start x Hold k r within begun ep es ex t = tt
-carried setup past q p s start x (CatchUp o) k r within begun ep es ex t = tt
-carried setup past q p s start x Discard k r within begun ep es ex t = tt
-carried setup past q p s start x (Commit o) k r within begun ep es ex t = tt
-carried setup past q p s start x NotLeader k r within begun ep es ex t = tt
-carried setup past q p s start x CommitContinue k r within begun ep es ex t = tt
-carried setup past q p s start x Processed k r within begun ep es ex t = tt
-carried setup past q p s start x (Failed cause) k r within begun ep es ex t = tt
+upload_paths : (path other bytes others : List ℕ) → kind.Upload path bytes ≡ kind.Upload other others → path ≡ other
+upload_paths path other bytes others e = cc
 
--- the answer to what was asked carries what the request is about
-pub may_carry : (setup : Setup) (past : Past) (i : Instance) (incarnation : ℕ) (r : Consumer) (w : Waited) (reply : Reply)
-    → IsPast setup past → IsReply past reply → IsReplica setup past i incarnation r → WasAsked past i incarnation r.partition r.sequence (cur r) (number_of w)
-    → same_number (number_of w) reply.number ≡ true → MayCarry setup past r.partition r.sequence r.start (cur r) reply.status
-may_carry setup past i incarnation r w reply k y rep asked same =
-    let number : number_of w ≡ reply.number = same_number_true (number_of w) reply.number same in
-    let answers : y.request.number ≡ reply.number = ap (λ (a : Asked). a.number) y.answers in
-    let one : y.request ≡ asked.request = k.unique y.request asked.request y.was_sent asked.was_sent (answers ∙ sym number ∙ sym asked.numbered) in
-    carried setup past asked.request r.partition r.sequence r.start (cur r) reply.status k (k.requests asked.request asked.was_sent) rep.partition rep.begun
-    asked.segment.0 asked.segment.1 asked.offset (subst (λ z. IsStatus past z reply.status) one y.status)
+upload_bytes : (path other bytes others : List ℕ) → kind.Upload path bytes ≡ kind.Upload other others → bytes ≡ others
+upload_bytes path other bytes others e = cc
+
+abbrev pub some_kind : RequestKind → Option RequestKind
+some_kind k = Some k
+
+pub same_kind : (k l : RequestKind) → some_kind k ≡ some_kind l → k ≡ l
+same_kind k l e = cc
+
+-- over a right past the answer to an upload of the segment tells that the file stands at the path that it carries
+module _ (setup : Setup) (past : Past) (k : IsPast setup past) (i : Instance) (incarnation : ℕ) (p : Partition) (s : Sequence) (start : Offset)
+    (within : p.0 < setup.partitions) (begun : IsBegun past.history p s start) where
+  pub uploaded_at : (x : Offset) (number : RequestNumber) (built : SealedSegment) (own path : List ℕ) (asks : RequestKind)
+      (asked : WasAsked past i incarnation p s x number asks) → asks ≡ kind.Upload own (file_of built)
+      → IsStatus past asked.request (UploadSuccess path) → HasUploaded setup past i incarnation p s start x built path
+  uploaded_at x number built own path asks asked is (bytes, uploads, stands) =
+      let q = asked.request in
+      let r = k.requests q asked.was_sent in
+      let both : kind.Upload path bytes ≡ kind.Upload own (file_of built) = sym uploads ∙ asked.kind ∙ is in
+      let of_file : bytes ≡ file_of built = upload_bytes path own bytes (file_of built) both in
+      let right : IsKind setup past q r.start (kind.Upload path bytes) = subst (IsKind setup past q r.start) uploads r.kind in
+      let begun_here : IsBegun past.history p s r.start =
+      subst (λ z. IsBegun past.history p z r.start) asked.segment.1 (subst (λ z. IsBegun past.history z q.sequence r.start) asked.segment.0 r.begun) in
+      let same : r.start ≡ start = one_start setup past p s r.start start k within begun_here begun in
+      record {
+        stands = subst (λ z. Stands past.files path z) of_file stands;
+        right =
+            subst (λ z. IsRightFile setup past p s start x z) of_file
+            (subst (λ z. IsRightFile setup past p s z x bytes) same
+            (subst (λ z. IsRightFile setup past p s r.start z bytes) asked.offset
+            (subst (λ z. IsRightFile setup past p z r.start q.offset bytes) asked.segment.1
+            (subst (λ z. IsRightFile setup past z q.sequence r.start q.offset bytes) asked.segment.0 right.1))));
+        number = number;
+        asked =
+            subst (WasAsked past i incarnation p s x number)
+            (is ∙ ap (λ z. kind.Upload z (file_of built)) (sym (upload_paths path own bytes (file_of built) both))) asked;
+      }
+
+  up_at : (name : List ℕ) (rows : Consuming) (stage : Stage) (number : RequestNumber) (asks : RequestKind) (asked : WasAsked past i incarnation p s rows.end number asks)
+      → kind_at name number stage ≡ some_kind asks → (path : List ℕ) → IsStatus past asked.request (UploadSuccess path)
+      → UpAt (HasUploaded setup past i incarnation p s start) rows.end stage path
+  up_at name rows (Uploading reason built) number asks asked is path status =
+      uploaded_at rows.end number built (upload_path name number) path asks asked
+      (sym (same_kind (kind.Upload (upload_path name number) (file_of built)) asks is)) status
+  up_at name rows InitialConsuming number asks asked is path status = tt
+  up_at name rows (CatchingUp target reason) number asks asked is path status = tt
+  up_at name rows (Holding reason) number asks asked is path status = tt
+  up_at name rows (ConsumingToOnline end done) number asks asked is path status = tt
+  up_at name rows (Retaining done) number asks asked is path status = tt
+  up_at name rows (Building reason) number asks asked is path status = tt
+  up_at name rows (Starting reason built) number asks asked is path status = tt
+  up_at name rows (Ending reason built old) number asks asked is path status = tt
+
+  up_in : (name : List ℕ) (ph : Phase) (w : Waited) (asks : RequestKind) (asked : WasAsked past i incarnation p s (cur_in ph) (number_of w) asks)
+      → IsAskedIn name ph w asks → (path : List ℕ) → IsStatus past asked.request (UploadSuccess path)
+      → UpIn (HasUploaded setup past i incarnation p s start) ph w path
+  up_in name (phase.Unsealed o) (Step number) asks asked is path status = up_at name o.rows o.stage number asks asked is path status
+  up_in name (phase.Unsealed o) (Extend number) asks asked is path status = tt
+  up_in name (phase.Retained kept) w asks asked is path status = tt
+  up_in name (phase.Committed kept) w asks asked is path status = tt
+  up_in name (phase.Discarded d) w asks asked is path status = tt
+
+  carried : (q : Request) → q.partition ≡ p → q.sequence ≡ s → (At : List ℕ → Type 0) (status : ReplyStatus)
+      → ((path : List ℕ) → status ≡ UploadSuccess path → At path) → IsStatus past q status → MayBear (WasDone past.history p s) At status
+  carried q ep es At (Keep seen) up t = subst (λ z. WasDone past.history p z seen) es (subst (λ z. WasDone past.history z q.sequence seen) ep t)
+  carried q ep es At (CommitSuccess seen) up t = subst (λ z. WasDone past.history p z seen) es (subst (λ z. WasDone past.history z q.sequence seen) ep t)
+  carried q ep es At (UploadSuccess path) up t = up path refl
+  carried q ep es At Hold up t = tt
+  carried q ep es At (CatchUp o) up t = tt
+  carried q ep es At Discard up t = tt
+  carried q ep es At (Commit o) up t = tt
+  carried q ep es At NotLeader up t = tt
+  carried q ep es At CommitContinue up t = tt
+  carried q ep es At Processed up t = tt
+  carried q ep es At (Failed cause) up t = tt
+
+  -- the answer to what was asked carries what the request is about
+  may_carry : (name : List ℕ) (ph : Phase) (w : Waited) (reply : Reply) → IsReply past reply → (asks : RequestKind)
+      → WasAsked past i incarnation p s (cur_in ph) (number_of w) asks → IsAskedIn name ph w asks → same_number (number_of w) reply.number ≡ true
+      → MayBear (WasDone past.history p s) (UpIn (HasUploaded setup past i incarnation p s start) ph w) reply.status
+  may_carry name ph w reply y asks asked is same =
+      let number : number_of w ≡ reply.number = same_number_true (number_of w) reply.number same in
+      let answers : y.request.number ≡ reply.number = ap (λ (a : Asked). a.number) y.answers in
+      let one : y.request ≡ asked.request = k.unique y.request asked.request y.was_sent asked.was_sent (answers ∙ sym number ∙ sym asked.numbered) in
+      let status : IsStatus past asked.request reply.status = subst (λ z. IsStatus past z reply.status) one y.status in
+      carried asked.request asked.segment.0 asked.segment.1 (UpIn (HasUploaded setup past i incarnation p s start) ph w) reply.status
+      (λ path e. up_in name ph w asks asked is path (subst (IsStatus past asked.request) e status)) status
 
 either : (T : Turn → Type 0) (b : Bool) (x y : Turn) → T x → T y → T (cond b x y)
 either T true x y h k = h
 either T false x y h k = k
 
-module _ (setup : Setup) (past : Past) (p : Partition) (s : Sequence) (start : Offset) where
-  -- what is told after a turn of a replica at an offset
-  abbrev pub ToldAfter : Offset → Turn → Type 0
-  ToldAfter x (Stays ph) = IsToldIn setup past p s start ph × (cur_in ph ≡ x)
-  ToldAfter x (Goes ph) = IsToldIn setup past p s start ph
+-- a phase in which a replica waits as in another
+abbrev pub WaitsAs : Phase → Phase → Type 0
+WaitsAs old new = (cur_in new ≡ cur_in old) × ((name : List ℕ) (w : Waited) (asks : RequestKind) → IsAskedIn name old w asks → IsAskedIn name new w asks)
 
-  module _ (rows : Consuming) (reason : Reason) where
+same_waits : (ph : Phase) → WaitsAs ph ph
+same_waits ph = (refl, λ name w asks h. h)
+
+discarded_asked : (d e : Discarded) (name : List ℕ) (w : Waited) (asks : RequestKind) → IsAskedIn name (phase.Discarded d) w asks → IsAskedIn name (phase.Discarded e) w asks
+discarded_asked d e name (Step number) asks h = h
+discarded_asked d e name (Extend number) asks h = h
+
+-- what is waited for is waited for in the phase that a turn leaves
+pub waits_on : (past : Past) (i : Instance) (incarnation : ℕ) (p : Partition) (s : Sequence) (name : List ℕ) (old new : Phase) (w : Option Waited) → WaitsAs old new
+    → WaitsFor past i incarnation p s name old w → WaitsFor past i incarnation p s name new w
+waits_on past i incarnation p s name old new None same waits = tt
+waits_on past i incarnation p s name old new (Some w) same waits =
+    (waits.0, subst (λ x. WasAsked past i incarnation p s x (number_of w) waits.0) (sym same.0) waits.1, same.1 name w waits.0 waits.2)
+
+module _ (Was : SeenMeta → Type 0) (Up : Offset → SealedSegment → List ℕ → Type 0) where
+  -- what is told after a turn of a replica in a phase
+  abbrev pub ToldAfter : Phase → Turn → Type 0
+  ToldAfter old (Stays ph) = ToldIn Was Up ph × WaitsAs old ph
+  ToldAfter old (Goes ph) = ToldIn Was Up ph
+
+  consumed_told : (rows : Consuming) (reason : Reason) (At : List ℕ → Type 0) (status : ReplyStatus) → MayBear Was At status → ToldAfter (at rows (Holding reason)) (consumed rows reason status)
+  consumed_told rows reason At (CatchUp t) c = either (ToldAfter (at rows (Holding reason))) (nat_lt rows.end.0 t.0) _ _ tt (tt, same_waits (at rows (Holding reason)))
+  consumed_told rows reason At (Commit o) c = either (ToldAfter (at rows (Holding reason))) (o.0 == rows.end.0) _ _ tt (tt, same_waits (at rows (Holding reason)))
+  consumed_told rows reason At (Keep seen) c = either (ToldAfter (at rows (Holding reason))) (ends_at rows.end seen) _ _ c (tt, same_waits (at rows (Holding reason)))
+  consumed_told rows reason At Discard c = tt
+  consumed_told rows reason At Hold c = (tt, same_waits (at rows (Holding reason)))
+  consumed_told rows reason At NotLeader c = (tt, same_waits (at rows (Holding reason)))
+  consumed_told rows reason At CommitContinue c = (tt, same_waits (at rows (Holding reason)))
+  consumed_told rows reason At (UploadSuccess path) c = (tt, same_waits (at rows (Holding reason)))
+  consumed_told rows reason At (CommitSuccess seen) c = (tt, same_waits (at rows (Holding reason)))
+  consumed_told rows reason At Processed c = (tt, same_waits (at rows (Holding reason)))
+  consumed_told rows reason At (Failed cause) c = (tt, same_waits (at rows (Holding reason)))
+
+  module _ (rows : Consuming) (stage : Stage) (reason : Reason) where
     abbrev After : Turn → Type 0
-    After t = ToldAfter rows.end t
+    After t = ToldAfter (at rows stage) t
 
-    abbrev Carries : ReplyStatus → Type 0
-    Carries status = MayCarry setup past p s start rows.end status
+    abbrev Carries : (List ℕ → Type 0) → ReplyStatus → Type 0
+    Carries At status = MayBear Was At status
 
-    consumed_told : (status : ReplyStatus) → Carries status → After (consumed rows reason status)
-    consumed_told (CatchUp t) c = either After (nat_lt rows.end.0 t.0) _ _ tt (tt, refl)
-    consumed_told (Commit o) c = either After (o.0 == rows.end.0) _ _ tt (tt, refl)
-    consumed_told (Keep seen) c = either After (ends_at rows.end seen) _ _ c (tt, refl)
-    consumed_told Discard c = tt
-    consumed_told Hold c = (tt, refl)
-    consumed_told NotLeader c = (tt, refl)
-    consumed_told CommitContinue c = (tt, refl)
-    consumed_told (UploadSuccess path) c = (tt, refl)
-    consumed_told (CommitSuccess seen) c = (tt, refl)
-    consumed_told Processed c = (tt, refl)
-    consumed_told (Failed cause) c = (tt, refl)
+    continued_told : (built : SealedSegment) (At : List ℕ → Type 0) (status : ReplyStatus) → Carries At status → After (continued rows reason built status)
+    continued_told built At (Keep seen) c = either After (ends_at rows.end seen) _ _ c tt
+    continued_told built At (CatchUp t) c = tt
+    continued_told built At (Commit o) c = tt
+    continued_told built At Discard c = tt
+    continued_told built At Hold c = tt
+    continued_told built At NotLeader c = tt
+    continued_told built At CommitContinue c = tt
+    continued_told built At (UploadSuccess path) c = tt
+    continued_told built At (CommitSuccess seen) c = tt
+    continued_told built At Processed c = tt
+    continued_told built At (Failed cause) c = tt
 
-    continued_told : (built : SealedSegment) (status : ReplyStatus) → Carries status → After (continued rows reason built status)
-    continued_told built (Keep seen) c = either After (ends_at rows.end seen) _ _ c tt
-    continued_told built (CatchUp t) c = tt
-    continued_told built (Commit o) c = tt
-    continued_told built Discard c = tt
-    continued_told built Hold c = tt
-    continued_told built NotLeader c = tt
-    continued_told built CommitContinue c = tt
-    continued_told built (UploadSuccess path) c = tt
-    continued_told built (CommitSuccess seen) c = tt
-    continued_told built Processed c = tt
-    continued_told built (Failed cause) c = tt
-
-    uploaded_told : (built : SealedSegment) (status : ReplyStatus) → Carries status → After (uploaded rows reason built status)
+    uploaded_told : (built : SealedSegment) (status : ReplyStatus) → Carries (Up rows.end built) status → After (uploaded rows reason built status)
     uploaded_told built (UploadSuccess path) c = c
     uploaded_told built (Keep seen) c = tt
     uploaded_told built (CatchUp t) c = tt
@@ -157,72 +254,79 @@ module _ (setup : Setup) (past : Past) (p : Partition) (s : Sequence) (start : O
     uploaded_told built Processed c = tt
     uploaded_told built (Failed cause) c = tt
 
-    ended_told : (built : SealedSegment) (status : ReplyStatus) → Carries status → After (ended rows reason built status)
-    ended_told built (Keep seen) c = either After (ends_at rows.end seen) _ _ c tt
-    ended_told built (CommitSuccess seen) c = either After (ends_at rows.end seen) _ _ c tt
-    ended_told built (CatchUp t) c = tt
-    ended_told built (Commit o) c = tt
-    ended_told built Discard c = tt
-    ended_told built Hold c = tt
-    ended_told built NotLeader c = tt
-    ended_told built CommitContinue c = tt
-    ended_told built (UploadSuccess path) c = tt
-    ended_told built Processed c = tt
-    ended_told built (Failed cause) c = tt
+    ended_told : (built : SealedSegment) (At : List ℕ → Type 0) (status : ReplyStatus) → Carries At status → After (ended rows reason built status)
+    ended_told built At (Keep seen) c = either After (ends_at rows.end seen) _ _ c tt
+    ended_told built At (CommitSuccess seen) c = either After (ends_at rows.end seen) _ _ c tt
+    ended_told built At (CatchUp t) c = tt
+    ended_told built At (Commit o) c = tt
+    ended_told built At Discard c = tt
+    ended_told built At Hold c = tt
+    ended_told built At NotLeader c = tt
+    ended_told built At CommitContinue c = tt
+    ended_told built At (UploadSuccess path) c = tt
+    ended_told built At Processed c = tt
+    ended_told built At (Failed cause) c = tt
 
-  answered_at_told : (rows : Consuming) (stage : Stage) (status : ReplyStatus) → MayCarry setup past p s start rows.end status
-      → IsToldAt setup past p s start rows.end stage → ToldAfter rows.end (answered_at rows stage status)
-  answered_at_told rows (Holding reason) status c t = consumed_told rows reason status c
-  answered_at_told rows (Starting reason built) status c t = continued_told rows reason built status c
-  answered_at_told rows (Uploading reason built) status c t = uploaded_told rows reason built status c
-  answered_at_told rows (Ending reason built path) status c t = ended_told rows reason built status c
-  answered_at_told rows InitialConsuming status c t = (tt, refl)
-  answered_at_told rows (CatchingUp target reason) status c t = (tt, refl)
-  answered_at_told rows (ConsumingToOnline end done) status c t = (t, refl)
-  answered_at_told rows (Retaining done) status c t = (t, refl)
-  answered_at_told rows (Building reason) status c t = (tt, refl)
+  answered_at_told : (rows : Consuming) (stage : Stage) (status : ReplyStatus) → MayBear Was (UpAt Up rows.end stage) status
+      → ToldAt Was Up rows.end stage → ToldAfter (at rows stage) (answered_at rows stage status)
+  answered_at_told rows (Holding reason) status c t = consumed_told rows reason (UpAt Up rows.end (Holding reason)) status c
+  answered_at_told rows (Starting reason built) status c t =
+      continued_told rows (Starting reason built) reason built (UpAt Up rows.end (Starting reason built)) status c
+  answered_at_told rows (Uploading reason built) status c t = uploaded_told rows (Uploading reason built) reason built status c
+  answered_at_told rows (Ending reason built path) status c t =
+      ended_told rows (Ending reason built path) reason built (UpAt Up rows.end (Ending reason built path)) status c
+  answered_at_told rows InitialConsuming status c t = (tt, same_waits (at rows InitialConsuming))
+  answered_at_told rows (CatchingUp target reason) status c t = (tt, same_waits (at rows (CatchingUp target reason)))
+  answered_at_told rows (ConsumingToOnline end done) status c t = (t, same_waits (at rows (ConsumingToOnline end done)))
+  answered_at_told rows (Retaining done) status c t = (t, same_waits (at rows (Retaining done)))
+  answered_at_told rows (Building reason) status c t = (tt, same_waits (at rows (Building reason)))
 
-  extended_at_told : (rows : Consuming) (stage : Stage) (b : Bool) → IsToldAt setup past p s start rows.end stage → ToldAfter rows.end (extended_at rows stage b)
-  extended_at_told rows (Building reason) b t = either (ToldAfter rows.end) b _ _ (tt, refl) tt
-  extended_at_told rows (Starting reason built) b t = either (ToldAfter rows.end) b _ _ (tt, refl) tt
-  extended_at_told rows (Holding reason) b t = (tt, refl)
-  extended_at_told rows InitialConsuming b t = (tt, refl)
-  extended_at_told rows (CatchingUp target reason) b t = (tt, refl)
-  extended_at_told rows (ConsumingToOnline end done) b t = (t, refl)
-  extended_at_told rows (Retaining done) b t = (t, refl)
-  extended_at_told rows (Uploading reason built) b t = (tt, refl)
-  extended_at_told rows (Ending reason built path) b t = (t, refl)
+  extended_at_told : (rows : Consuming) (stage : Stage) (b : Bool) → ToldAt Was Up rows.end stage → ToldAfter (at rows stage) (extended_at rows stage b)
+  extended_at_told rows (Building reason) b t = either (ToldAfter (at rows (Building reason))) b _ _ (tt, same_waits (at rows (Building reason))) tt
+  extended_at_told rows (Starting reason built) b t = either (ToldAfter (at rows (Starting reason built))) b _ _ (tt, same_waits (at rows (Starting reason built))) tt
+  extended_at_told rows (Holding reason) b t = (tt, same_waits (at rows (Holding reason)))
+  extended_at_told rows InitialConsuming b t = (tt, same_waits (at rows InitialConsuming))
+  extended_at_told rows (CatchingUp target reason) b t = (tt, same_waits (at rows (CatchingUp target reason)))
+  extended_at_told rows (ConsumingToOnline end done) b t = (t, same_waits (at rows (ConsumingToOnline end done)))
+  extended_at_told rows (Retaining done) b t = (t, same_waits (at rows (Retaining done)))
+  extended_at_told rows (Uploading reason built) b t = (tt, same_waits (at rows (Uploading reason built)))
+  extended_at_told rows (Ending reason built path) b t = (t, same_waits (at rows (Ending reason built path)))
 
-  answered_told : (ph : Phase) (status : ReplyStatus) → MayCarry setup past p s start (cur_in ph) status → IsToldIn setup past p s start ph
-      → ToldAfter (cur_in ph) (answered ph status)
-  answered_told (phase.Unsealed o) status c t = answered_at_told o.rows o.stage status c t
-  answered_told (phase.Retained kept) status c t = (t, refl)
-  answered_told (phase.Committed kept) status c t = (t, refl)
-  answered_told (phase.Discarded d) status c t = either (ToldAfter d.cur) (is_processed status) _ _ (tt, refl) (tt, refl)
+  answered_told : (ph : Phase) (number : RequestNumber) (status : ReplyStatus) → MayBear Was (UpIn Up ph (Step number)) status → ToldIn Was Up ph
+      → ToldAfter ph (answered ph status)
+  answered_told (phase.Unsealed o) number status c t = answered_at_told o.rows o.stage status c t
+  answered_told (phase.Retained kept) number status c t = (t, same_waits (phase.Retained kept))
+  answered_told (phase.Committed kept) number status c t = (t, same_waits (phase.Committed kept))
+  answered_told (phase.Discarded d) number status c t =
+      either (ToldAfter (phase.Discarded d)) (is_processed status) _ _
+      (tt, (refl, discarded_asked d (record d { stopped = false }))) (tt, same_waits (phase.Discarded d))
 
-  extended_told : (ph : Phase) (status : ReplyStatus) → IsToldIn setup past p s start ph → ToldAfter (cur_in ph) (extended ph status)
+  extended_told : (ph : Phase) (status : ReplyStatus) → ToldIn Was Up ph → ToldAfter ph (extended ph status)
   extended_told (phase.Unsealed o) status t = extended_at_told o.rows o.stage (is_processed status) t
-  extended_told (phase.Retained kept) status t = (t, refl)
-  extended_told (phase.Committed kept) status t = (t, refl)
-  extended_told (phase.Discarded d) status t = (tt, refl)
+  extended_told (phase.Retained kept) status t = (t, same_waits (phase.Retained kept))
+  extended_told (phase.Committed kept) status t = (t, same_waits (phase.Committed kept))
+  extended_told (phase.Discarded d) status t = (tt, same_waits (phase.Discarded d))
 
-  turn_told : (ph : Phase) (w : Waited) (status : ReplyStatus) → MayCarry setup past p s start (cur_in ph) status → IsToldIn setup past p s start ph
-      → ToldAfter (cur_in ph) (turn_by ph w status)
-  turn_told ph (Step n) status c t = answered_told ph status c t
-  turn_told ph (Extend n) status c t = extended_told ph status t
+  pub turn_told : (ph : Phase) (w : Waited) (status : ReplyStatus) → MayBear Was (UpIn Up ph w) status → ToldIn Was Up ph
+      → ToldAfter ph (turn_by ph w status)
+  turn_told ph (Step number) status c t = answered_told ph number status c t
+  turn_told ph (Extend number) status c t = extended_told ph status t
 
 module _ (setup : Setup) (past : Past) (i : Instance) (incarnation : ℕ) (r : Consumer) (k : IsReplica setup past i incarnation r) where
-  turned_lasts : (t : Turn) → ToldAfter setup past r.partition r.sequence r.start (cur r) t → IsHeld past.log (turned r t)
-      → IsReplica setup past i incarnation (turned r t)
+  abbrev Tells : Turn → Type 0
+  Tells t = ToldAfter (WasDone past.history r.partition r.sequence) (HasUploaded setup past i incarnation r.partition r.sequence r.start) r.phase t
+
+  turned_lasts : (t : Turn) → Tells t → IsHeld past.log (turned r t) → IsReplica setup past i incarnation (turned r t)
   turned_lasts (Stays ph) told held = record {
     settings = k.settings;
     partition = k.partition;
     assigned = k.assigned;
     entered = k.entered;
     begun = k.begun;
+    named = k.named;
     held = held;
     told = told.0;
-    waited = subst (λ x. WaitsFor past i incarnation r.partition r.sequence x r.waited) (sym told.1) k.waited;
+    waited = waits_on past i incarnation r.partition r.sequence r.name r.phase ph r.waited told.1 k.waited;
   }
   turned_lasts (Goes ph) told held = record {
     settings = k.settings;
@@ -230,22 +334,24 @@ module _ (setup : Setup) (past : Past) (i : Instance) (incarnation : ℕ) (r : C
     assigned = k.assigned;
     entered = k.entered;
     begun = k.begun;
+    named = k.named;
     held = held;
     told = told;
     waited = tt;
   }
 
-  turned_if : (b : Bool) (t : Turn) → (b ≡ true → ToldAfter setup past r.partition r.sequence r.start (cur r) t) → IsHeld past.log (cond b (turned r t) r)
-      → IsReplica setup past i incarnation (cond b (turned r t) r)
+  turned_if : (b : Bool) (t : Turn) → (b ≡ true → Tells t) → IsHeld past.log (cond b (turned r t) r) → IsReplica setup past i incarnation (cond b (turned r t) r)
   turned_if true t told held = turned_lasts t (told refl) held
   turned_if false t told held = k
 
-  replied_to_lasts : (w : Option Waited) (reply : Reply) → IsPast setup past → IsReply past reply → WaitsFor past i incarnation r.partition r.sequence (cur r) w
+  replied_to_lasts : (w : Option Waited) (reply : Reply) → IsPast setup past → IsReply past reply → WaitsFor past i incarnation r.partition r.sequence r.name r.phase w
       → IsHeld past.log (replied_to r w reply) → IsReplica setup past i incarnation (replied_to r w reply)
   replied_to_lasts None reply p y waits held = k
   replied_to_lasts (Some w) reply p y waits held =
       turned_if (same_number (number_of w) reply.number) (turn_by r.phase w reply.status)
-      (λ same. turn_told setup past r.partition r.sequence r.start r.phase w reply.status (may_carry setup past i incarnation r w reply p y k waits same) k.told)
+      (λ same.
+      turn_told (WasDone past.history r.partition r.sequence) (HasUploaded setup past i incarnation r.partition r.sequence r.start) r.phase w reply.status
+      (may_carry setup past p i incarnation r.partition r.sequence r.start k.partition k.begun r.name r.phase w reply y waits.0 waits.1 waits.2 same) k.told)
       held
 
   pub replied_lasts : (reply : Reply) → IsConsumer r → IsPast setup past → IsReply past reply → IsReplica setup past i incarnation (replied r reply)

@@ -1,84 +1,30 @@
 -- What is held of a log at the start, by force, by a stop, and of a log that is told.
-use Rattle.std.proofs.Common.{◌≡◌, ◌-◌, ◌≤◌, ℕ, Bool, true, false, cond, nat_lt, List, length, take, drop, Option, Some, None, Ok, ap, subst, arith}
+use Rattle.std.proofs.Common.{◌≡◌, ◌≤◌, ℕ, length, Some, None, Ok, subst}
 use Rattle.rt_base.specs.declared.numbers.Moment.{Moment}
-use Rattle.rt_base.specs.declared.numbers.Offset.{Offset}
 use Rattle.rt_base.specs.declared.numbers.Partition.{Partition}
 use Rattle.rt_base.specs.declared.numbers.Sequence.{Sequence}
-use Rattle.rt_schema.specs.declared.schema.Schema.{Schema}
-use Rattle.rt_mutable.specs.Consuming.{Consuming}
 use Rattle.rt_stream.specs.Feed.{FeedMeaning, log_meaning}
 use Rattle.rt_stream.specs.Log.{Log, messages_of}
-use Rattle.rt_model.specs.declared.request.Reason.TheVariants.{Force}
 use Rattle.rt_model.specs.declared.seg_meta.SegMeta.{SegMeta}
 use Rattle.rt_model.specs.declared.setup.Setup.{Setup}
 use Rattle.rt_consumer.specs.declared.phase.Phase.{Phase}
-use Rattle.rt_consumer.specs.declared.phase.Phase.TheVariants as phase
-use Rattle.rt_consumer.specs.declared.stage.Stage.{Stage}
-use Rattle.rt_consumer.specs.declared.stage.Stage.TheVariants.{InitialConsuming, CatchingUp, Holding, ConsumingToOnline, Retaining, Building, Starting, Uploading, Ending}
 use Rattle.rt_consumer.specs.declared.consumer.Consumer.{Consumer}
-use Rattle.rt_consumer.specs.Consumer.{at, started_of}
+use Rattle.rt_consumer.specs.Consumer.{started_of}
 use Rattle.rt_consumer.specs.Batch.{consumed, Consumes}
-use Rattle.rt_consumer.specs.Requests.{forced, forced_at, stopped, stopped_at, stops_at}
-use Rattle.rt_replica.specs.Held.{IsHeld, HoldsIn, HoldsRows, placed_from}
+use Rattle.rt_consumer.specs.Requests.{forced, stopped}
+use Rattle.rt_replica.specs.Held.{IsHeld}
+use Rattle.rt_replica.proofs.OthersSoFar as so_far
+use Rattle.rt_replica.proofs.SoFar.{forget, back, starts}
 
 pub started_held : (setup : Setup) (p : Partition) (q : Sequence) (meta : SegMeta) (now : Moment) (log : Log) → meta.start.0 ≤ length (messages_of log p)
     → IsHeld log (started_of setup p q meta now)
-started_held setup p q meta now log le =
-    let none : 0 ≡ meta.start.0 - meta.start.0 = omega arith in
-    record {
-      ordered = omega arith;
-      within = le;
-      all = ap (λ n. placed_from setup.schema meta.start.0 (take n (drop meta.start.0 (messages_of log p)))) none;
-    }
-
-abbrev some : Phase → Option Phase
-some p = Some p
-
-none_some : (p : Phase) → None ≡ some p → ⊥
-none_some p e = cc
-
-same : (p n : Phase) → some p ≡ some n → p ≡ n
-same p n e = cc
-
-module _ (schema : Schema) (ms : List (List ℕ)) (start : Offset) where
-  forced_by : (rows : Consuming) (n : Phase) (b : Bool) → cond b (some (at rows (Holding Force))) None ≡ some n → HoldsRows schema ms start rows
-      → HoldsIn schema ms start n
-  forced_by rows n true e h = subst (HoldsIn schema ms start) (same (at rows (Holding Force)) n e) h
-  forced_by rows n false e h = absurd (none_some n e)
-
-  forced_at_held : (rows : Consuming) (s : Stage) (n : Phase) → forced_at rows s ≡ some n → HoldsRows schema ms start rows → HoldsIn schema ms start n
-  forced_at_held rows InitialConsuming n e h = forced_by rows n (nat_lt rows.start.0 rows.end.0) e h
-  forced_at_held rows (CatchingUp target reason) n e h = absurd (none_some n e)
-  forced_at_held rows (Holding reason) n e h = absurd (none_some n e)
-  forced_at_held rows (ConsumingToOnline end done) n e h = absurd (none_some n e)
-  forced_at_held rows (Retaining done) n e h = absurd (none_some n e)
-  forced_at_held rows (Building reason) n e h = absurd (none_some n e)
-  forced_at_held rows (Starting reason built) n e h = absurd (none_some n e)
-  forced_at_held rows (Uploading reason built) n e h = absurd (none_some n e)
-  forced_at_held rows (Ending reason built path) n e h = absurd (none_some n e)
-
-  forced_in_held : (p n : Phase) → forced p ≡ some n → HoldsIn schema ms start p → HoldsIn schema ms start n
-  forced_in_held (phase.Unsealed o) n e h = forced_at_held o.rows o.stage n e h
-  forced_in_held (phase.Retained kept) n e h = absurd (none_some n e)
-  forced_in_held (phase.Committed kept) n e h = absurd (none_some n e)
-  forced_in_held (phase.Discarded d) n e h = absurd (none_some n e)
-
-  stopped_by : (rows : Consuming) (n : Phase) (b : Bool) → cond b (some (stopped_at rows.end)) None ≡ some n → HoldsRows schema ms start rows
-      → HoldsIn schema ms start n
-  stopped_by rows n true e h = subst (HoldsIn schema ms start) (same (stopped_at rows.end) n e) (h.ordered, h.within)
-  stopped_by rows n false e h = absurd (none_some n e)
-
-  stopped_in_held : (p n : Phase) → stopped p ≡ some n → HoldsIn schema ms start p → HoldsIn schema ms start n
-  stopped_in_held (phase.Unsealed o) n e h = stopped_by o.rows n (stops_at o.stage) e h
-  stopped_in_held (phase.Retained kept) n e h = absurd (none_some n e)
-  stopped_in_held (phase.Committed kept) n e h = absurd (none_some n e)
-  stopped_in_held (phase.Discarded d) n e h = absurd (none_some n e)
+started_held setup p q meta now log le = back log (started_of setup p q meta now) le (so_far.started_held setup p q meta now log)
 
 pub forced_held : (r : Consumer) (n : Phase) (log : Log) → forced r.phase ≡ Some n → IsHeld log r → IsHeld log (record r { phase = n; waited = None })
-forced_held r n log e h = forced_in_held r.settings.schema (messages_of log r.partition) r.start r.phase n e h
+forced_held r n log e h = back log (record r { phase = n; waited = None }) (starts log r h) (so_far.forced_held r n log e (forget log r h))
 
 pub stopped_held : (r : Consumer) (n : Phase) (log : Log) → stopped r.phase ≡ Some n → IsHeld log r → IsHeld log (record r { phase = n; waited = None })
-stopped_held r n log e h = stopped_in_held r.settings.schema (messages_of log r.partition) r.start r.phase n e h
+stopped_held r n log e h = back log (record r { phase = n; waited = None }) (starts log r h) (so_far.stopped_held r n log e (forget log r h))
 
 -- a log that is told has one answer
 pub consumes_told : (log : Log) (after : FeedMeaning) (old new : Consumer) (max : ℕ) (now : Moment) (u : Unit {0})
@@ -86,4 +32,5 @@ pub consumes_told : (log : Log) (after : FeedMeaning) (old new : Consumer) (max 
 consumes_told log after old new max now u h =
     let told = h.0.sees.0 in
     let seen = h.0.sees.1 in
-    ((λ j. record { told = told j; seen = seen j }), subst (λ l. consumed old max now l ≡ Some new) seen h.1)
+    let own = h.0.own in
+    ((λ j. record { told = told j; seen = seen j; own = own j }), subst (λ l. consumed old max now l ≡ Some new) seen h.1)

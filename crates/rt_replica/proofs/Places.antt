@@ -1,5 +1,7 @@
 -- The messages of a range, and their rows with their offsets.
-use Rattle.std.proofs.Common.{◌≡◌, ◌+◌, ◌-◌, ◌≤◌, ◌<◌, ℕ, suc, Bool, true, false, cond, nat_lt, List, [], ◌∷◌, ◌++◌, length, map, take, drop, filter, Option, Some, None, refl, ap, sym, ◌∙◌, add-zero, append-nil, arith}
+use Rattle.std.proofs.Common.{◌≡◌, ◌+◌, ◌-◌, ◌≤◌, ◌<◌, ℕ, suc, Bool, true, false, cond, nat_lt, List, [], ◌∷◌, ◌++◌, length, map, take, drop, filter, Option, Some, None, refl, ap, sym, ◌∙◌, add-zero, append-nil, arith, lt_of_not-le}
+use mathlib.Core.Logic.{dite}
+use native.Mathlib.Decide.{dec_le}
 use Rattle.std.specs.List.{filter_map, cons_option}
 use Rattle.std.proofs.lemmas.Bool.{cond-true, lt-ltb}
 use Rattle.std.proofs.lemmas.List.{length-drop, length-take-le, append_assoc, drop-drop, drop-append-le, take-append-le}
@@ -20,14 +22,22 @@ between_append ms a b c h k =
     ∙ ap (λ rest. take (b - a) (drop a ms) ++ take (c - b) rest)
     (drop-drop (b - a) a ms ∙ ap (λ n. drop n ms) (omega (arith, h)))
 
-pub length_between : (ms : List (List ℕ)) (a b : ℕ) → a ≤ b → b ≤ length ms → length (messages_between ms a b) ≡ b - a
+pub length_between : (ms : List (List ℕ)) (a b : ℕ) → a ≤ b → b ≤ a + (length ms - a) → length (messages_between ms a b) ≡ b - a
 length_between ms a b h k = length-take-le (b - a) (drop a ms) (omega (arith, h, k, length-drop a ms))
 
 -- a range stays as it is when messages come behind it
-pub between_more : (ms more : List (List ℕ)) (a b : ℕ) → a ≤ b → b ≤ length ms → messages_between (ms ++ more) a b ≡ messages_between ms a b
-between_more ms more a b h k =
-    ap (take (b - a)) (drop-append-le a ms more (omega (arith, h, k)))
-    ∙ take-append-le (b - a) (drop a ms) more (omega (arith, h, k, length-drop a ms))
+pub between_more : (ms more : List (List ℕ)) (a b : ℕ) → a ≤ b → b ≤ a + (length ms - a) → messages_between (ms ++ more) a b ≡ messages_between ms a b
+between_more ms more a b h k = dite (dec_le a (length ms)) inside past
+  where
+    inside : a ≤ length ms → messages_between (ms ++ more) a b ≡ messages_between ms a b
+    inside le =
+        ap (take (b - a)) (drop-append-le a ms more le)
+        ∙ take-append-le (b - a) (drop a ms) more (omega (arith, h, k, le, length-drop a ms))
+
+    past : (a ≤ length ms → ⊥) → messages_between (ms ++ more) a b ≡ messages_between ms a b
+    past not =
+        let none : b - a ≡ 0 = (let lt = lt_of_not-le not in omega (arith, h, k, lt)) in
+        ap (λ n. take n (drop a (ms ++ more))) none ∙ sym (ap (λ n. take n (drop a ms)) none)
 
 -- the rows of two lists of messages, one after the other
 pub placed_append : (schema : Schema) (offset : ℕ) (ms ns : List (List ℕ)) → placed_from schema offset (ms ++ ns) ≡ placed_from schema offset ms ++ placed_from schema (offset + length ms) ns

@@ -7,65 +7,106 @@ use Rattle.rt_base.specs.declared.numbers.Partition.{Partition}
 use Rattle.rt_base.specs.declared.numbers.Sequence.{Sequence}
 use Rattle.rt_lists.specs.Members.{Has}
 use Rattle.rt_model.specs.declared.request.Request.{Request}
+use Rattle.rt_model.specs.declared.request.RequestKind.{RequestKind}
+use Rattle.rt_model.specs.declared.request.RequestKind.TheVariants as kind
 use Rattle.rt_model.specs.declared.request.RequestNumber.{RequestNumber}
+use Rattle.rt_model.specs.declared.seg_meta.SeenMeta.{SeenMeta}
 use Rattle.rt_model.specs.declared.sent.Sent.TheVariants as sent
 use Rattle.rt_model.specs.declared.setup.Setup.{Setup}
+use Rattle.rt_segment.specs.Segment.{SealedSegment}
+use Rattle.rt_segment.specs.Spelling.{file_of}
 use Rattle.rt_past.specs.Past.{Past}
 use Rattle.rt_past.specs.Files.{IsRightFile, Stands}
-use Rattle.rt_past.specs.Segments.{HadEntry, IsAssignedTo, IsBegun, WasDone}
+use Rattle.rt_past.specs.Segments.{HadEntry, IsAssignedTo, IsBegun, IsBegunAs, WasDone}
 use Rattle.rt_consumer.specs.declared.phase.Phase.{Phase}
 use Rattle.rt_consumer.specs.declared.phase.Phase.TheVariants as phase
 use Rattle.rt_consumer.specs.declared.stage.Stage.{Stage}
 use Rattle.rt_consumer.specs.declared.stage.Stage.TheVariants.{InitialConsuming, CatchingUp, Holding, ConsumingToOnline, Retaining, Building, Starting, Uploading, Ending}
 use Rattle.rt_consumer.specs.declared.waited.Waited.{Waited}
+use Rattle.rt_consumer.specs.declared.waited.Waited.TheVariants.{Step, Extend}
 use Rattle.rt_consumer.specs.declared.consumer.Consumer.{Consumer}
-use Rattle.rt_consumer.specs.Consumer.{cur, number_of, settings_of}
+use Rattle.rt_consumer.specs.Consumer.{cur_in, number_of, settings_of}
+use Rattle.rt_consumer.specs.Requests.{kind_at}
 use Rattle.rt_replica.specs.Held.{IsHeld}
 
--- a right file of the segment, from its start up to an offset, stands at the path
-abbrev pub StandsRight : Setup → Past → Partition → Sequence → Offset → Offset → List ℕ → Type 0
-StandsRight setup past p s start end path =
-    (bytes : List ℕ) × Stands past.files path bytes × IsRightFile setup past p s start end bytes
+-- ---- what it asked
 
--- a commit that it was told of was written, and its own upload stands once that was answered
-abbrev pub IsToldAt : Setup → Past → Partition → Sequence → Offset → Offset → Stage → Type 0
-IsToldAt setup past p s start x (ConsumingToOnline end done) = WasDone past.history p s done
-IsToldAt setup past p s start x (Retaining done) = WasDone past.history p s done
-IsToldAt setup past p s start x (Ending reason built path) = StandsRight setup past p s start x path
-IsToldAt setup past p s start x InitialConsuming = Unit {0}
-IsToldAt setup past p s start x (CatchingUp target reason) = Unit {0}
-IsToldAt setup past p s start x (Holding reason) = Unit {0}
-IsToldAt setup past p s start x (Building reason) = Unit {0}
-IsToldAt setup past p s start x (Starting reason built) = Unit {0}
-IsToldAt setup past p s start x (Uploading reason built) = Unit {0}
-
-abbrev pub IsToldIn : Setup → Past → Partition → Sequence → Offset → Phase → Type 0
-IsToldIn setup past p s start (phase.Unsealed o) = IsToldAt setup past p s start o.rows.end o.stage
-IsToldIn setup past p s start (phase.Retained kept) = WasDone past.history p s kept.done
-IsToldIn setup past p s start (phase.Committed kept) = WasDone past.history p s kept.done
-IsToldIn setup past p s start (phase.Discarded d) = Unit {0}
-
--- an instance asked with this number, in this incarnation, about the segment at an offset
-pub record WasAsked (past : Past) (i : Instance) (incarnation : ℕ) (p : Partition) (s : Sequence) (x : Offset) (number : RequestNumber) : Type 0 where
+-- an instance asked with this number, in this incarnation, about the segment at an offset, for this
+pub record WasAsked (past : Past) (i : Instance) (incarnation : ℕ) (p : Partition) (s : Sequence) (x : Offset) (number : RequestNumber) (asks : RequestKind) : Type 0 where
   pub own : (number.instance ≡ i) × (number.incarnation ≡ incarnation)
   pub request : Request
   pub was_sent : Has past.sent (sent.Request request)
   pub numbered : request.number ≡ number
   pub segment : (request.partition ≡ p) × (request.sequence ≡ s)
   pub offset : request.offset ≡ x
+  pub kind : request.kind ≡ asks
 
--- what is waited for was asked, at the offset that the replica is at
-abbrev pub WaitsFor : Past → Instance → ℕ → Partition → Sequence → Offset → Option Waited → Type 0
-WaitsFor past i incarnation p s x None = Unit {0}
-WaitsFor past i incarnation p s x (Some waited) = WasAsked past i incarnation p s x (number_of waited)
+-- the kind of the request that is due in a phase, by the name of the segment: after a stop it is that, whether it is
+-- processed yet or not
+abbrev pub IsStep : List ℕ → Phase → RequestNumber → RequestKind → Type 0
+IsStep name (phase.Unsealed o) number asks = kind_at name number o.stage ≡ Some asks
+IsStep name (phase.Discarded d) number asks = asks ≡ kind.Stopped
+IsStep name (phase.Retained kept) number asks = ⊥
+IsStep name (phase.Committed kept) number asks = ⊥
 
--- a replica of this instance, in this incarnation of it
+-- the kind of the request that is waited for: the one that is due, or one for more time
+abbrev pub IsAskedIn : List ℕ → Phase → Waited → RequestKind → Type 0
+IsAskedIn name ph (Step number) asks = IsStep name ph number asks
+IsAskedIn name ph (Extend number) asks = (millis : ℕ) × (asks ≡ kind.Extend millis)
+
+-- what is waited for was asked, at the offset that the replica is at, and is what its phase asks for
+abbrev pub WaitsFor : Past → Instance → ℕ → Partition → Sequence → List ℕ → Phase → Option Waited → Type 0
+WaitsFor past i incarnation p s name ph None = Unit {0}
+WaitsFor past i incarnation p s name ph (Some waited) =
+    (asks : RequestKind) × WasAsked past i incarnation p s (cur_in ph) (number_of waited) asks
+    × IsAskedIn name ph waited asks
+
+-- ---- what it was told
+
+-- the file that a replica built is a right one of the segment, from its start up to an offset, and stands at the path at
+-- which the replica itself uploaded it, in this incarnation
+pub record HasUploaded (setup : Setup) (past : Past) (i : Instance) (incarnation : ℕ) (p : Partition) (s : Sequence) (start end : Offset) (built : SealedSegment) (path : List ℕ) : Type 0 where
+  pub stands : Stands past.files path (file_of built)
+  pub right : IsRightFile setup past p s start end (file_of built)
+  pub number : RequestNumber
+  pub asked : WasAsked past i incarnation p s end number (kind.Upload path (file_of built))
+
+-- what is told at a stage: a commit was, and the built file, up to an offset, is at a path
+abbrev pub ToldAt : (SeenMeta → Type 0) → (Offset → SealedSegment → List ℕ → Type 0) → Offset → Stage → Type 0
+ToldAt Was Up x (ConsumingToOnline end done) = Was done
+ToldAt Was Up x (Retaining done) = Was done
+ToldAt Was Up x (Ending reason built path) = Up x built path
+ToldAt Was Up x InitialConsuming = Unit {0}
+ToldAt Was Up x (CatchingUp target reason) = Unit {0}
+ToldAt Was Up x (Holding reason) = Unit {0}
+ToldAt Was Up x (Building reason) = Unit {0}
+ToldAt Was Up x (Starting reason built) = Unit {0}
+ToldAt Was Up x (Uploading reason built) = Unit {0}
+
+abbrev pub ToldIn : (SeenMeta → Type 0) → (Offset → SealedSegment → List ℕ → Type 0) → Phase → Type 0
+ToldIn Was Up (phase.Unsealed o) = ToldAt Was Up o.rows.end o.stage
+ToldIn Was Up (phase.Retained kept) = Was kept.done
+ToldIn Was Up (phase.Committed kept) = Was kept.done
+ToldIn Was Up (phase.Discarded d) = Unit {0}
+
+-- a commit that it was told of was written, and its own upload stands once that was answered
+abbrev pub IsToldAt : Setup → Past → Instance → ℕ → Partition → Sequence → Offset → Offset → Stage → Type 0
+IsToldAt setup past i incarnation p s start x stage =
+    ToldAt (WasDone past.history p s) (HasUploaded setup past i incarnation p s start) x stage
+
+abbrev pub IsToldIn : Setup → Past → Instance → ℕ → Partition → Sequence → Offset → Phase → Type 0
+IsToldIn setup past i incarnation p s start ph =
+    ToldIn (WasDone past.history p s) (HasUploaded setup past i incarnation p s start) ph
+
+-- ---- a replica of this instance, in this incarnation of it
+
 pub record IsReplica (setup : Setup) (past : Past) (i : Instance) (incarnation : ℕ) (r : Consumer) : Type 0 where
   pub settings : r.settings ≡ settings_of setup
   pub partition : r.partition.0 < setup.partitions
   pub assigned : IsAssignedTo setup r.partition i
   pub entered : HadEntry past.history r.partition r.sequence
   pub begun : IsBegun past.history r.partition r.sequence r.start
+  pub named : IsBegunAs past.history r.partition r.sequence r.name
   pub held : IsHeld past.log r
-  pub told : IsToldIn setup past r.partition r.sequence r.start r.phase
-  pub waited : WaitsFor past i incarnation r.partition r.sequence (cur r) r.waited
+  pub told : IsToldIn setup past i incarnation r.partition r.sequence r.start r.phase
+  pub waited : WaitsFor past i incarnation r.partition r.sequence r.name r.phase r.waited

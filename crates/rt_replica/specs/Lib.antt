@@ -1,2 +1,4 @@
 pub mod Held
+pub mod HeldSoFar
 pub mod Lasting
+pub mod Own

@@ -15,10 +15,11 @@ ghost use Rattle.rt_model.specs.declared.seg_meta.SeenMeta.{SeenMeta};
 ghost use Rattle.rt_model.specs.declared.seg_meta.SegMeta.{SegMeta};
 ghost use Rattle.rt_model.specs.declared.setup.Setup.{Setup};
 ghost use Rattle.rt_past.specs.Past.{Past, Grows, with_request};
+ghost use Rattle.rt_past.specs.View.{Within};
 ghost use Rattle.rt_past.specs.IsPast.{IsPast};
 ghost use Rattle.rt_past.specs.Replies.{IsReply};
 ghost use Rattle.rt_past.specs.Requests.{IsRequest};
-ghost use Rattle.rt_past.specs.Segments.{HadEntry, IsAssignedTo, IsBegun, IsIncarnation, WasDone};
+ghost use Rattle.rt_past.specs.Segments.{HadEntry, IsAssignedTo, IsBegun, IsBegunAs, IsIncarnation, WasDone};
 ghost use Rattle.rt_consumer.specs.declared.consumer.Consumer.{Consumer};
 ghost use Rattle.rt_consumer.specs.declared.phase.Phase.{Phase};
 ghost use Rattle.rt_consumer.specs.declared.waited.Waited.{Waited};
@@ -26,12 +27,13 @@ ghost use Rattle.rt_consumer.specs.Consumer.{IsConsumer, extends_in, number_of, 
 ghost use Rattle.rt_consumer.specs.Batch.{consumed};
 ghost use Rattle.rt_consumer.specs.Replies.{replied};
 ghost use Rattle.rt_consumer.specs.Requests.{IsSealedOf, filed, forced, stopped, learned, kind_in, request_with};
-ghost use Rattle.rt_replica.specs.Lasting.{IsReplica};
+ghost use Rattle.rt_replica.specs.Lasting.{IsAskedIn, IsReplica};
 
-/// What lasts of a replica stays true as the past grows.
+/// What lasts of a replica is true over each past that has all of the one it was true of; so it stays
+/// true as the past grows.
 pub fn what_lasts_stays_true()
-    ensures { (setup : Setup) (a b : Past) (i : Instance) (incarnation : ℕ) (r : Consumer) → Grows a b
-        → IsReplica setup a i incarnation r → IsReplica setup b i incarnation r }
+    ensures { (setup : Setup) (a b : Past) (i : Instance) (incarnation : ℕ) (r : Consumer)
+        → Within a b → IsReplica setup a i incarnation r → IsReplica setup b i incarnation r }
 {}
 
 /// What lasts is true of a replica that begins, and its own steps keep it: as it consumes from the stream, is forced or
@@ -39,6 +41,7 @@ pub fn what_lasts_stays_true()
 pub fn each_step_keeps_what_lasts()
     ensures started { (setup : Setup) (past : Past) (i : Instance) (incarnation : ℕ) (p : Partition) (q : Sequence) (meta : SegMeta) (now : Moment)
         → IsPast setup past → p.0 < setup.partitions → IsAssignedTo setup p i → HadEntry past.history p q → IsBegun past.history p q meta.start
+        → IsBegunAs past.history p q meta.name
         → IsReplica setup past i incarnation (started_of setup p q meta now) }
     ensures consumed { (setup : Setup) (past : Past) (i : Instance) (incarnation : ℕ) (r new : Consumer) (max : ℕ) (now : Moment)
         → IsReplica setup past i incarnation r → consumed r max now past.log ≡ Some new → IsReplica setup past i incarnation new }
@@ -71,6 +74,6 @@ pub fn a_replica_asks_what_is_right()
         → IsRequest setup past (request_with r number (kind.Extend millis)) }
     ensures waits { (setup : Setup) (past : Past) (i : Instance) (incarnation : ℕ) (r : Consumer) (number : RequestNumber) (q : RequestKind) (w : Waited)
         → IsReplica setup past i incarnation r → number.instance ≡ i → number.incarnation ≡ incarnation → number_of w ≡ number
-        → Grows past (with_request past (request_with r number q))
+        → IsAskedIn r.name r.phase w q → Grows past (with_request past (request_with r number q))
         → IsReplica setup (with_request past (request_with r number q)) i incarnation (record r { waited = Some w }) }
 {}

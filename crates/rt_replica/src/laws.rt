@@ -1,4 +1,4 @@
-ghost use Rattle.std.specs.Prelude.{◌≡◌, ◌≤◌, ℕ, Some, None, Ok, false, length};
+ghost use Rattle.std.specs.Prelude.{◌≡◌, ◌≤◌, ◌↔◌, ℕ, Some, None, IsSome, Ok, Err, true, false, length};
 ghost use Rattle.rt_base.specs.declared.numbers.Moment.{Moment};
 ghost use Rattle.rt_base.specs.declared.numbers.Offset.{Offset};
 ghost use Rattle.rt_segment.specs.Segment.{SealedSegment};
@@ -15,7 +15,11 @@ ghost use Rattle.rt_consumer.specs.declared.phase.Phase.{Phase};
 ghost use Rattle.rt_consumer.specs.Consumer.{IsConsumer, started_of};
 ghost use Rattle.rt_consumer.specs.Replies.{is_answer, replied};
 ghost use Rattle.rt_consumer.specs.Batch.{Consumes, consumed};
-ghost use Rattle.rt_consumer.specs.Requests.{IsSealedOf, filed, forced, stopped, learned};
+ghost use Rattle.rt_consumer.specs.Requests.{Builds, IsSealedOf, Requests, filed, forced, is_ready, learned, stopped};
+ghost use Rattle.rt_consumer.specs.Next.{next_of};
+ghost use Rattle.rt_consumer.specs.declared.next.ReplicaDue.TheVariants.{Ask, Build, Consume};
+ghost use Rattle.rt_consumer.specs.declared.refused.ReplicaRefused.TheVariants.{NotDue};
+ghost use Rattle.rt_msgs.specs.Numbered.{Numbered};
 ghost use Rattle.rt_replica.specs.Held.{IsHeld};
 
 /// A replica that starts within its log holds the rows of all its messages from its start up to `cur`, and stays so: when
@@ -50,4 +54,16 @@ pub fn a_told_log_has_one_outcome()
 #[tactic(auto, using(crate::proofs::Turns::ignored))]
 pub fn an_answer_to_another_number_changes_nothing()
     ensures { (r : Consumer) (reply : Reply) → is_answer r.waited reply ≡ false → replied r reply ≡ r }
+{}
+
+/// What a replica has to do next can be done, and what can be done is next: consuming exactly where
+/// there is something for it and the call is due, and building and asking exactly where the calls are.
+pub fn what_is_due_can_be_done()
+    ensures consumes { (r : Consumer) (size : Offset) (now : Moment) (max : ℕ) (log : Log)
+        → (next_of r size now ≡ Some Consume)
+        ↔ ((is_ready r size now ≡ true) × IsSome (consumed r max now log)) }
+    ensures builds { (r : Consumer) (size : Offset) (now : Moment) → (next_of r size now ≡ Some Build)
+        ↔ ((new : Consumer) → Builds r new (Err NotDue) → ⊥) }
+    ensures asks { (r : Consumer) (size : Offset) (now : Moment) → (next_of r size now ≡ Some Ask)
+        ↔ ((new : Consumer) (before after : Numbered) → Requests r new before after (Err NotDue) → ⊥) }
 {}

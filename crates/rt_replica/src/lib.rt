@@ -4,6 +4,7 @@
 
 mod lasting;
 mod laws;
+mod own_laws;
 mod replica;
 
 pub use lasting::{
@@ -11,7 +12,11 @@ pub use lasting::{
 };
 pub use laws::{
     a_told_log_has_one_outcome, an_answer_to_another_number_changes_nothing,
-    what_is_held_stays_held,
+    what_is_due_can_be_done, what_is_held_stays_held,
+};
+pub use own_laws::{
+    a_replica_asks_what_is_its_own, what_is_its_own_is_kept,
+    what_is_its_own_lasts_over_a_right_past, what_is_its_own_stays_true,
 };
 pub use replica::Replica;
-pub use rt_consumer::ReplicaRefused;
+pub use rt_consumer::{ReplicaDue, ReplicaRefused, takes_messages};

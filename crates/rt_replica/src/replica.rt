@@ -5,10 +5,11 @@ ghost use Rattle.rt_consumer.specs.Consumer.{started_of, state_of, cur, end_of, 
 ghost use Rattle.rt_consumer.specs.Replies.{is_answer, replied};
 ghost use Rattle.rt_consumer.specs.Batch.{Consumes};
 ghost use Rattle.rt_consumer.specs.Requests.{Does, Builds, Requests, Extends, forced, stopped, builds_in, asks_now, is_due, size_in, is_ready, rows_in, learns_in, learned};
+ghost use Rattle.rt_consumer.specs.Next.{next_of};
 ghost use Rattle.rt_consumer.specs.Serving.{held_in, file_in, told_in};
 
 use rt_base::{Moment, Offset, Partition, Sequence};
-use rt_consumer::{Consumer, ReplicaRefused};
+use rt_consumer::{Consumer, ReplicaDue, ReplicaRefused};
 use rt_model::{ReplicaState, Reply, Request, SeenMeta, SegMeta, Setup};
 use rt_msgs::Numbers;
 use rt_mutable::MutableSegment;
@@ -161,6 +162,13 @@ impl Replica {
         ensures { result ≡ is_ready self.now length now }
     {
         self.consumer.ready(length, now)
+    }
+
+    /// What the replica has to do next, over a log of this length; None where it has to wait. Takes no memory.
+    pub fn next(&self, length: Offset, now: Moment) -> Option<ReplicaDue>
+        ensures { result ≡ next_of self.now length now }
+    {
+        self.consumer.next(length, now)
     }
 
     /// Whether `force` is due. Takes no memory.
