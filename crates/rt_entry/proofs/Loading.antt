@@ -1,6 +1,10 @@
 -- A wanted file is loaded.
-use Rattle.std.proofs.Common.{◌≡◌, ℕ, ◌&&◌, Bool, true, false, cond, List, Option, Some, None, is_some, Result, Ok, Err, IfSome, refl, sym, ap, subst}
+use Rattle.std.proofs.Common.{◌≡◌, ◌==◌, ℕ, ◌&&◌, Bool, true, false, cond, List, Option, Some, None, is_some, Result, Ok, Err, IfSome, refl, sym, ap, subst, ◌∙◌}
+use Rattle.std.specs.Str.{bytes_eq}
+use Rattle.std.proofs.lemmas.Bool.{eqb-true}
+use Rattle.std.proofs.lemmas.Slice.Eq.{bytes_eq-Decides}
 use Rattle.rt_base.specs.declared.header.Header.{Header}
+use Rattle.rt_base.specs.declared.numbers.Offset.{Offset}
 use Rattle.rt_base.specs.declared.numbers.Partition.{Partition}
 use Rattle.rt_base.specs.declared.numbers.Sequence.{Sequence}
 use Rattle.rt_schema.specs.declared.schema.Schema.{Schema}
@@ -14,6 +18,7 @@ use Rattle.rt_model.specs.declared.commit.Commit.{Commit}
 use Rattle.rt_model.specs.declared.seg_meta.SeenMeta.{SeenMeta}
 use Rattle.rt_model.specs.declared.status.Status.{Status}
 use Rattle.rt_model.specs.declared.status.Status.TheVariants.{Done}
+use Rattle.rt_model.proofs.Histories.{same_partition, same_sequence}
 use Rattle.rt_deep.specs.declared.refused.DeepRefused.{DeepRefused}
 use Rattle.rt_deep.specs.declared.refused.DeepRefused.TheVariants as deep
 use Rattle.rt_deep.specs.Meaning.{Meaning}
@@ -173,3 +178,92 @@ loads_fit before after schema p q old new (Err NotDue) (Some commit) h fits = su
 loads_fit before after schema p q old new (Err StoreFault) (Some commit) h fits = subst (FitsSchema schema) (sym h.2.1) fits
 loads_fit before after schema p q old new (Err (BadFile wanted found)) (Some commit) h fits = subst (FitsSchema schema) (sym h.2.1) fits
 loads_fit before after schema p q old new (Err Memory) (Some commit) h fits = subst (FitsSchema schema) (sym h.2) fits
+
+-- ---- what is loaded is what was read
+
+abbrev gives : List ℕ → Result (List ℕ) DeepRefused
+gives bytes = Ok bytes
+
+abbrev reads : SealedSegment → Result SealedSegment SegmentRefused
+reads file = Ok file
+
+-- the file was read of the bytes that were answered, and has the header that is wanted and the schema's columns
+pub record IsReadOf (schema : Schema) (wanted : Header) (answer : Result (List ℕ) DeepRefused) (file : SealedSegment) : Type 0 where
+  pub bytes : List ℕ
+  pub answered : answer ≡ gives bytes
+  pub read : read_file bytes ≡ reads file
+  pub header : header_of file ≡ wanted
+  pub columns : are_columns file.columns schema.columns ≡ true
+
+first_true : (a b : Bool) → (a && b) ≡ true → a ≡ true
+first_true true b h = refl
+first_true false b h = absurd (cc)
+
+same_offset : (a b : Offset) → a.0 ≡ b.0 → a ≡ b
+same_offset a b e = ap (λ n. record { 0 = n }) e
+
+abbrev header_at : Partition → Sequence → Offset → Offset → ℕ → List ℕ → Header
+header_at p q start end rows digest = record { partition = p; sequence = q; range = record { start = start; end = end }; rows = rows; digest = digest }
+
+header_by_parts : (a b : Header) → a.partition ≡ b.partition → a.sequence ≡ b.sequence → a.range.start ≡ b.range.start → a.range.end ≡ b.range.end
+    → a.rows ≡ b.rows → a.digest ≡ b.digest → a ≡ b
+header_by_parts a b p q s e r d =
+    ap (λ x. header_at x a.sequence a.range.start a.range.end a.rows a.digest) p
+    ∙ ap (λ x. header_at b.partition x a.range.start a.range.end a.rows a.digest) q
+    ∙ ap (λ x. header_at b.partition b.sequence x a.range.end a.rows a.digest) s
+    ∙ ap (λ x. header_at b.partition b.sequence b.range.start x a.rows a.digest) e
+    ∙ ap (λ x. header_at b.partition b.sequence b.range.start b.range.end x a.digest) r
+    ∙ ap (λ x. header_at b.partition b.sequence b.range.start b.range.end b.rows x) d
+
+same_header_is : (a b : Header) → same_header a b ≡ true → a ≡ b
+same_header_is a b h =
+    let partition = a.partition.0 == b.partition.0 in
+    let sequence = a.sequence.0 == b.sequence.0 in
+    let start = a.range.start.0 == b.range.start.0 in
+    let end = a.range.end.0 == b.range.end.0 in
+    let rows = a.rows == b.rows in
+    let digest = bytes_eq a.digest b.digest in
+    let to2 = partition && sequence in
+    let to3 = to2 && start in
+    let to4 = to3 && end in
+    let to5 = to4 && rows in
+    let is5 = first_true to5 digest h in
+    let is4 = first_true to4 rows is5 in
+    let is3 = first_true to3 end is4 in
+    let is2 = first_true to2 start is3 in
+    header_by_parts a b
+    (same_partition a.partition b.partition (eqb-true a.partition.0 b.partition.0 (first_true partition sequence is2)))
+    (same_sequence a.sequence b.sequence (eqb-true a.sequence.0 b.sequence.0 (both_true partition sequence is2)))
+    (same_offset a.range.start b.range.start (eqb-true a.range.start.0 b.range.start.0 (both_true to2 start is3)))
+    (same_offset a.range.end b.range.end (eqb-true a.range.end.0 b.range.end.0 (both_true to3 end is4)))
+    (eqb-true a.rows b.rows (both_true to4 rows is5))
+    ((bytes_eq-Decides a.digest b.digest).0 (both_true to5 digest h))
+
+read_if : (schema : Schema) (wanted : Header) (bytes : List ℕ) (f file : SealedSegment) (b : Bool) → read_file bytes ≡ reads f → is_right schema wanted f ≡ b
+    → cond b (the_file f) (Err (BadFile wanted (Some (header_of f)))) ≡ the_file file → IsReadOf schema wanted (gives bytes) file
+read_if schema wanted bytes f file true read right e =
+    subst (IsReadOf schema wanted (gives bytes)) (unwrapped f file e)
+    (record {
+      bytes = bytes;
+      answered = refl;
+      read = read;
+      header = same_header_is (header_of f) wanted (first_true (same_header (header_of f) wanted) (are_columns f.columns schema.columns) right);
+      columns = both_true (same_header (header_of f) wanted) (are_columns f.columns schema.columns) right;
+    })
+  where
+    unwrapped : (a b : SealedSegment) → the_file a ≡ the_file b → a ≡ b
+    unwrapped a b e = cc
+read_if schema wanted bytes f file false read right e = absurd (cc)
+
+read_by : (schema : Schema) (wanted : Header) (bytes : List ℕ) (r : Result SealedSegment SegmentRefused) (file : SealedSegment) → read_file bytes ≡ r
+    → checked schema wanted r ≡ the_file file → IsReadOf schema wanted (gives bytes) file
+read_by schema wanted bytes (Ok f) file read e = read_if schema wanted bytes f file (is_right schema wanted f) read refl e
+read_by schema wanted bytes (Err x) file read e = absurd (cc)
+
+pub got_is : (schema : Schema) (wanted : Header) (answer : Result (List ℕ) DeepRefused) (file : SealedSegment) → got schema wanted answer ≡ the_file file
+    → IsReadOf schema wanted answer file
+got_is schema wanted (Ok bytes) file e = read_by schema wanted bytes (read_file bytes) file refl e
+got_is schema wanted (Err deep.Absent) file e = absurd (cc)
+got_is schema wanted (Err (deep.OtherBytes kept offered)) file e = absurd (cc)
+got_is schema wanted (Err deep.Failed) file e = absurd (cc)
+got_is schema wanted (Err deep.Memory) file e = absurd (cc)

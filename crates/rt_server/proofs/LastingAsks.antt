@@ -20,9 +20,9 @@ use Rattle.rt_consumer.specs.declared.refused.ReplicaRefused.TheVariants as repl
 use Rattle.rt_consumer.specs.declared.waited.Waited.{Waited}
 use Rattle.rt_consumer.specs.declared.waited.Waited.TheVariants.{Step, Extend}
 use Rattle.rt_consumer.specs.Consumer.{extends_in, number_of}
-use Rattle.rt_replica.specs.Lasting.{IsReplica}
+use Rattle.rt_replica.specs.Lasting.{IsAskedIn, IsReplica}
 use Rattle.rt_consumer.specs.Requests.{Extends, Requests, request_with}
-use Rattle.rt_replica.proofs.Asking.{asked_lasts, extend_right, request_right}
+use Rattle.rt_replica.proofs.Asking.{asked_lasts, extend_right, request_right, step_asked}
 use Rattle.rt_entry.specs.declared.entry.Entry.TheVariants.{Replica}
 use Rattle.rt_entry.specs.declared.refused.ServerRefused.{ServerRefused}
 use Rattle.rt_entry.specs.declared.refused.ServerRefused.TheVariants.{NotDue, Memory}
@@ -36,14 +36,14 @@ use Rattle.rt_server.proofs.LastingGrows.{server_grows}
 use Rattle.rt_server.proofs.LastingPuts.{put_over, replica_held, segment}
 use Rattle.rt_server.proofs.Unchanged.{asks_for_stay, asks_stay}
 
-request_grows : (past : Past) (q : Request) → Grows past (with_request past q)
+pub request_grows : (past : Past) (q : Request) → Grows past (with_request past q)
 request_grows past q =
     record { log = log_same past.log; history = front_same past.history; files = front_same past.files; sent = front_push past.sent (sent.Request q) }
 
-abbrev server_of : Setup → Numbered → Segments → ServerState
+abbrev pub server_of : Setup → Numbered → Segments → ServerState
 server_of setup numbers table = record { setup = setup; numbers = numbers; table = table }
 
-abbrev next_of : Numbered → Numbered
+abbrev pub next_of : Numbered → Numbered
 next_of n = record n { made = n.made + 1 }
 
 -- a replica asks something, and waits for the answer
@@ -51,6 +51,7 @@ pub record AsksThis (number : RequestNumber) (w : Waited) (r next : Consumer) (b
   pub numbered : number_of w ≡ number
   pub asked : request ≡ request_with r number request.kind
   pub waits : next ≡ record r { waited = Some w }
+  pub due : IsAskedIn r.name r.phase w request.kind
   pub numbers : after ≡ next_of before
 
 module _ (setup : Setup) (past : Past) (old : ServerState) (k : IsServerOver setup past old) where
@@ -66,7 +67,6 @@ module _ (setup : Setup) (past : Past) (old : ServerState) (k : IsServerOver set
     exists = s.exists;
     incarnation = s.incarnation;
     counted = omega (arith, k.counted, length-append past.sent (sent.Request request ∷ []));
-    ascending = s.ascending;
     targets = s.targets;
     entries = s.entries;
   }
@@ -81,7 +81,7 @@ module _ (setup : Setup) (past : Past) (old : ServerState) (k : IsServerOver set
       let n = old.numbers in
       let waiting : IsReplica setup later n.instance n.incarnation (record r { waited = Some w }) =
       subst (λ x. IsReplica setup (with_request past x) n.instance n.incarnation (record r { waited = Some w })) (sym asks.asked)
-      (asked_lasts setup past n.instance n.incarnation r the_number request.kind w held.2 refl refl asks.numbered (request_grows past (request_with r the_number request.kind))) in
+      (asked_lasts setup past n.instance n.incarnation r the_number request.kind w held.2 refl refl asks.numbered asks.due (request_grows past (request_with r the_number request.kind))) in
       let entry : IsEntryOver setup later n.instance n.incarnation (segment p q) (Replica next) =
       (ap (λ (x : Consumer). segment x.partition x.sequence) asks.waits ∙ held.0, subst (IsReplica setup later n.instance n.incarnation) (sym asks.waits) waiting) in
       let table = put_back old.table p q (Replica next) in
@@ -101,10 +101,10 @@ module _ (setup : Setup) (past : Past) (old : ServerState) (k : IsServerOver set
 
 -- ---- the calls
 
-abbrev answered : Request → Result Request ServerRefused
+abbrev pub answered : Request → Result Request ServerRefused
 answered q = Ok q
 
-abbrev given : Request → Result Request ReplicaRefused
+abbrev pub given : Request → Result Request ReplicaRefused
 given q = Ok q
 
 abbrev refuse : ServerRefused → Result Request ServerRefused
@@ -113,10 +113,10 @@ refuse e = Err e
 same_answer : (a b : Request) → answered a ≡ answered b → a ≡ b
 same_answer a b e = cc
 
-no_answer : (e : ServerRefused) (q : Request) → answered q ≡ refuse e → ⊥
+pub no_answer : (e : ServerRefused) (q : Request) → answered q ≡ refuse e → ⊥
 no_answer e q h = cc
 
-answered_ok : (answer : Result Request ReplicaRefused) (request : Request) → answered request ≡ answered_as answer → answer ≡ given request
+pub answered_ok : (answer : Result Request ReplicaRefused) (request : Request) → answered request ≡ answered_as answer → answer ≡ given request
 answered_ok (Ok x) request e = ap given (sym (same_answer request x e))
 answered_ok (Err replica.NotDue) request e = absurd (no_answer NotDue request e)
 answered_ok (Err replica.Memory) request e = absurd (no_answer Memory request e)
@@ -124,7 +124,7 @@ answered_ok (Err replica.Memory) request e = absurd (no_answer Memory request e)
 abbrev some : RequestKind → Option RequestKind
 some x = Some x
 
-more_is : (b : Bool) (millis : ℕ) (k : RequestKind) → cond b (some (kind.Extend millis)) None ≡ some k → (b ≡ true) × (kind.Extend millis ≡ k)
+pub more_is : (b : Bool) (millis : ℕ) (k : RequestKind) → cond b (some (kind.Extend millis)) None ≡ some k → (b ≡ true) × (kind.Extend millis ≡ k)
 more_is true millis k e = (refl, cc)
 more_is false millis k e = absurd (cc)
 
@@ -143,7 +143,7 @@ module _ (setup : Setup) (past : Past) (old new : ServerState) (p : Partition) (
       let is = replica_held setup past old k p q r found in
       let right = request_right setup past old.numbers.instance old.numbers.incarnation r is.1 is.2 number refl refl request.kind c.0 k.incarnation (omega (arith, small)) in
       asked_over setup past old k p q new (Step number) r h.0 request found
-      (record { numbered = refl; asked = c.1; waits = c.2; numbers = c.3 })
+      (record { numbered = refl; asked = c.1; waits = c.2; due = step_asked r.name r.phase number request.kind c.0; numbers = c.3 })
       (subst (IsRequest setup past) (sym c.1) right) h.4 of kept
 
   asks_for_at : (millis : ℕ) (o : Option Consumer) → replica_of old.table p q ≡ o
@@ -157,7 +157,7 @@ module _ (setup : Setup) (past : Past) (old new : ServerState) (p : Partition) (
       let more = more_is (extends_in r.phase) millis request.kind c.0 in
       let right = extend_right setup past old.numbers.instance old.numbers.incarnation r is.1 is.2 number refl refl millis more.0 k.incarnation (omega (arith, small)) in
       asked_over setup past old k p q new (Extend number) r h.0 request found
-      (record { numbered = refl; asked = c.1; waits = c.2; numbers = c.3 })
+      (record { numbered = refl; asked = c.1; waits = c.2; due = (millis, sym more.1); numbers = c.3 })
       (subst (IsRequest setup past) (ap (request_with r number) more.1 ∙ sym c.1) right) h.4 of kept
 
   pub asks_over : Asks old.numbers new.numbers old.table new.table p q (Ok request) → HasAsked setup past old new p q request

@@ -35,11 +35,10 @@ use Rattle.rt_entry.specs.declared.refused.ServerRefused.TheVariants.{StoreFault
 use Rattle.rt_server.specs.Calls.{Forces, InTable, Restarts, Seals, SeesIdeal, Stops, Takes, answered_by, crashed, in_incarnation, replied_at, replied_in, restarted_in, seen_in, targets_of, with_targets}
 use Rattle.rt_server.specs.Kept.{IsServer}
 use Rattle.rt_server.specs.Lasting.{IsEmpty, IsServerOver}
-use Rattle.rt_server.specs.Table.{Segments, ServerState, replica_of, segment_cmp, with_table}
+use Rattle.rt_server.specs.Table.{Segments, ServerState, replica_of, with_table}
 use Rattle.rt_server.proofs.Kept.{crashed_is, forces_keep, replies_keep, seals_keep, stops_keep, takes_keep, targets_are}
 use Rattle.rt_server.proofs.LastingPuts.{Keeps, comes_keep, in_table, put_over, replica_held, through_over}
 use Rattle.rt_server.proofs.LastingReplicas.{builds_last, consumes_last, forces_last, replies_last, stops_last}
-use Rattle.rt_server.proofs.LastingTables.{none_sorted}
 
 -- ---- the replicas' calls
 
@@ -103,7 +102,7 @@ replies_over setup past old new reply result only k right y h =
 abbrev told : (X : Type 0) → X → Result X StoreRefused
 told X x = Ok x
 
-abbrev come : (X : Type 0) → X → Result X ServerRefused
+abbrev pub come : (X : Type 0) → X → Result X ServerRefused
 come X x = Ok x
 
 abbrev refuse : (X : Type 0) → ServerRefused → Result X ServerRefused
@@ -128,7 +127,7 @@ stated x = x.1
 
 -- ---- the ideal state is seen
 
-saw : (s new : ServerState) (m : Result Seen ServerRefused) (version : ℕ) → seen_in s m ≡ come (ℕ × ServerState) (version, new)
+pub saw : (s new : ServerState) (m : Result Seen ServerRefused) (version : ℕ) → seen_in s m ≡ come (ℕ × ServerState) (version, new)
     → (seen : Seen) × (m ≡ come Seen seen) × (new ≡ with_targets s (targets_of s.numbers.instance (entries_by seen.node)))
 saw s new (Ok seen) version e = (seen, refl, sym (ap stated (same_come (ℕ × ServerState) _ (version, new) e)))
 saw s new (Err x) version e = absurd (no_come (ℕ × ServerState) x (version, new) e)
@@ -146,11 +145,10 @@ sees_keep setup past before after old new result e k h =
         let targets = targets_of old.numbers.instance (entries_by w.node) in
         let over : IsServerOver setup past (with_targets old targets) = record {
           of_setup = k.of_setup;
-          kept = targets_are old.setup old.table targets k.kept;
+          kept = targets_are old.setup old.table old.numbers.instance (entries_by w.node) k.kept;
           exists = k.exists;
           incarnation = k.incarnation;
           counted = k.counted;
-          ascending = k.ascending;
           targets = inr (w, record { has = subst (λ (h : List Seen). Has h w) (sym e) there.0; is_ideal = there.1 }, refl);
           entries = k.entries;
         } in
@@ -162,7 +160,7 @@ sees_over setup past before after old new result e k h = (sees_keep setup past b
 
 -- ---- a crash, and a restart after it
 
-abbrev blank : Segments
+abbrev pub blank : Segments
 blank = record { targets = []; entries = [] }
 
 empty_over : (setup : Setup) (past : Past) (s : ServerState) → s.setup ≡ setup → IsServer s.setup blank → s.numbers.instance.0 < setup.servers
@@ -173,7 +171,6 @@ empty_over setup past s of_setup kept exists incarnation counted = record {
   exists = exists;
   incarnation = incarnation;
   counted = counted;
-  ascending = none_sorted segment_cmp;
   targets = inl refl;
   entries = λ x has. absurd has;
 }

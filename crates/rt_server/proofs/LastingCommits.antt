@@ -13,9 +13,12 @@ use Rattle.rt_stream.specs.Log.{messages_of}
 use Rattle.rt_model.specs.declared.replica_state.ReplicaState.TheVariants as state
 use Rattle.rt_model.specs.declared.seg_meta.SeenMeta.{SeenMeta}
 use Rattle.rt_model.specs.declared.setup.Setup.{Setup}
+use Rattle.rt_model.specs.Lawful.{IsLawfulHistory}
+use Rattle.rt_store.specs.Contents.{starting_of}
 use Rattle.rt_past.specs.Past.{Past}
 use Rattle.rt_past.specs.IsPast.{IsPast}
 use Rattle.rt_past.specs.Segments.{IsBegun, WasDone}
+use Rattle.rt_past.specs.View.{IsSound}
 use Rattle.rt_consumer.specs.declared.consumer.Consumer.{Consumer}
 use Rattle.rt_consumer.specs.declared.phase.Phase.{Phase}
 use Rattle.rt_consumer.specs.declared.phase.Phase.TheVariants as phase
@@ -24,18 +27,22 @@ use Rattle.rt_consumer.specs.declared.stage.Stage.{Stage}
 use Rattle.rt_consumer.specs.declared.stage.Stage.TheVariants.{InitialConsuming, CatchingUp, Holding, ConsumingToOnline, Retaining, Building, Starting, Uploading, Ending}
 use Rattle.rt_consumer.specs.Consumer.{IsConsumer, IsPhase, IsStage, cur, cur_in, end_of, state_at, state_of}
 use Rattle.rt_replica.specs.Held.{HoldsFile, HoldsIn, HoldsRows, messages_between}
-use Rattle.rt_replica.specs.Lasting.{IsReplica, IsToldAt, IsToldIn}
+use Rattle.rt_replica.specs.Lasting.{IsReplica, ToldAt, ToldIn}
 use Rattle.rt_consumer.specs.Serving.{told_at, told_in}
 use Rattle.rt_replica.proofs.Places.{rows_placed}
 use Rattle.rt_entry.specs.declared.entry.Entry.{Entry}
 use Rattle.rt_entry.specs.declared.entry.Entry.TheVariants.{Replica, Committed}
 use Rattle.rt_entry.specs.Entry.{IsEntry}
-use Rattle.rt_server.specs.Lasting.{IsCommittedOver, IsLoaded, IsServerOver}
+use Rattle.rt_server.specs.Kept.{IsServer}
+use Rattle.rt_server.specs.Lasting.{IsLoaded, IsServerOver}
 use Rattle.rt_server.specs.LastingRows.{CommittedRows, IsRightCommitted, IsToldOf, committed_rows, file_rows, phase_rows, sealed_rows, stage_rows}
+use Rattle.rt_server.specs.Own.{IsOwnServer}
 use Rattle.rt_server.specs.Table.{Segment, ServerState, entry_of}
 use Rattle.rt_server.proofs.Kept.{found_is}
 use Rattle.rt_server.proofs.LastingPuts.{found_over}
 use Rattle.rt_server.proofs.LastingTargets.{commit_past}
+use Rattle.rt_server.proofs.OwnPuts.{found_own}
+use Rattle.rt_server.proofs.Trues.{AnyUp, IsTrueEntry, IsTrueReplica, entry_true, own_true, replica_true}
 
 abbrev some_rows : CommittedRows → Option CommittedRows
 some_rows c = Some c
@@ -54,10 +61,10 @@ record IsRowsOf (schema : Schema) (past : Past) (p : Partition) (start : Offset)
   rows : c.rows ≡ rows_in schema (messages_of past.log p) start.0 end.0
 
 -- rows up to the end of a commit that was written are right
-right_by : (setup : Setup) (past : Past) (p : Partition) (q : Sequence) (start : Offset) (c : CommittedRows) → IsPast setup past → p.0 < setup.partitions
+right_by : (setup : Setup) (past : Past) (p : Partition) (q : Sequence) (start : Offset) (c : CommittedRows) → IsLawfulHistory (starting_of setup) past.history → p.0 < setup.partitions
     → IsBegun past.history p q start → WasDone past.history p q c.done → IsRowsOf setup.schema past p start c → IsRightCommitted setup past p q c
-right_by setup past p q start c right within begun was k =
-    let from = commit_past setup past p q c.done start k.end right within was begun k.told in
+right_by setup past p q start c lawful within begun was k =
+    let from = commit_past setup past p q c.done start k.end lawful within was begun k.told in
     record {
       done = was;
       end = k.end;
@@ -101,14 +108,14 @@ module _ (schema : Schema) (past : Past) (p : Partition) (start : Offset) (c : C
   rows_in_phase settings q (phase.Committed kept) is h e = rows_of_file kept.done kept.file is.told h (same_rows (sealed_rows kept.done kept.file) c e)
   rows_in_phase settings q (phase.Discarded d) is h e = absurd (no_rows c e)
 
-module _ (setup : Setup) (past : Past) (p : Partition) (q : Sequence) (start : Offset) (c : CommittedRows) where
+module _ (past : Past) (p : Partition) (q : Sequence) (c : CommittedRows) where
   abbrev Was : SeenMeta → Type 0
   Was done = WasDone past.history p q done
 
   done_of : (done : SeenMeta) (rows : CommittedRows) → rows.done ≡ done → some_rows rows ≡ some_rows c → Was done → Was c.done
   done_of done rows is e was = subst Was (sym is ∙ ap (λ (x : CommittedRows). x.done) (same_rows rows c e)) was
 
-  done_at_stage : (rows : Consuming) (stage : Stage) → IsToldAt setup past p q start rows.end stage → stage_rows rows stage ≡ some_rows c → Was c.done
+  done_at_stage : (rows : Consuming) (stage : Stage) → ToldAt Was AnyUp rows.end stage → stage_rows rows stage ≡ some_rows c → Was c.done
   done_at_stage rows (Retaining done) t e = done_of done (record { done = done; rows = consuming.rows_of rows }) refl e t
   done_at_stage rows InitialConsuming t e = absurd (no_rows c e)
   done_at_stage rows (CatchingUp target reason) t e = absurd (no_rows c e)
@@ -119,17 +126,17 @@ module _ (setup : Setup) (past : Past) (p : Partition) (q : Sequence) (start : O
   done_at_stage rows (Uploading reason built) t e = absurd (no_rows c e)
   done_at_stage rows (Ending reason built path) t e = absurd (no_rows c e)
 
-  done_in_phase : (ph : Phase) → IsToldIn setup past p q start ph → phase_rows ph ≡ some_rows c → Was c.done
+  done_in_phase : (ph : Phase) → ToldIn Was AnyUp ph → phase_rows ph ≡ some_rows c → Was c.done
   done_in_phase (phase.Unsealed o) t e = done_at_stage o.rows o.stage t e
   done_in_phase (phase.Retained kept) t e = done_of kept.done (sealed_rows kept.done kept.file) refl e t
   done_in_phase (phase.Committed kept) t e = done_of kept.done (sealed_rows kept.done kept.file) refl e t
   done_in_phase (phase.Discarded d) t e = absurd (no_rows c e)
 
-replica_right : (setup : Setup) (past : Past) (i : Instance) (incarnation : ℕ) (r : Consumer) (c : CommittedRows) → IsPast setup past → IsConsumer r → IsReplica setup past i incarnation r
+replica_right : (setup : Setup) (past : Past) (r : Consumer) (c : CommittedRows) → IsLawfulHistory (starting_of setup) past.history → IsConsumer r → IsTrueReplica setup past r
     → phase_rows r.phase ≡ some_rows c → IsRightCommitted setup past r.partition r.sequence c
-replica_right setup past i incarnation r c right is k e =
-    right_by setup past r.partition r.sequence r.start c right k.partition k.begun
-    (done_in_phase setup past r.partition r.sequence r.start c r.phase k.told e)
+replica_right setup past r c lawful is k e =
+    right_by setup past r.partition r.sequence r.start c lawful k.partition k.begun
+    (done_in_phase past r.partition r.sequence c r.phase k.told e)
     (subst (λ (y : Settings). IsRowsOf y.schema past r.partition r.start c) k.settings
     (rows_in_phase r.settings.schema past r.partition r.start c r.settings r.sequence r.phase is.phase k.held e))
 
@@ -153,17 +160,29 @@ file_right setup past p q done None c was l e = absurd (no_rows c e)
 file_right setup past p q done (Some file) c was l e =
     subst (IsRightCommitted setup past p q) (same_rows (sealed_rows done file) c e) (loaded_right setup past p q done file was l)
 
+-- an entry of a server by its rules
+pub of_setup_entry : (setup : Setup) (s : ServerState) (p : Partition) (q : Sequence) (e : Entry) → s.setup ≡ setup → IsServer s.setup s.table → entry_of s.table p q ≡ Some e → IsEntry setup e
+of_setup_entry setup s p q e of kept found = subst (λ (x : Setup). IsEntry x e) of (found_is s.setup s.table p q e kept found)
+
+entry_right : (setup : Setup) (past : Past) (p : Partition) (q : Sequence) (e : Entry) (c : CommittedRows) → IsLawfulHistory (starting_of setup) past.history → IsEntry setup e
+    → IsTrueEntry setup past (p, q) e → committed_rows e ≡ some_rows c → IsRightCommitted setup past p q c
+entry_right setup past p q (Replica r) c lawful own k e =
+    subst (λ (y : Segment). IsRightCommitted setup past y.0 y.1 c) k.0 (replica_right setup past r c lawful own.0 k.1 e)
+entry_right setup past p q (Committed d) c lawful own k e = file_right setup past p q d.done d.file c k.done k.loaded e
+
 -- what a committed entry has are the stream's rows of the committed range
 pub commits_right : (setup : Setup) (past : Past) (s : ServerState) (p : Partition) (q : Sequence) (e : Entry) (c : CommittedRows) → IsPast setup past → IsServerOver setup past s
     → entry_of s.table p q ≡ Some e → committed_rows e ≡ some_rows c → IsRightCommitted setup past p q c
-commits_right setup past s p q (Replica r) c right k found e =
-    let over = found_over setup past s k p q (Replica r) found in
-    let own : IsEntry s.setup (Replica r) = found_is s.setup s.table p q (Replica r) k.kept found in
-    subst (λ (y : Segment). IsRightCommitted setup past y.0 y.1 c) over.0
-    (replica_right setup past s.numbers.instance s.numbers.incarnation r c right own.0 over.1 e)
-commits_right setup past s p q (Committed d) c right k found e =
-    let over : IsCommittedOver setup past s.numbers.instance p q d = found_over setup past s k p q (Committed d) found in
-    file_right setup past p q d.done d.file c over.done over.loaded e
+commits_right setup past s p q e c right k found is =
+    entry_right setup past p q e c right.lawful (of_setup_entry setup s p q e k.of_setup k.kept found)
+    (entry_true setup past s.numbers.instance s.numbers.incarnation (p, q) e (found_over setup past s k p q e found)) is
+
+-- so they are of what is its own, over a sound past
+pub commits_sound : (setup : Setup) (past : Past) (s : ServerState) (p : Partition) (q : Sequence) (e : Entry) (c : CommittedRows) → IsSound setup past → IsOwnServer setup past s
+    → entry_of s.table p q ≡ Some e → committed_rows e ≡ some_rows c → IsRightCommitted setup past p q c
+commits_sound setup past s p q e c sound k found is =
+    entry_right setup past p q e c sound.view.lawful (of_setup_entry setup s p q e k.of_setup k.kept found)
+    (own_true setup past sound s.numbers.instance s.numbers.incarnation (p, q) e (found_own setup past s k p q e found)) is
 
 -- ---- what a replica was told
 
@@ -185,8 +204,8 @@ retained e = cc
 committed : state.Committed ≡ state.ConsumingToOnline → ⊥
 committed e = cc
 
-module _ (setup : Setup) (past : Past) (p : Partition) (q : Sequence) (start : Offset) (done : SeenMeta) where
-  stage_told : (settings : Settings) (rows : Consuming) (stage : Stage) → IsStage settings p q rows stage → IsToldAt setup past p q start rows.end stage → told_at stage ≡ a_meta done
+module _ (past : Past) (p : Partition) (q : Sequence) (start : Offset) (done : SeenMeta) where
+  stage_told : (settings : Settings) (rows : Consuming) (stage : Stage) → IsStage settings p q rows stage → ToldAt (WasDone past.history p q) AnyUp rows.end stage → told_at stage ≡ a_meta done
       → IsToldOf past p q (state_at stage) rows.end done
   stage_told settings rows (ConsumingToOnline end m) is t e =
       subst (IsToldOf past p q state.ConsumingToOnline rows.end) (same_meta m done e)
@@ -202,7 +221,7 @@ module _ (setup : Setup) (past : Past) (p : Partition) (q : Sequence) (start : O
   stage_told settings rows (Uploading reason built) is t e = absurd (no_meta done e)
   stage_told settings rows (Ending reason built path) is t e = absurd (no_meta done e)
 
-  phase_told : (settings : Settings) (ph : Phase) → IsPhase settings p q start ph → IsToldIn setup past p q start ph → told_in ph ≡ a_meta done
+  phase_told : (settings : Settings) (ph : Phase) → IsPhase settings p q start ph → ToldIn (WasDone past.history p q) AnyUp ph → told_in ph ≡ a_meta done
       → IsToldOf past p q (state_of ph) (cur_in ph) done
   phase_told settings (phase.Unsealed o) is t e = stage_told settings o.rows o.stage is.1 t e
   phase_told settings (phase.Retained kept) is t e =
@@ -216,4 +235,4 @@ module _ (setup : Setup) (past : Past) (p : Partition) (q : Sequence) (start : O
 pub told_right : (setup : Setup) (past : Past) (i : Instance) (incarnation : ℕ) (r : Consumer) (done : SeenMeta) → IsConsumer r → IsReplica setup past i incarnation r
     → told_in r.phase ≡ Some done → IsToldOf past r.partition r.sequence (state_of r.phase) (cur r) done
 told_right setup past i incarnation r done is k e =
-    phase_told setup past r.partition r.sequence r.start done r.settings r.phase is.phase k.told e
+    phase_told past r.partition r.sequence r.start done r.settings r.phase is.phase (replica_true setup past i incarnation r k).told e

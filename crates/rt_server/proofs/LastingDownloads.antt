@@ -30,7 +30,7 @@ use Rattle.rt_deep.specs.Files as files
 use Rattle.rt_deep.specs.Meaning.{Meaning}
 use Rattle.rt_deep.proofs.Seeing.{absent_seen, get_seen}
 use Rattle.rt_past.specs.Past.{Past}
-use Rattle.rt_past.specs.Files.{IsStored, Stands}
+use Rattle.rt_past.specs.Files.{IsStored, Stands, header_named}
 use Rattle.rt_past.specs.IsPast.{IsPast}
 use Rattle.rt_consumer.specs.Consumer.{end_in}
 use Rattle.rt_entry.specs.declared.entry.CommittedSegment.{CommittedSegment}
@@ -110,6 +110,12 @@ LoadsAs file (Err Memory) = Unit {0}
 LoadsAs file (Err NotDue) = ⊥
 LoadsAs file (Err (BadFile wanted found)) = ⊥
 
+abbrev done_by : Commit → Status
+done_by c = Done c
+
+same_commit : (a b : Commit) → done_by a ≡ done_by b → a ≡ b
+same_commit a b e = cc
+
 module _ (setup : Setup) (past : Past) (p : Partition) (q : Sequence) (done : SeenMeta) (commit : Commit) (stored : IsStored setup past p q done.meta.start commit) where
   abbrev the_file : SealedSegment
   the_file = stored.right.file.segment
@@ -132,7 +138,7 @@ module _ (setup : Setup) (past : Past) (p : Partition) (q : Sequence) (done : Se
   loads_as (Err deep.Failed) u = tt
   loads_as (Err deep.Memory) u = tt
 
-  file_loaded : done.meta.status ≡ Done commit → IsLoaded setup past p q done the_file
+  pub file_loaded : done.meta.status ≡ Done commit → IsLoaded setup past p q done the_file
   file_loaded status =
       let f = stored.right.file in
       let end : the_file.range.end ≡ commit.end = ap (λ (r : Range). r.end) f.header.2 in
@@ -144,6 +150,9 @@ module _ (setup : Setup) (past : Past) (p : Partition) (q : Sequence) (done : Se
           first = ap (λ (r : Range). r.start) f.header.2;
           told = ap end_in status ∙ ap (λ (x : Offset). Some x) (sym end);
         };
+        named = λ other is. stored.header ∙ ap (header_named p q done.meta.start) (same_commit commit other (sym status ∙ is));
+        format = stored.right.format;
+        indexed = stored.right.indexed;
         held = record {
           ordered = omega (arith, f.within.0, ap (λ (x : Offset). x.0) end);
           within = omega (arith, f.within.1, ap (λ (x : Offset). x.0) end);
@@ -162,7 +171,7 @@ comes rows next = Ok (rows, next)
 abbrev refuse : ServerRefused → Result (ℕ × CommittedSegment) ServerRefused
 refuse e = Err e
 
-abbrev with_it : CommittedSegment → SealedSegment → CommittedSegment
+abbrev pub with_it : CommittedSegment → SealedSegment → CommittedSegment
 with_it c file = record c { file = Some file }
 
 abbrev next_in : CommittedSegment → Result (ℕ × CommittedSegment) ServerRefused → CommittedSegment
@@ -206,17 +215,11 @@ never_bad_by file c wanted found (Err NotDue) are e = are
 never_bad_by file c wanted found (Err (BadFile w f)) are e = are
 
 -- the commit that is wanted is the one that metadata tells of
-wanted_is : (o : Option SealedSegment) (status : Status) (commit : Commit) → wanted_by o status ≡ Some commit → status ≡ Done commit
+pub wanted_is : (o : Option SealedSegment) (status : Status) (commit : Commit) → wanted_by o status ≡ Some commit → status ≡ Done commit
 wanted_is (Some file) status commit e = absurd (cc)
 wanted_is None InProgress commit e = absurd (cc)
 wanted_is None (Done c) commit e = cc
 wanted_is None Abandoned commit e = absurd (cc)
-
-abbrev done_by : Commit → Status
-done_by c = Done c
-
-same_commit : (a b : Commit) → done_by a ≡ done_by b → a ≡ b
-same_commit a b e = cc
 
 -- the file of the commit that is wanted stands
 pub wanted_stands : (setup : Setup) (past : Past) (i : Instance) (p : Partition) (q : Sequence) (c : CommittedSegment) (commit : Commit) → IsPast setup past

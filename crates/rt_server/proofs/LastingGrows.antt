@@ -30,7 +30,7 @@ length_front {X} xs ys g =
     let size : length ys ≡ length (xs ++ g.0) = ap (λ (zs : List X). length zs) g.1 in
     omega (arith, size, length-append xs g.0)
 
-file_grows : (schema : Schema) (a b : Log) (p : Partition) (start : Offset) (file : SealedSegment) → GrowsLog a b
+pub file_grows : (schema : Schema) (a b : Log) (p : Partition) (start : Offset) (file : SealedSegment) → GrowsLog a b
     → HoldsFile schema (messages_of a p) start file → HoldsFile schema (messages_of b p) start file
 file_grows schema a b p start file g h =
     record {
@@ -39,13 +39,13 @@ file_grows schema a b p start file g h =
       rows = h.rows ∙ sym (rows_grow schema a b p start.0 file.range.end.0 g h.ordered h.within);
     }
 
-targets_grow : (h k : List Seen) (i : Instance) (targets : List (Segment × Mode)) → IsFront h k → AreTargets h i targets → AreTargets k i targets
+pub targets_grow : (h k : List Seen) (i : Instance) (targets : List (Segment × Mode)) → IsFront h k → AreTargets h i targets → AreTargets k i targets
 targets_grow h k i targets g (inl none) = inl none
 targets_grow h k i targets g (inr (w, is, e)) = inr (w, record { has = Has-front h k w g is.has; is_ideal = is.is_ideal }, e)
 
 module _ (setup : Setup) (a b : Past) (g : Grows a b) where
   loaded_grows : (p : Partition) (q : Sequence) (done : SeenMeta) (file : SealedSegment) → IsLoaded setup a p q done file → IsLoaded setup b p q done file
-  loaded_grows p q done file l = record { kept = l.kept; held = file_grows setup.schema a.log b.log p done.meta.start file g.log l.held }
+  loaded_grows p q done file l = record { kept = l.kept; named = l.named; format = l.format; indexed = l.indexed; held = file_grows setup.schema a.log b.log p done.meta.start file g.log l.held }
 
   any_loaded_grows : (p : Partition) (q : Sequence) (done : SeenMeta) (o : Option SealedSegment) → IfSome o (IsLoaded setup a p q done) → IfSome o (IsLoaded setup b p q done)
   any_loaded_grows p q done None l = tt
@@ -73,7 +73,6 @@ server_grows setup a b s g k =
       exists = k.exists;
       incarnation = incarnation_grows a.history b.history s.numbers.instance s.numbers.incarnation g.history k.incarnation;
       counted = omega (arith, k.counted, length_front a.sent b.sent g.sent);
-      ascending = k.ascending;
       targets = targets_grow a.history b.history s.numbers.instance s.table.targets g.history k.targets;
       entries = λ x has. entry_over_grows setup a b g s.numbers.instance s.numbers.incarnation x.0 x.1 (k.entries x has);
     }

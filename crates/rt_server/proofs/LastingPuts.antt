@@ -1,12 +1,7 @@
 -- What lasts of a server is kept as an entry of its table is put, changed or taken out.
-use Rattle.std.proofs.Common.{◌≡◌, ◌⊎◌, inl, inr, ℕ, List, Option, Some, None, Result, Ok, Err, sym, ap, subst, ◌∙◌}
-use Rattle.std.specs.List.Sorted.{IsStrictlySortedBy}
-use Rattle.std.specs.Map.{keys_of}
-use Rattle.std.proofs.lemmas.Map.{keys-set_value}
-use Rattle.rt_base.specs.declared.numbers.Instance.{Instance}
+use Rattle.std.proofs.Common.{◌≡◌, List, Option, Some, Result, Ok, Err, sym, ap, subst, ◌∙◌}
 use Rattle.rt_base.specs.declared.numbers.Partition.{Partition}
 use Rattle.rt_base.specs.declared.numbers.Sequence.{Sequence}
-use Rattle.rt_lists.specs.Members.{Has}
 use Rattle.rt_model.specs.declared.ideal_state.Mode.{Mode}
 use Rattle.rt_model.specs.declared.setup.Setup.{Setup}
 use Rattle.rt_msgs.specs.Numbered.{Numbered}
@@ -23,40 +18,37 @@ use Rattle.rt_entry.specs.Calls.{Comes, ReplicaCall, Step}
 use Rattle.rt_entry.specs.Entry.{IsEntry}
 use Rattle.rt_server.specs.Calls.{InTable, ThroughAt}
 use Rattle.rt_server.specs.Kept.{IsServer}
-use Rattle.rt_server.specs.Lasting.{AreEntriesOver, AreTargets, IsEntryOver, IsServerOver, segment_of}
-use Rattle.rt_server.specs.Table.{Segment, Segments, ServerState, entry_of, is_segment, put_back, replica_of, segment_cmp, with_entry, with_table, without}
+use Rattle.rt_server.specs.Lasting.{AreEntriesOver, AreTargets, IsEntryOver, IsServerOver}
+use Rattle.rt_server.specs.Table.{Segment, Segments, ServerState, entry_of, put_back, replica_of, segment_of, with_entry, with_table, without}
 use Rattle.rt_server.proofs.Kept.{found_is, replica_found}
 use Rattle.rt_server.proofs.LastingReplicas.{Lasts}
-use Rattle.rt_server.proofs.LastingTables.{Has-insert_entry, Has-remove_entry, Has-set_value, at, lookup-Has, segment_exact, segment_total, sorted-insert_entry, sorted-remove_entry}
+use Rattle.rt_server.proofs.TablePuts.{add_in, found_in, leave_in, put_in, through_in}
 
 abbrev pub segment : Partition → Sequence → Segment
 segment p q = (p, q)
-
-module _ (setup : Setup) (past : Past) (i : Instance) (incarnation : ℕ) (entries : List (Segment × Entry)) (all : AreEntriesOver setup past i incarnation entries) where
-  pub one_of : (s : Segment) (e : Entry) (x : Segment × Entry) → IsEntryOver setup past i incarnation s e → Has entries x ⊎ (at s e ≡ x) → IsEntryOver setup past i incarnation x.0 x.1
-  one_of s e x new (inl has) = all x has
-  one_of s e x new (inr same) = subst (λ (y : Segment × Entry). IsEntryOver setup past i incarnation y.0 y.1) same new
 
 module _ (setup : Setup) (past : Past) (s : ServerState) (k : IsServerOver setup past s) where
   abbrev Over : Segment → Entry → Type 0
   Over x e = IsEntryOver setup past s.numbers.instance s.numbers.incarnation x e
 
   -- the server with another table
-  table_over : (t : Segments) → IsServer s.setup t → AreTargets past.history s.numbers.instance t.targets → IsStrictlySortedBy segment_cmp (keys_of t.entries)
+  table_over : (t : Segments) → IsServer s.setup t → AreTargets past.history s.numbers.instance t.targets
       → AreEntriesOver setup past s.numbers.instance s.numbers.incarnation t.entries → IsServerOver setup past (with_table s t)
-  table_over t kept targets ascending entries = record {
+  table_over t kept targets entries = record {
     of_setup = k.of_setup;
     kept = kept;
     exists = k.exists;
     incarnation = k.incarnation;
     counted = k.counted;
-    ascending = ascending;
     targets = targets;
     entries = entries;
   }
 
+  abbrev Targets : List (Segment × Mode) → Type 0
+  Targets targets = AreTargets past.history s.numbers.instance targets
+
   pub found_over : (p : Partition) (q : Sequence) (e : Entry) → entry_of s.table p q ≡ Some e → Over (segment p q) e
-  found_over p q e found = k.entries (at (segment p q) e) (lookup-Has segment_cmp segment_exact s.table.entries (segment p q) e found)
+  found_over p q e found = found_in (IsServerOver setup past) Over Targets s table_over k.kept k.targets k.entries p q e found
 
   -- the segment's replica
   pub replica_held : (p : Partition) (q : Sequence) (r : Consumer) → replica_of s.table p q ≡ Some r
@@ -68,28 +60,17 @@ module _ (setup : Setup) (past : Past) (s : ServerState) (k : IsServerOver setup
       (over.0, own.0, over.1)
 
   pub put_over : (p : Partition) (q : Sequence) (e : Entry) → IsServer s.setup (put_back s.table p q e) → Over (segment p q) e → IsServerOver setup past (with_table s (put_back s.table p q e))
-  put_over p q e kept new =
-      table_over (put_back s.table p q e) kept k.targets
-      (subst (IsStrictlySortedBy segment_cmp) (sym (keys-set_value (is_segment p q) s.table.entries e)) k.ascending)
-      (λ x has. one_of setup past s.numbers.instance s.numbers.incarnation s.table.entries k.entries (segment p q) e x new
-      (Has-set_value segment_cmp segment_exact s.table.entries (segment p q) e x has))
+  put_over p q e kept new = put_in (IsServerOver setup past) Over Targets s table_over k.kept k.targets k.entries p q e kept new
 
   pub add_over : (p : Partition) (q : Sequence) (e : Entry) → IsServer s.setup (with_entry s.table p q e) → Over (segment p q) e → IsServerOver setup past (with_table s (with_entry s.table p q e))
-  add_over p q e kept new =
-      table_over (with_entry s.table p q e) kept k.targets
-      (sorted-insert_entry segment_cmp segment_total s.table.entries (segment p q) e k.ascending)
-      (λ x has. one_of setup past s.numbers.instance s.numbers.incarnation s.table.entries k.entries (segment p q) e x new
-      (Has-insert_entry segment_cmp segment_exact s.table.entries (segment p q) e x has))
+  add_over p q e kept new = add_in (IsServerOver setup past) Over Targets s table_over k.kept k.targets k.entries p q e kept new
 
   pub leave_over : (p : Partition) (q : Sequence) → IsServer s.setup (without s.table p q) → IsServerOver setup past (with_table s (without s.table p q))
-  leave_over p q kept =
-      table_over (without s.table p q) kept k.targets
-      (sorted-remove_entry segment_cmp (is_segment p q) s.table.entries k.ascending)
-      (λ x has. k.entries x (Has-remove_entry (is_segment p q) s.table.entries x has))
+  leave_over p q kept = leave_in (IsServerOver setup past) Over Targets s table_over k.kept k.targets k.entries p q kept
 
   pub targets_over : (targets : List (Segment × Mode)) → IsServer s.setup (record s.table { targets = targets }) → AreTargets past.history s.numbers.instance targets
       → IsServerOver setup past (with_table s (record s.table { targets = targets }))
-  targets_over targets kept are = table_over (record s.table { targets = targets }) kept are k.ascending k.entries
+  targets_over targets kept are = table_over (record s.table { targets = targets }) kept are k.entries
 
   -- what a replica's call keeps of the replica, it keeps of the server
   pub through_over : {X : Type 0} (quiet : Type 0) (call : ReplicaCall X) (t : Segments) (p : Partition) (q : Sequence) (result : Result X ServerRefused) (o : Option Consumer)
@@ -97,12 +78,9 @@ module _ (setup : Setup) (past : Past) (s : ServerState) (k : IsServerOver setup
       → ((r next : Consumer) (answer : Result X ReplicaRefused) → IsConsumer r → IsReplica setup past s.numbers.instance s.numbers.incarnation r
       → call r next answer → Lasts setup past s.numbers.instance s.numbers.incarnation r next)
       → ThroughAt o quiet call s.table t p q result → IsServer s.setup t → IsServerOver setup past (with_table s t)
-  through_over quiet call t p q result None found lasts h kept = subst (λ u. IsServerOver setup past (with_table s u)) (sym h.2) k
-  through_over quiet call t p q result (Some r) found lasts h kept =
-      let held = replica_held p q r found in
-      let next = lasts r h.0 h.1 held.1 held.2 h.2 in
-      subst (λ u. IsServerOver setup past (with_table s u)) (sym h.4)
-      (put_over p q (Replica h.0) (subst (IsServer s.setup) h.4 kept) (next.same ∙ held.0, next.is))
+  through_over quiet call t p q result o found lasts h kept =
+      through_in (IsServerOver setup past) Over Targets s table_over k.kept k.targets k.entries p q quiet call t result o k found
+      (λ r next answer is over c. let new = lasts r next answer is over.1 c in (new.same ∙ over.0, new.is)) h kept
 
 -- what a call keeps that comes to a step
 pub comes_keep : {X : Type 0} (P : ServerState → Type 0) (s new : ServerState) (step : Step ServerState X) (result : Result X ServerRefused) → P s

@@ -1,13 +1,10 @@
 -- A replica keeps its segment and what lasts of it, whichever call it takes.
-use Rattle.std.proofs.Common.{◌≡◌, ℕ, Bool, true, false, cond, List, Option, Some, None, option_map, Result, Ok, Err, refl, sym, ap, subst, ◌∙◌}
+use Rattle.std.proofs.Common.{◌≡◌, ℕ, Option, Some, None, Result, Ok, Err, sym, ap, subst}
 use Rattle.rt_base.specs.declared.numbers.Instance.{Instance}
 use Rattle.rt_base.specs.declared.numbers.Moment.{Moment}
-use Rattle.rt_base.specs.declared.numbers.Offset.{Offset}
 use Rattle.rt_stream.specs.Feed.{FeedMeaning}
 use Rattle.rt_stream.specs.Log.{Log}
-use Rattle.rt_model.specs.Messages.{same_number}
 use Rattle.rt_model.specs.declared.reply.Reply.{Reply}
-use Rattle.rt_model.specs.declared.seg_meta.SeenMeta.{SeenMeta}
 use Rattle.rt_model.specs.declared.setup.Setup.{Setup}
 use Rattle.rt_past.specs.Past.{Past}
 use Rattle.rt_past.specs.IsPast.{IsPast}
@@ -17,60 +14,20 @@ use Rattle.rt_consumer.specs.declared.phase.Phase.{Phase}
 use Rattle.rt_consumer.specs.declared.phase.Phase.TheVariants as phase
 use Rattle.rt_consumer.specs.declared.refused.ReplicaRefused.{ReplicaRefused}
 use Rattle.rt_consumer.specs.declared.refused.ReplicaRefused.TheVariants.{NotDue, Memory}
-use Rattle.rt_consumer.specs.declared.replies.Turn.{Turn}
-use Rattle.rt_consumer.specs.declared.replies.Turn.TheVariants.{Stays, Goes}
-use Rattle.rt_consumer.specs.declared.waited.Waited.{Waited}
-use Rattle.rt_consumer.specs.Batch.{Consumes, asked_in, taken, taken_in, consumed}
-use Rattle.rt_consumer.specs.Consumer.{IsConsumer, number_of}
+use Rattle.rt_consumer.specs.Batch.{Consumes, consumed}
+use Rattle.rt_consumer.specs.Consumer.{IsConsumer}
 use Rattle.rt_replica.specs.Lasting.{IsReplica}
-use Rattle.rt_consumer.specs.Replies.{replied, replied_to, turn_by, turned}
-use Rattle.rt_consumer.specs.Requests.{Builds, Does, forced, learned, stopped}
+use Rattle.rt_consumer.specs.Replies.{replied}
+use Rattle.rt_consumer.specs.Requests.{Builds, Does, forced, stopped}
 use Rattle.rt_replica.proofs.Answered.{replied_lasts}
 use Rattle.rt_replica.proofs.KeepsLasting.{built_lasts, consumed_lasts, forced_lasts, stopped_lasts}
-use Rattle.rt_server.specs.Lasting.{segment_of}
+use Rattle.rt_server.specs.Table.{segment_of}
+use Rattle.rt_server.proofs.SameSegment.{consumes_segment, replies_segment}
 
 -- the replica is one of the same segment, of which the same lasts
 pub record Lasts (setup : Setup) (past : Past) (i : Instance) (incarnation : ℕ) (old new : Consumer) : Type 0 where
   pub same : segment_of new ≡ segment_of old
   pub is : IsReplica setup past i incarnation new
-
-abbrev the : Consumer → Option Consumer
-the r = Some r
-
--- ---- the segment
-
-taken_segment : (r : Consumer) (p : Phase) (now : Moment) (ms : List (List ℕ)) → segment_of (taken_in r p now ms) ≡ segment_of r
-taken_segment r (phase.Unsealed o) now ms = refl
-taken_segment r (phase.Retained kept) now ms = refl
-taken_segment r (phase.Committed kept) now ms = refl
-taken_segment r (phase.Discarded d) now ms = refl
-
-consumed_segment : (r new : Consumer) (now : Moment) (messages : ℕ → List (List ℕ)) (o : Option ℕ)
-    → option_map (λ count. taken r now (messages count)) o ≡ the new → segment_of new ≡ segment_of r
-consumed_segment r new now messages None e = absurd (cc)
-consumed_segment r new now messages (Some count) e =
-    ap segment_of (sym (unwrapped (taken r now (messages count)) new e)) ∙ taken_segment r r.phase now (messages count)
-  where
-    unwrapped : (a b : Consumer) → the a ≡ the b → a ≡ b
-    unwrapped a b e = cc
-
-turned_segment : (r : Consumer) (t : Turn) → segment_of (turned r t) ≡ segment_of r
-turned_segment r (Stays p) = refl
-turned_segment r (Goes p) = refl
-
-replied_if : (r : Consumer) (t : Turn) (b : Bool) → segment_of (cond b (turned r t) r) ≡ segment_of r
-replied_if r t true = turned_segment r t
-replied_if r t false = refl
-
-replied_segment : (r : Consumer) (o : Option Waited) (reply : Reply) → segment_of (replied_to r o reply) ≡ segment_of r
-replied_segment r None reply = refl
-replied_segment r (Some waited) reply = replied_if r (turn_by r.phase waited reply.status) (same_number (number_of waited) reply.number)
-
-pub learned_segment : (r : Consumer) (p : Phase) (done : SeenMeta) (end : Offset) → segment_of (learned r p done end) ≡ segment_of r
-learned_segment r (phase.Unsealed o) done end = refl
-learned_segment r (phase.Retained kept) done end = refl
-learned_segment r (phase.Committed kept) done end = refl
-learned_segment r (phase.Discarded d) done end = refl
 
 -- ---- what lasts
 
@@ -82,8 +39,8 @@ module _ (setup : Setup) (past : Past) (i : Instance) (incarnation : ℕ) (r : C
       → past.log ≡ after.seen → Consumes before after r new max now result → Lasts setup past i incarnation r new
   consumes_last before after new max now (Ok u) e h =
       record {
-        same = consumed_segment r new now _ (asked_in r.phase max) h.1;
-        is = consumed_lasts setup past i incarnation r k max now new (subst (λ (log : Log). consumed r max now log ≡ the new) (sym e) h.1);
+        same = consumes_segment before after r new max now (Ok u) h;
+        is = consumed_lasts setup past i incarnation r k max now new (subst (λ (log : Log). consumed r max now log ≡ Some new) (sym e) h.1);
       }
   consumes_last before after new max now (Err NotDue) e h = unchanged new h.1
   consumes_last before after new max now (Err Memory) e h = unchanged new h.1
@@ -113,4 +70,4 @@ module _ (setup : Setup) (past : Past) (i : Instance) (incarnation : ℕ) (r : C
 
   pub replies_last : (reply : Reply) → IsConsumer r → IsPast setup past → IsReply past reply → Lasts setup past i incarnation r (replied r reply)
   replies_last reply c p y =
-      record { same = replied_segment r r.waited reply; is = replied_lasts setup past i incarnation r k reply c p y }
+      record { same = replies_segment r reply; is = replied_lasts setup past i incarnation r k reply c p y }

@@ -10,18 +10,22 @@ use Rattle.rt_schema.specs.declared.row.Row.{Row}
 use Rattle.rt_schema.specs.declared.schema.Schema.{Schema}
 use Rattle.rt_mutable.specs.Consuming.{Consuming, Placed, is_before}
 use Rattle.rt_segment.specs.Segment.{SealedSegment, rows_of}
-use Rattle.rt_stream.specs.Log.{messages_of}
+use Rattle.rt_stream.specs.Log.{Log, messages_of}
 use Rattle.rt_scan.specs.Scanned.{rows_before}
 use Rattle.rt_model.specs.declared.piece.Piece.{Piece}
 use Rattle.rt_model.specs.declared.seg_meta.SeenMeta.{SeenMeta}
 use Rattle.rt_model.specs.declared.setup.Setup.{Setup}
 use Rattle.rt_past.specs.Past.{Past}
+use Rattle.rt_past.specs.View.{IsSound}
+use Rattle.rt_consumer.specs.declared.consumer.Consumer.{Consumer}
 use Rattle.rt_consumer.specs.declared.phase.Phase.{Phase}
 use Rattle.rt_consumer.specs.declared.phase.Phase.TheVariants as phase
 use Rattle.rt_consumer.specs.declared.settings.Settings.{Settings}
-use Rattle.rt_consumer.specs.Consumer.{IsPhase}
-use Rattle.rt_replica.specs.Held.{HoldsFile, HoldsIn, HoldsRows, messages_between, placed_from, placed_row}
+use Rattle.rt_consumer.specs.Consumer.{IsConsumer, IsPhase, settings_of}
+use Rattle.rt_replica.specs.Held.{messages_between, placed_from, placed_row}
+use Rattle.rt_replica.specs.HeldSoFar.{HoldsFileSoFar, HoldsInSoFar, HoldsSoFar, IsHeldSoFar}
 use Rattle.rt_replica.proofs.Places.{all_before, between_append, length_between, placed_append, rows_placed}
+use Rattle.rt_replica.proofs.SoFar.{file_forget, forget, starts}
 use Rattle.rt_entry.specs.declared.entry.Entry.{Entry}
 use Rattle.rt_entry.specs.declared.entry.Entry.TheVariants.{Replica, Committed}
 use Rattle.rt_entry.specs.declared.refused.ServeRefused.{ServeRefused}
@@ -29,12 +33,17 @@ use Rattle.rt_entry.specs.declared.refused.ServeRefused.TheVariants.{NotServed}
 use Rattle.rt_entry.specs.declared.served_rows.ServedRows.{ServedRows}
 use Rattle.rt_entry.specs.Entry.{IsEntry}
 use Rattle.rt_entry.specs.Serving.{file_end, range_to, rows_end, serve_entry, serve_file, serve_loaded, serve_phase, serve_rows, served_over}
+use Rattle.rt_server.specs.Given.{AreRowsSoFar, IsRangeOf}
+use Rattle.rt_server.specs.Kept.{IsServer}
 use Rattle.rt_server.specs.Lasting.{IsLoaded, IsServerOver}
 use Rattle.rt_server.specs.LastingRows.{AreRightRows}
+use Rattle.rt_server.specs.Own.{IsOwnServer}
 use Rattle.rt_server.specs.Serving.{serve, serve_at}
 use Rattle.rt_server.specs.Table.{Segment, ServerState, entry_of}
-use Rattle.rt_server.proofs.Kept.{found_is}
+use Rattle.rt_server.proofs.LastingCommits.{of_setup_entry}
 use Rattle.rt_server.proofs.LastingPuts.{found_over}
+use Rattle.rt_server.proofs.OwnPuts.{found_own}
+use Rattle.rt_server.proofs.Trues.{IsTrueEntry, entry_true, own_true}
 
 -- ---- the rows before an offset
 
@@ -48,12 +57,12 @@ none_before end schema offset (m ∷ ms) le =
     none_at end (row_of schema m) offset (placed_from schema (offset + 1) ms) le (none_before end schema (offset + 1) ms (omega (arith, le)))
 
 -- the rows of a range of the stream, out of those that are held
-pub rows_right : (schema : Schema) (ms : List (List ℕ)) (start end : Offset) (rows : Consuming) → HoldsRows schema ms start rows → start.0 ≤ end.0 → end.0 ≤ rows.end.0
+pub rows_right : (schema : Schema) (ms : List (List ℕ)) (start end : Offset) (rows : Consuming) → HoldsSoFar schema ms start rows → start.0 ≤ end.0 → end.0 ≤ rows.end.0
     → rows_before end rows ≡ rows_in schema ms start.0 end.0
 rows_right schema ms start end rows h order below =
     let first = messages_between ms start.0 end.0 in
     let rest = messages_between ms end.0 rows.end.0 in
-    let size : start.0 + length first ≡ end.0 = omega (arith, order, length_between ms start.0 end.0 order (omega (arith, below, h.within))) in
+    let size : start.0 + length first ≡ end.0 = omega (arith, order, length_between ms start.0 end.0 order (omega (arith, order, below, h.within))) in
     let parts : rows.rows ≡ placed_from schema start.0 first ++ placed_from schema end.0 rest =
     h.all
     ∙ ap (placed_from schema start.0) (between_append ms start.0 end.0 rows.end.0 order below)
@@ -69,7 +78,7 @@ rows_right schema ms start end rows h order below =
 
 -- ---- the range
 
-abbrev served : ServedRows → Result ServedRows ServeRefused
+abbrev pub served : ServedRows → Result ServedRows ServeRefused
 served x = Ok x
 
 abbrev unserved : Offset → Result ServedRows ServeRefused
@@ -143,76 +152,133 @@ ends_file file end (Some x) e = by (x.0 == file.range.end.0) refl e
         (sym (same_offset x file.range.end (eqb-true x.0 file.range.end.0 is)) ∙ same, sym same)
     by false other e = absurd (no_end end e)
 
--- ---- what is held
+-- ---- what is held so far
+
+-- the held start is the piece's, and the rows are those so far
+pub record IsServedFrom (schema : Schema) (ms : List (List ℕ)) (piece : Piece) (start : Offset) (x : ServedRows) : Type 0 where
+  pub first : piece.start ≡ start
+  pub rows : AreRowsSoFar schema ms piece x
+
+-- a file is served whole, where the piece is its range
+pub record IsServedWhole (piece : Piece) (file : SealedSegment) (x : ServedRows) : Type 0 where
+  pub first : piece.start ≡ file.range.start
+  pub range : IsRangeOf piece x.range
+  pub end : file.range.end ≡ x.range.end
+  pub rows : x.rows ≡ rows_of file
+
+module _ (piece : Piece) (x : ServedRows) where
+  pub file_whole : (file : SealedSegment) → serve_file piece file ≡ served x → IsServedWhole piece file x
+  file_whole file e =
+      let r = served_is piece file.range.start file.range.end (file_end file piece.end) (λ end. rows_of file) x e in
+      let ends = ends_file file r.end piece.end r.ends in
+      subst (IsServedWhole piece file) r.is
+      (record { first = r.first; range = record { start = refl; end = ends.1 }; end = ends.0; rows = refl })
 
 module _ (schema : Schema) (ms : List (List ℕ)) (piece : Piece) (x : ServedRows) (order : IfSome piece.end (λ end. piece.start.0 ≤ end.0)) where
-  rows_served : (start : Offset) (rows : Consuming) → rows.start ≡ start → HoldsRows schema ms start rows → serve_rows piece rows ≡ served x → AreRightRows schema ms piece x
+  rows_served : (start : Offset) (rows : Consuming) → rows.start ≡ start → HoldsSoFar schema ms start rows → serve_rows piece rows ≡ served x → IsServedFrom schema ms piece start x
   rows_served start rows first h e =
       let r = served_is piece rows.start rows.end (rows_end rows piece.end) (λ end. rows_before end rows) x e in
       let at : piece.start ≡ start = r.first ∙ first in
       let ends = ends_rows rows piece.start r.end piece.end (omega (arith, h.ordered, ap (λ (y : Offset). y.0) at)) order r.ends in
-      subst (AreRightRows schema ms piece) r.is
+      subst (IsServedFrom schema ms piece start) r.is
       (record {
-        start = refl;
-        end = ends.2;
-        ordered = ends.0;
-        within = omega (arith, ends.1, h.within);
-        rows = rows_right schema ms start r.end rows h (omega (arith, ends.0, ap (λ (y : Offset). y.0) at)) ends.1
-            ∙ ap (λ (y : Offset). rows_in schema ms y.0 r.end.0) (sym at);
+        first = at;
+        rows = record {
+          range = record { start = refl; end = ends.2 };
+          ordered = ends.0;
+          within = omega (arith, ends.1, h.within, ap (λ (y : Offset). y.0) at);
+          rows = rows_right schema ms start r.end rows h (omega (arith, ends.0, ap (λ (y : Offset). y.0) at)) ends.1
+              ∙ ap (λ (y : Offset). rows_in schema ms y.0 r.end.0) (sym at);
+        };
       })
 
-  file_served : (start : Offset) (file : SealedSegment) → file.range.start ≡ start → HoldsFile schema ms start file → serve_file piece file ≡ served x → AreRightRows schema ms piece x
+  file_served : (start : Offset) (file : SealedSegment) → file.range.start ≡ start → HoldsFileSoFar schema ms start file → serve_file piece file ≡ served x
+      → IsServedFrom schema ms piece start x
   file_served start file first h e =
-      let r = served_is piece file.range.start file.range.end (file_end file piece.end) (λ end. rows_of file) x e in
-      let at : piece.start ≡ start = r.first ∙ first in
-      let ends = ends_file file r.end piece.end r.ends in
-      subst (AreRightRows schema ms piece) r.is
-      (record {
-        start = refl;
-        end = ends.1;
-        ordered = omega (arith, h.ordered, ap (λ (y : Offset). y.0) at, ap (λ (y : Offset). y.0) ends.0);
-        within = omega (arith, h.within, ap (λ (y : Offset). y.0) ends.0);
-        rows = h.rows ∙ ap (λ (y : Offset). rows_in schema ms start.0 y.0) ends.0 ∙ ap (λ (y : Offset). rows_in schema ms y.0 r.end.0) (sym at);
-      })
+      let w = file_whole piece x file e in
+      let at : piece.start ≡ start = w.first ∙ first in
+      let from : x.range.start.0 ≡ start.0 = ap (λ (y : Offset). y.0) (w.range.start ∙ at) in
+      let to : file.range.end.0 ≡ x.range.end.0 = ap (λ (y : Offset). y.0) w.end in
+      record {
+        first = at;
+        rows = record {
+          range = w.range;
+          ordered = omega (arith, h.ordered, from, to);
+          within = omega (arith, h.within, from, to);
+          rows = w.rows ∙ h.rows ∙ ap (λ n. rows_in schema ms start.0 n) to ∙ ap (λ n. rows_in schema ms n x.range.end.0) (sym from);
+        };
+      }
 
-  phase_served : (settings : Settings) (p : Partition) (q : Sequence) (start : Offset) (ph : Phase) → IsPhase settings p q start ph → HoldsIn schema ms start ph
-      → serve_phase piece ph ≡ served x → AreRightRows schema ms piece x
+  phase_served : (settings : Settings) (p : Partition) (q : Sequence) (start : Offset) (ph : Phase) → IsPhase settings p q start ph → HoldsInSoFar schema ms start ph
+      → serve_phase piece ph ≡ served x → IsServedFrom schema ms piece start x
   phase_served settings p q start (phase.Unsealed o) is h e = rows_served start o.rows is.0.first h e
   phase_served settings p q start (phase.Retained kept) is h e = file_served start kept.file is.first h e
   phase_served settings p q start (phase.Committed kept) is h e = file_served start kept.file is.first h e
   phase_served settings p q start (phase.Discarded d) is h e = absurd (cc)
 
-  loaded_served : (start : Offset) (o : Option SealedSegment) → IfSome o (λ file. (file.range.start ≡ start) × HoldsFile schema ms start file)
-      → serve_loaded piece o ≡ served x → AreRightRows schema ms piece x
-  loaded_served start None l e = absurd (cc)
-  loaded_served start (Some file) l e = file_served start file l.0 l.1 e
+-- rows so far are right where they begin within the messages
+pub rows_back : (schema : Schema) (ms : List (List ℕ)) (piece : Piece) (start : Offset) (x : ServedRows) → start.0 ≤ length ms → IsServedFrom schema ms piece start x
+    → AreRightRows schema ms piece x
+rows_back schema ms piece start x le k =
+    let from : x.range.start.0 ≡ start.0 = ap (λ (y : Offset). y.0) (k.rows.range.start ∙ k.first) in
+    record {
+      start = k.rows.range.start;
+      end = k.rows.range.end;
+      ordered = k.rows.ordered;
+      within = omega (arith, k.rows.within, le, from);
+      rows = k.rows.rows;
+    }
+
+-- ---- an entry
+
+-- a replica of a server by its rules serves the rows that it holds so far
+pub replica_served : (setup : Setup) (log : Log) (p : Partition) (r : Consumer) (piece : Piece) (x : ServedRows) → IfSome piece.end (λ end. piece.start.0 ≤ end.0)
+    → IsConsumer r → r.settings ≡ settings_of setup → r.partition ≡ p → IsHeldSoFar log r → serve_phase piece r.phase ≡ served x
+    → IsServedFrom setup.schema (messages_of log p) piece r.start x
+replica_served setup log p r piece x order is same at held e =
+    subst (λ (y : Settings). IsServedFrom y.schema (messages_of log p) piece r.start x) same
+    (subst (λ z. IsServedFrom r.settings.schema (messages_of log z) piece r.start x) at
+    (phase_served r.settings.schema (messages_of log r.partition) piece x order r.settings r.partition r.sequence r.start r.phase is.phase held e))
+
+loaded_served : (setup : Setup) (past : Past) (p : Partition) (q : Sequence) (done : SeenMeta) (o : Option SealedSegment) (piece : Piece) (x : ServedRows)
+    → IfSome piece.end (λ end. piece.start.0 ≤ end.0) → IfSome o (IsLoaded setup past p q done) → serve_loaded piece o ≡ served x
+    → AreRightRows setup.schema (messages_of past.log p) piece x
+loaded_served setup past p q done None piece x order l e = absurd (cc)
+loaded_served setup past p q done (Some file) piece x order l e =
+    let so_far = file_forget setup.schema (messages_of past.log p) done.meta.start file l.held in
+    rows_back setup.schema (messages_of past.log p) piece done.meta.start x (omega (arith, l.held.ordered, l.held.within))
+    (file_served setup.schema (messages_of past.log p) piece x order done.meta.start file l.kept.first so_far e)
+
+module _ (setup : Setup) (past : Past) (p : Partition) (q : Sequence) (piece : Piece) (x : ServedRows) (order : IfSome piece.end (λ end. piece.start.0 ≤ end.0)) where
+  pub entry_served : (e : Entry) → IsEntry setup e → IsTrueEntry setup past (p, q) e → serve_entry piece e ≡ served x
+      → AreRightRows setup.schema (messages_of past.log p) piece x
+  entry_served (Replica r) own k e =
+      let from = replica_served setup past.log p r piece x order own.0 k.1.settings (ap (λ (s : Segment). s.0) k.0) (forget past.log r k.1.held) e in
+      rows_back setup.schema (messages_of past.log p) piece r.start x
+      (subst (λ z. r.start.0 ≤ length (messages_of past.log z)) (ap (λ (s : Segment). s.0) k.0) (starts past.log r k.1.held)) from
+  entry_served (Committed c) own k e = loaded_served setup past p q c.done c.file piece x order k.loaded e
+
+  pub at_served : (s : ServerState) → s.setup ≡ setup → IsServer s.setup s.table → (o : Option Entry) → entry_of s.table p q ≡ o
+      → ((e : Entry) → entry_of s.table p q ≡ Some e → IsTrueEntry setup past (p, q) e) → serve_at piece o ≡ served x
+      → AreRightRows setup.schema (messages_of past.log p) piece x
+  at_served s of kept None found trues e = absurd (cc)
+  at_served s of kept (Some y) found trues e = entry_served y (of_setup_entry setup s p q y of kept found) (trues y found) e
 
 -- ---- the table
 
-any_loaded : (setup : Setup) (past : Past) (p : Partition) (q : Sequence) (done : SeenMeta) (o : Option SealedSegment) → IfSome o (IsLoaded setup past p q done)
-    → IfSome o (λ file. (file.range.start ≡ done.meta.start) × HoldsFile setup.schema (messages_of past.log p) done.meta.start file)
-any_loaded setup past p q done None l = tt
-any_loaded setup past p q done (Some file) l = (l.kept.first, l.held)
+pub serves_right : (setup : Setup) (past : Past) (s : ServerState) → IsServerOver setup past s → (piece : Piece) (x : ServedRows)
+    → IfSome piece.end (λ end. piece.start.0 ≤ end.0) → serve s.table piece ≡ Ok x → AreRightRows setup.schema (messages_of past.log piece.partition) piece x
+serves_right setup past s k piece x order e =
+    let p = piece.partition in
+    let q = piece.sequence in
+    at_served setup past p q piece x order s k.of_setup k.kept (entry_of s.table p q) refl
+    (λ y found. entry_true setup past s.numbers.instance s.numbers.incarnation (p, q) y (found_over setup past s k p q y found)) e
 
-module _ (setup : Setup) (past : Past) (s : ServerState) (k : IsServerOver setup past s) (piece : Piece) (x : ServedRows) (order : IfSome piece.end (λ end. piece.start.0 ≤ end.0)) where
-  abbrev Right : Type 0
-  Right = AreRightRows setup.schema (messages_of past.log piece.partition) piece x
-
-  entry_served : (e : Entry) → entry_of s.table piece.partition piece.sequence ≡ Some e → serve_entry piece e ≡ served x → Right
-  entry_served (Replica r) found e =
-      let over = found_over setup past s k piece.partition piece.sequence (Replica r) found in
-      let own : IsEntry s.setup (Replica r) = found_is s.setup s.table piece.partition piece.sequence (Replica r) k.kept found in
-      let here = phase_served r.settings.schema (messages_of past.log r.partition) piece x order r.settings r.partition r.sequence r.start r.phase own.0.phase over.1.held e in
-      subst (λ (y : Settings). AreRightRows y.schema (messages_of past.log piece.partition) piece x) over.1.settings
-      (subst (λ (y : Segment). AreRightRows r.settings.schema (messages_of past.log y.0) piece x) over.0 here)
-  entry_served (Committed c) found e =
-      let over = found_over setup past s k piece.partition piece.sequence (Committed c) found in
-      loaded_served setup.schema (messages_of past.log piece.partition) piece x order c.done.meta.start c.file
-      (any_loaded setup past piece.partition piece.sequence c.done c.file over.loaded) e
-
-  at_served : (o : Option Entry) → entry_of s.table piece.partition piece.sequence ≡ o → serve_at piece o ≡ served x → Right
-  at_served None found e = absurd (cc)
-  at_served (Some y) found e = entry_served y found e
-
-  pub serves_right : serve s.table piece ≡ Ok x → Right
-  serves_right e = at_served (entry_of s.table piece.partition piece.sequence) refl e
+-- so it is of what is its own, over a sound past
+pub serves_sound : (setup : Setup) (past : Past) (s : ServerState) → IsSound setup past → IsOwnServer setup past s → (piece : Piece) (x : ServedRows)
+    → IfSome piece.end (λ end. piece.start.0 ≤ end.0) → serve s.table piece ≡ Ok x → AreRightRows setup.schema (messages_of past.log piece.partition) piece x
+serves_sound setup past s sound k piece x order e =
+    let p = piece.partition in
+    let q = piece.sequence in
+    at_served setup past p q piece x order s k.of_setup k.kept (entry_of s.table p q) refl
+    (λ y found. own_true setup past sound s.numbers.instance s.numbers.incarnation (p, q) y (found_own setup past s k p q y found)) e

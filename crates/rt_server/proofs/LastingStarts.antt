@@ -1,22 +1,20 @@
 -- What lasts is true of a fresh server.
-use Rattle.std.proofs.Common.{◌≡◌, ◌==◌, ◌||◌, ◌<◌, ◌≤◌, ◌⊎◌, inl, inr, ℕ, zero, suc, Bool, true, false, cond, List, [], ◌∷◌, ◌++◌, refl, sym, ap, subst, ◌∙◌, arith}
+use Rattle.std.proofs.Common.{◌≡◌, ◌==◌, ◌||◌, ◌<◌, ◌≤◌, ◌⊎◌, inl, inr, ℕ, zero, suc, Bool, true, false, cond, List, [], ◌∷◌, ◌++◌, Option, Some, None, refl, sym, ap, subst, ◌∙◌, arith}
 use Rattle.std.specs.BTreeMap.{insert_entry}
 use Rattle.std.specs.List.{list_any}
-use Rattle.std.specs.List.Sorted.{IsStrictlySortedBy}
-use Rattle.std.specs.Map.{keys_of}
 use Rattle.std.proofs.lemmas.Bool.{cases_eq, eqb-true}
 use Rattle.rt_base.specs.declared.numbers.Instance.{Instance}
 use Rattle.rt_base.specs.declared.numbers.Partition.{Partition}
 use Rattle.rt_base.specs.declared.numbers.Sequence.{Sequence}
 use Rattle.rt_lists.specs.Members.{Has}
-use Rattle.rt_lists.proofs.Members.{Has-push}
+use Rattle.rt_lists.proofs.Members.{Has-append_left, Has-append_right, Has-push}
 use Rattle.rt_model.specs.declared.ideal_state.IdealEntry.{IdealEntry}
 use Rattle.rt_model.specs.declared.ideal_state.Mode.{Mode}
 use Rattle.rt_model.specs.declared.ideal_state.Mode.TheVariants.{Consuming}
 use Rattle.rt_model.specs.declared.setup.Setup.{Setup}
 use Rattle.rt_model.specs.Ideal.{consuming, is_before, with_consuming, with_entry}
 use Rattle.rt_model.specs.Setup.{IsSetup}
-use Rattle.rt_model.specs.Starting.{Starting, starting_boots, starting_entries, starting_ideal, starting_metas}
+use Rattle.rt_model.specs.Starting.{Starting, starting_boots, starting_entries, starting_ideal, starting_meta, starting_metas}
 use Rattle.rt_model.proofs.Entries.{Has-with_consuming, names_entry, with_consuming-Has, with_entry-Has}
 use Rattle.rt_model.proofs.Histories.{same_instance, same_partition}
 use Rattle.rt_model.proofs.Lawful.{has_chains, start_is_lawful}
@@ -25,17 +23,21 @@ use Rattle.rt_assign.specs.Placement.{replicas_of}
 use Rattle.rt_store.specs.Contents.{starting_of}
 use Rattle.rt_past.specs.Past.{Past}
 use Rattle.rt_past.specs.IsPast.{fresh_past}
-use Rattle.rt_past.specs.Segments.{HadEntry, IsAssignedTo, IsBegun}
+use Rattle.rt_past.specs.Segments.{HadEntry, IsAssignedTo, IsBegun, IsBegunAs}
 use Rattle.rt_past.proofs.Starts.{past_starts}
 use Rattle.rt_replica.proofs.KeepsLasting.{started_lasts}
+use Rattle.rt_entry.specs.declared.entry.Entry.{Entry}
 use Rattle.rt_entry.specs.declared.entry.Entry.TheVariants.{Replica}
 use Rattle.rt_server.specs.Calls.{targets_of}
-use Rattle.rt_server.specs.Fresh.{first_meta, first_replica, first_segments, first_sequence, fresh, is_assigned, with_first}
+use Rattle.rt_server.specs.Fresh.{IsFreshOf, first_meta, first_replica, first_segments, first_sequence, fresh, is_assigned, with_first}
 use Rattle.rt_server.specs.Lasting.{AreEntriesOver, IsEntryOver, IsServerOver}
-use Rattle.rt_server.specs.Table.{Segment, Segments, segment_cmp}
+use Rattle.rt_server.specs.Table.{Segment, Segments, entry_of, segment_cmp, target_of}
 use Rattle.rt_server.proofs.Kept.{fresh_is}
-use Rattle.rt_server.proofs.LastingPuts.{one_of, segment}
-use Rattle.rt_server.proofs.LastingTables.{Has-insert_entry, none_sorted, put_again, put_commutes, segment_exact, segment_total, sorted-insert_entry}
+use Rattle.rt_server.proofs.EachEntry.{add_each}
+use Rattle.rt_server.proofs.LastingPuts.{segment}
+use Rattle.rt_server.proofs.Listed.{lookup_put}
+use Rattle.rt_server.proofs.Merge.{is_it, it_is}
+use Rattle.rt_server.proofs.LastingTables.{put_again, put_commutes, segment_exact, segment_total}
 
 -- ---- the targets
 
@@ -121,7 +123,29 @@ starting_has s (suc n) p i lt has = by (cases_eq p.0 n) (λ below. starting_has 
         with_consuming-Has (starting_entries s n) (record { 0 = n }) first_sequence (s.instances (record { 0 = n })) (consuming p first_sequence i)
         (further (omega (arith, lt, other)))
 
+-- a first segment has its node
+metas_has : (s : Starting) (n p : ℕ) → p < n → Has (starting_metas s n) (starting_meta s p)
+metas_has s zero p lt = absurd (omega (arith, lt))
+metas_has s (suc n) p lt = by (cases_eq p n) (λ below. metas_has s n p below)
+  where
+    by : (p ≡ n) ⊎ (p ≡ n → ⊥) → (p < n → Has (starting_metas s n) (starting_meta s p)) → Has (starting_metas s (suc n)) (starting_meta s p)
+    by (inl same) further =
+        subst (λ x. Has (starting_metas s n ++ starting_meta s n ∷ []) (starting_meta s x)) (sym same) (Has-push (starting_metas s n) (starting_meta s n))
+    by (inr other) further = Has-append_left (starting_metas s n) (starting_meta s n ∷ []) (starting_meta s p) (further (omega (arith, lt, other)))
+
 -- ---- the table, partition by partition
+
+abbrev an_entry : Entry → Option Entry
+an_entry e = Some e
+
+abbrev a_mode : Mode → Option Mode
+a_mode m = Some m
+
+no_mode : (m : Mode) → None ≡ a_mode m → ⊥
+no_mode m e = cc
+
+same_mode : (m n : Mode) → a_mode m ≡ a_mode n → m ≡ n
+same_mode m n e = cc
 
 module _ (setup : Setup) (i : Instance) where
   abbrev start : Starting
@@ -136,6 +160,15 @@ module _ (setup : Setup) (i : Instance) where
       let zeroth = (has_chains start past.history (start_is_lawful start) p lt).from_zero c.0 (record { has = c.1; is_of = c.2; starts = c.3 }) in
       (c.0, c.1, c.2, (c.3, zeroth))
 
+  first_named : (p : Partition) → p.0 < setup.partitions → IsBegunAs past.history p first_sequence (first_meta setup p).name
+  first_named p lt = (
+    starting_meta start p.0,
+    Has-append_left (starting_boots start.servers ++ starting_metas start start.partitions) (starting_ideal start ∷ []) (starting_meta start p.0)
+        (Has-append_right (starting_boots start.servers) (starting_metas start start.partitions) (starting_meta start p.0) (metas_has start start.partitions p.0 lt)),
+    refl,
+    (tt, refl),
+  )
+
   first_entered : (p : Partition) → p.0 < setup.partitions → IsAssignedTo setup p i → HadEntry past.history p first_sequence
   first_entered p lt assigned = (
     starting_ideal start,
@@ -146,11 +179,10 @@ module _ (setup : Setup) (i : Instance) where
   first_over : (p : Partition) → p.0 < setup.partitions → is_assigned setup p i ≡ true → IsEntryOver setup past i 0 (segment p first_sequence) (Replica (first_replica setup p))
   first_over p lt mine =
       let assigned : IsAssignedTo setup p i = any_has i (replicas_of p setup.table.replication setup.servers) mine in
-      (refl, started_lasts setup past i 0 p first_sequence (first_meta setup p) setup.start (past_starts setup) lt assigned (first_entered p lt assigned) (first_begun p lt))
+      (refl, started_lasts setup past i 0 p first_sequence (first_meta setup p) setup.start (past_starts setup) lt assigned (first_entered p lt assigned) (first_begun p lt) (first_named p lt))
 
   record IsFirst (n : ℕ) (t : Segments) : Type 0 where
     targets : t.targets ≡ targets_of i (starting_entries start n)
-    ascending : IsStrictlySortedBy segment_cmp (keys_of t.entries)
     entries : AreEntriesOver setup past i 0 t.entries
 
   one_more : (n : ℕ) (t : Segments) (b : Bool) → n < setup.partitions → is_assigned setup (record { 0 = n }) i ≡ b → IsFirst n t → IsFirst (suc n) (cond b (with_first setup (record { 0 = n }) t) t)
@@ -163,10 +195,7 @@ module _ (setup : Setup) (i : Instance) where
             ap (λ ts. put ts (consuming p first_sequence i)) f.targets
             ∙ sym (targets_consuming i es p first_sequence (start.instances p) (λ e has. (starting_entry start n e has).2)
             ∙ ap (λ b. put_if b (targets_of i es) (consuming p first_sequence i)) mine);
-        ascending = sorted-insert_entry segment_cmp segment_total t.entries (segment p first_sequence) new f.ascending;
-        entries = λ x has.
-            one_of setup past i 0 t.entries f.entries (segment p first_sequence) new x (first_over p lt mine)
-            (Has-insert_entry segment_cmp segment_exact t.entries (segment p first_sequence) new x has);
+        entries = add_each (IsEntryOver setup past i 0) t.entries p first_sequence new f.entries (first_over p lt mine);
       }
   one_more n t false lt mine f =
       let p : Partition = record { 0 = n } in
@@ -176,12 +205,11 @@ module _ (setup : Setup) (i : Instance) where
             f.targets
             ∙ sym (targets_consuming i es p first_sequence (start.instances p) (λ e has. (starting_entry start n e has).2)
             ∙ ap (λ b. put_if b (targets_of i es) (consuming p first_sequence i)) mine);
-        ascending = f.ascending;
         entries = f.entries;
       }
 
   firsts : (n : ℕ) → n ≤ setup.partitions → IsFirst n (first_segments setup i n)
-  firsts zero le = record { targets = refl; ascending = none_sorted segment_cmp; entries = λ x has. absurd has }
+  firsts zero le = record { targets = refl; entries = λ x has. absurd has }
   firsts (suc n) le =
       one_more n (first_segments setup i n) (is_assigned setup (record { 0 = n }) i) (omega (arith, le)) refl (firsts n (omega (arith, le)))
 
@@ -194,7 +222,6 @@ module _ (setup : Setup) (i : Instance) where
         exists = lt;
         incarnation = boot_starts start i lt;
         counted = omega arith;
-        ascending = f.ascending;
         targets = inr (
           starting_ideal start,
           record { has = Has-push (starting_boots start.servers ++ starting_metas start start.partitions) (starting_ideal start); is_ideal = refl },
@@ -202,3 +229,60 @@ module _ (setup : Setup) (i : Instance) where
         );
         entries = f.entries;
       }
+
+  -- ---- what a fresh server has
+
+  -- neither target nor entry, or the first segment's
+  abbrev IsTied : Segments → Partition → Sequence → Type 0
+  IsTied t p q =
+      ((target_of t p q ≡ None) × (entry_of t p q ≡ None))
+      ⊎ ((target_of t p q ≡ Some Consuming) × (q ≡ first_sequence) × (entry_of t p q ≡ Some (Replica (first_replica setup p))))
+
+  tied_more : (n : Partition) (t : Segments) (b : Bool) (p : Partition) (q : Sequence) → IsTied t p q → IsTied (cond b (with_first setup n t) t) p q
+  tied_more n t false p q tied = tied
+  tied_more n t true p q tied = by (is_it (segment p q) (segment n first_sequence)) refl
+    where
+      target : target_of (with_first setup n t) p q ≡ cond (is_it (segment p q) (segment n first_sequence)) (Some Consuming) (target_of t p q)
+      target = lookup_put t.targets (segment n first_sequence) (segment p q) Consuming
+
+      entry : entry_of (with_first setup n t) p q ≡ cond (is_it (segment p q) (segment n first_sequence)) (Some (Replica (first_replica setup n))) (entry_of t p q)
+      entry = lookup_put t.entries (segment n first_sequence) (segment p q) (Replica (first_replica setup n))
+
+      here : (b : Bool) → is_it (segment p q) (segment n first_sequence) ≡ b → target_of (with_first setup n t) p q ≡ cond b (Some Consuming) (target_of t p q)
+      here b c = target ∙ ap (λ z. cond z (Some Consuming) (target_of t p q)) c
+
+      there : (b : Bool) → is_it (segment p q) (segment n first_sequence) ≡ b → entry_of (with_first setup n t) p q ≡ cond b (Some (Replica (first_replica setup n))) (entry_of t p q)
+      there b c = entry ∙ ap (λ z. cond z (Some (Replica (first_replica setup n))) (entry_of t p q)) c
+
+      stays : is_it (segment p q) (segment n first_sequence) ≡ false → IsTied t p q → IsTied (with_first setup n t) p q
+      stays c (inl none) = inl (here false c ∙ none.0, there false c ∙ none.1)
+      stays c (inr (mode, of, replica)) = inr (here false c ∙ mode, of, there false c ∙ replica)
+
+      by : (b : Bool) → is_it (segment p q) (segment n first_sequence) ≡ b → IsTied (with_first setup n t) p q
+      by true c =
+          let same = it_is (segment p q) (segment n first_sequence) c in
+          let at : n ≡ p = ap (λ (s : Segment). s.0) (sym same) in
+          inr (here true c, ap (λ (s : Segment). s.1) same, there true c ∙ ap (λ x. an_entry (Replica (first_replica setup x))) at)
+      by false c = stays c tied
+
+  tied : (n : ℕ) (p : Partition) (q : Sequence) → IsTied (first_segments setup i n) p q
+  tied zero p q = inl (refl, refl)
+  tied (suc n) p q = tied_more (record { 0 = n }) (first_segments setup i n) (is_assigned setup (record { 0 = n }) i) p q (tied n p q)
+
+  held_by : (t : Segments) (p : Partition) (q : Sequence) (mode : Mode) → IsTied t p q → target_of t p q ≡ Some mode
+      → (mode ≡ Consuming) × (q ≡ first_sequence) × (entry_of t p q ≡ Some (Replica (first_replica setup p)))
+  held_by t p q mode (inl none) e = absurd (no_mode mode (sym none.0 ∙ e))
+  held_by t p q mode (inr (is, of, replica)) e = (same_mode mode Consuming (sym e ∙ is), of, replica)
+
+  others_by : (t : Segments) (p : Partition) (q : Sequence) → IsTied t p q → target_of t p q ≡ None → entry_of t p q ≡ None
+  others_by t p q (inl none) e = none.1
+  others_by t p q (inr (is, of, replica)) e = absurd (no_mode Consuming (sym e ∙ is))
+
+  pub fresh_is_of : IsFreshOf setup i (fresh setup i)
+  fresh_is_of = record {
+    of_setup = refl;
+    numbers = refl;
+    targets = (firsts setup.partitions (omega arith)).targets;
+    held = λ p q mode e. held_by (first_segments setup i setup.partitions) p q mode (tied setup.partitions p q) e;
+    others = λ p q e. others_by (first_segments setup i setup.partitions) p q (tied setup.partitions p q) e;
+  }

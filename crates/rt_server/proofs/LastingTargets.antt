@@ -1,6 +1,7 @@
 -- What a target and the metadata of a segment tell, over a right past.
-use Rattle.std.proofs.Common.{◌≡◌, ◌==◌, ◌<◌, ◌⊎◌, inl, inr, Bool, true, false, cond, List, [], ◌∷◌, Option, Some, None, refl, sym, ap, subst, ◌∙◌, arith}
+use Rattle.std.proofs.Common.{◌≡◌, ◌==◌, ◌<◌, ◌⊎◌, inl, inr, Bool, true, false, cond, List, [], ◌∷◌, Option, Some, None, refl, sym, ap, subst, ◌∙◌}
 use Rattle.std.specs.BTreeMap.{insert_entry}
+use Rattle.std.specs.Map.{lookup}
 use Rattle.std.proofs.lemmas.Bool.{eqb-true}
 use Rattle.rt_base.specs.declared.numbers.Instance.{Instance}
 use Rattle.rt_base.specs.declared.numbers.Offset.{Offset}
@@ -19,20 +20,23 @@ use Rattle.rt_model.specs.declared.setup.Setup.{Setup}
 use Rattle.rt_model.specs.declared.status.Status.{Status}
 use Rattle.rt_model.specs.declared.status.Status.TheVariants.{InProgress, Done, Abandoned}
 use Rattle.rt_model.specs.Entries.{IsIdealWrite, entries_by}
-use Rattle.rt_model.specs.Metadata.{IsDoneStatus}
+use Rattle.rt_model.specs.Lawful.{IsLawfulHistory}
+use Rattle.rt_model.specs.Metadata.{IsDoneStatus, listed_write}
 use Rattle.rt_model.proofs.Entries.{names_entry}
 use Rattle.rt_model.proofs.Histories.{same_instance}
+use Rattle.rt_store.specs.Contents.{starting_of}
 use Rattle.rt_past.specs.Past.{Past}
 use Rattle.rt_past.specs.Files.{IsStored}
 use Rattle.rt_past.specs.IsPast.{IsPast}
 use Rattle.rt_past.specs.Segments.{HadEntry, IsAssignedTo, IsBegun, WasDone}
 use Rattle.rt_past.specs.Writes.{AreRightEntries, IsRightNode, IsRightStatus}
 use Rattle.rt_consumer.specs.Consumer.{end_in, end_of}
-use Rattle.rt_replica.proofs.Answered.{one_start}
+use Rattle.rt_replica.specs.Own.{HadPlace}
 use Rattle.rt_server.specs.Calls.{targets_of}
 use Rattle.rt_server.specs.Lasting.{AreTargets, IsServerOver}
-use Rattle.rt_server.specs.Table.{Segment, ServerState, segment_cmp, target_of}
+use Rattle.rt_server.specs.Table.{Segment, ServerState, is_segment, segment_cmp, target_of}
 use Rattle.rt_server.proofs.LastingPuts.{segment}
+use Rattle.rt_server.proofs.Past.{meta_past}
 use Rattle.rt_server.proofs.LastingTables.{Has-insert_entry, at, lookup-Has, segment_exact}
 
 -- ---- a target
@@ -100,6 +104,24 @@ target_place setup past s p q mode right k found =
     place_of setup past s.numbers.instance s.table.targets (at (segment p q) mode) right k.targets
     (lookup-Has segment_cmp segment_exact s.table.targets (segment p q) mode found)
 
+-- a target comes of an entry that the instance had in an ideal state
+pub target_had : (h : List Seen) (i : Instance) (targets : List (Segment × Mode)) (p : Partition) (q : Sequence) (mode : Mode) → AreTargets h i targets
+    → lookup (is_segment p q) targets ≡ Some mode → HadPlace h i p q
+target_had h i targets p q mode (inl none) found =
+    absurd (no_mode mode (ap (lookup (is_segment p q)) (sym none) ∙ found))
+target_had h i targets p q mode (inr (w, is, e)) found =
+    by (target_comes i (entries_by w.node) (at (segment p q) mode)
+    (subst (λ (ts : List (Segment × Mode)). Has ts (at (segment p q) mode)) e (lookup-Has segment_cmp segment_exact targets (segment p q) mode found)))
+  where
+    by : Comes i (entries_by w.node) (at (segment p q) mode) → HadPlace h i p q
+    by (entry, has, mine, same) = record {
+      write = w;
+      is = is;
+      entry = entry;
+      has = has;
+      names = (ap (λ (s : Segment). s.0) same, ap (λ (s : Segment). s.1) same, mine);
+    }
+
 -- ---- metadata that tells of a commit
 
 -- the commit that metadata tells of, and the file that stands for it
@@ -119,20 +141,11 @@ commit_by setup past p q done Abandoned e is right = absurd is
 pub done_stored : (setup : Setup) (past : Past) (p : Partition) (q : Sequence) (done : SeenMeta) → IsPast setup past → WasDone past.history p q done → IsCommit setup past p q done
 done_stored setup past p q done right was = commit_by setup past p q done done.meta.status refl was.1 (right.writes _ was.0)
 
-abbrev some_end : Offset → Option Offset
-some_end x = Some x
-
-the_end : (a b : Offset) → some_end a ≡ some_end b → a ≡ b
-the_end a b e = cc
-
--- its segment was begun where it starts, and it ends past that, within the log
-pub commit_past : (setup : Setup) (past : Past) (p : Partition) (q : Sequence) (done : SeenMeta) (start end : Offset) → IsPast setup past → p.0 < setup.partitions
-    → WasDone past.history p q done → IsBegun past.history p q start → end_of done ≡ Some end → (done.meta.start ≡ start) × (start.0 < end.0)
-commit_past setup past p q done start end right within was begun e =
-    let c = done_stored setup past p q done right was in
-    let same : done.meta.start ≡ start = one_start setup past p q done.meta.start start right within c.stored.right.begun begun in
-    let last : c.commit.end ≡ end = the_end c.commit.end end (sym (ap end_in c.status) ∙ e) in
-    (same, omega (arith, c.stored.right.file.within.0, ap (λ (x : Offset). x.0) same, ap (λ (x : Offset). x.0) last))
+-- its segment was begun where it starts, and it ends past that
+pub commit_past : (setup : Setup) (past : Past) (p : Partition) (q : Sequence) (done : SeenMeta) (start end : Offset) → IsLawfulHistory (starting_of setup) past.history
+    → p.0 < setup.partitions → WasDone past.history p q done → IsBegun past.history p q start → end_of done ≡ Some end → (done.meta.start ≡ start) × (start.0 < end.0)
+commit_past setup past p q done start end lawful within was begun e =
+    meta_past setup past.history p q start end (listed_write p (record { sequence = q; seen = done })) done lawful within begun was.0 refl refl e
 
 -- what tells of an end tells of a commit
 pub ended_done : (status : Status) (end : Offset) → end_in status ≡ Some end → IsDoneStatus status

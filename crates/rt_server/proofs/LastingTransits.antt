@@ -25,7 +25,7 @@ use Rattle.rt_store.specs.Meaning.{Meaning}
 use Rattle.rt_store.proofs.Seeing.{read_seen}
 use Rattle.rt_past.specs.Past.{Past}
 use Rattle.rt_past.specs.IsPast.{IsPast}
-use Rattle.rt_past.specs.Segments.{IsBegun, WasDone, WasMeta}
+use Rattle.rt_past.specs.Segments.{IsBegun, IsBegunAs, WasDone, WasMeta}
 use Rattle.rt_consumer.specs.declared.consumer.Consumer.{Consumer}
 use Rattle.rt_consumer.specs.Consumer.{started_of}
 use Rattle.rt_replica.specs.Lasting.{IsReplica}
@@ -38,21 +38,21 @@ use Rattle.rt_entry.specs.Entry.{wanting}
 use Rattle.rt_entry.specs.Transition.{goes_on, gone_on, metadata_by, metadata_in, told}
 use Rattle.rt_server.specs.Calls.{Transits, TransitsIf, TransitsTo, stepped_by}
 use Rattle.rt_server.specs.Kept.{IsServer}
-use Rattle.rt_server.specs.Lasting.{IsEntryOver, IsServerOver, segment_of}
+use Rattle.rt_server.specs.Lasting.{IsEntryOver, IsServerOver}
 use Rattle.rt_server.specs.Past.{MayLearn, MayLearnOf}
-use Rattle.rt_server.specs.Table.{Segment, ServerState, entry_of, replica_of, target_of, with_table}
+use Rattle.rt_server.specs.Table.{Segment, ServerState, entry_of, replica_of, segment_of, target_of, with_table}
 use Rattle.rt_server.specs.Transition.{committed, moved_by, moved_if, moved_to, opened, transit_due, transited, transition}
 use Rattle.rt_server.proofs.Kept.{transited_is, without_is}
 use Rattle.rt_server.proofs.LastingPuts.{Keeps, add_over, comes_keep, found_over, leave_over, put_over, replica_held, segment}
-use Rattle.rt_server.proofs.LastingReplicas.{learned_segment}
+use Rattle.rt_server.proofs.SameSegment.{learned_segment}
 use Rattle.rt_server.proofs.LastingTargets.{IsPlace, commit_past, ended_done, target_place}
 
 -- what was read of a segment was written
-abbrev WasRead : List Seen → Partition → Sequence → Option SeenMeta → Type 0
+abbrev pub WasRead : List Seen → Partition → Sequence → Option SeenMeta → Type 0
 WasRead h p q None = Unit {0}
 WasRead h p q (Some seen) = WasMeta h p q seen
 
-at_segment : (P : Partition → Sequence → Type 0) (a b : Segment) → a ≡ b → P a.0 a.1 → P b.0 b.1
+pub at_segment : (P : Partition → Sequence → Type 0) (a b : Segment) → a ≡ b → P a.0 a.1 → P b.0 b.1
 at_segment P a b e h = subst (λ (s : Segment). P s.0 s.1) e h
 
 abbrev come : (X : Type 0) → X → Result X ServerRefused
@@ -81,7 +81,7 @@ by_node h p q w (node.Ideal i) is of has = tt
 by_node h p q w node.Boot is of has = tt
 by_node h p q w node.Gone is of has = tt
 
-was_read : (before after : Meaning) (p : Partition) (q : Sequence) (answer : Result Seen StoreRefused) (seen : Option SeenMeta)
+pub was_read : (before after : Meaning) (p : Partition) (q : Sequence) (answer : Result Seen StoreRefused) (seen : Option SeenMeta)
     → Reads before after (key.Meta p q) answer → metadata_in answer ≡ come (Option SeenMeta) seen → WasRead after.seen p q seen
 was_read before after p q (Ok w) seen reads e =
     let there = read_seen before after (key.Meta p q) w reads in
@@ -102,7 +102,7 @@ module _ (setup : Setup) (past : Past) (s : ServerState) (right : IsPast setup p
   may_learn_some : (seen : SeenMeta) → WasMeta past.history p q seen → MayLearnOf s.table p q seen
   may_learn_some seen was r end found e =
       let at = begun_at r found in
-      (commit_past setup past p q seen r.start end right at.0 (was, ended_done seen.meta.status end e) at.1 e).1
+      (commit_past setup past p q seen r.start end right.lawful at.0 (was, ended_done seen.meta.status end e) at.1 e).1
 
   may_learn : (seen : Option SeenMeta) → WasRead past.history p q seen → MayLearn s.table p q seen
   may_learn None was = tt
@@ -115,8 +115,9 @@ module _ (setup : Setup) (past : Past) (s : ServerState) (right : IsPast setup p
         → IsServerOver setup past (with_table s (opened s.setup s.table p q now seen o).1)
     opened_over seen was open_now None kept =
         let begun : IsBegun past.history p q seen.meta.start = (listed_write p (record { sequence = q; seen = seen }), was, refl, (open_now, refl)) in
+        let named : IsBegunAs past.history p q seen.meta.name = (listed_write p (record { sequence = q; seen = seen }), was, refl, (open_now, refl)) in
         let started : IsReplica setup past s.numbers.instance s.numbers.incarnation (started_of setup p q seen.meta now) =
-        started_lasts setup past s.numbers.instance s.numbers.incarnation p q seen.meta now right place.partition place.assigned place.entered begun in
+        started_lasts setup past s.numbers.instance s.numbers.incarnation p q seen.meta now right place.partition place.assigned place.entered begun named in
         add_over setup past s k p q (Replica (started_of s.setup p q seen.meta now)) kept
         (refl, subst (λ (x : Setup). IsReplica setup past s.numbers.instance s.numbers.incarnation (started_of x p q seen.meta now)) (sym k.of_setup) started)
     opened_over seen was open_now (Some e) kept = k
@@ -162,7 +163,7 @@ module _ (setup : Setup) (past : Past) (s : ServerState) (right : IsPast setup p
 abbrev stated : ReplicaState × ServerState → ServerState
 stated x = x.1
 
-stepped : (s new : ServerState) (p : Partition) (q : Sequence) (now : Moment) (mode : Mode) (m : Result (Option SeenMeta) ServerRefused) (x : ReplicaState)
+pub stepped : (s new : ServerState) (p : Partition) (q : Sequence) (now : Moment) (mode : Mode) (m : Result (Option SeenMeta) ServerRefused) (x : ReplicaState)
     → stepped_by s (moved_if s.setup s.table p q now mode m) ≡ come (ReplicaState × ServerState) (x, new)
     → (seen : Option SeenMeta) × (m ≡ come (Option SeenMeta) seen) × (new ≡ with_table s (transition s.setup s.table p q now mode seen).1)
 stepped s new p q now mode (Ok seen) x e = (seen, refl, sym (ap stated (same_come (ReplicaState × ServerState) _ (x, new) e)))

@@ -50,7 +50,7 @@ downloaded_at setup before after old new p q result (Some c) found h s =
     let is : IsEntry setup (Committed c) = found_is setup old p q (Committed c) s (committed_found (entry_of old p q) c found) in
     subst (IsServer setup) (sym h.2)
     (put_back_is setup old p q (Committed h.0) s
-    (loads_fit before after setup.schema p q c h.0 result (wanted_by c.file c.done.meta.status) h.1 is))
+    (loads_fit before after setup.schema p q c h.0 result (wanted_by c.file c.done.meta.status) h.1 is) tt)
 
 pub downloaded_is : (setup : Setup) (before after : Meaning) (old new : Segments) (p : Partition) (q : Sequence) (result : Result ℕ ServerRefused)
     → Downloads before after setup.schema old new p q result → IsServer setup old → IsServer setup new

@@ -27,25 +27,25 @@ next_left all later (Some n) took = sym took
 
 -- ---- ascending segments
 
-abbrev Below : Segment → List Segment → Type 0
+abbrev pub Below : Segment → List Segment → Type 0
 Below s ss = AllByRecursion (λ x. segment_cmp s x ≡ Less) ss
 
-abbrev Ascending : List Segment → Type 0
+abbrev pub Ascending : List Segment → Type 0
 Ascending ss = IsStrictlySortedBy segment_cmp ss
 
-none_ascend : Ascending []
+pub none_ascend : Ascending []
 unfolding IsStrictlySortedBy
 none_ascend = tt
 
-first_below : (s : Segment) (ss : List Segment) → Ascending (s ∷ ss) → Below s ss
+pub first_below : (s : Segment) (ss : List Segment) → Ascending (s ∷ ss) → Below s ss
 unfolding IsStrictlySortedBy
 first_below s ss up = up.0
 
-later_ascend : (s : Segment) (ss : List Segment) → Ascending (s ∷ ss) → Ascending ss
+pub later_ascend : (s : Segment) (ss : List Segment) → Ascending (s ∷ ss) → Ascending ss
 unfolding IsStrictlySortedBy
 later_ascend s ss up = up.1
 
-then_ascend : (s : Segment) (ss : List Segment) → Below s ss → Ascending ss → Ascending (s ∷ ss)
+pub then_ascend : (s : Segment) (ss : List Segment) → Below s ss → Ascending ss → Ascending (s ∷ ss)
 unfolding IsStrictlySortedBy
 then_ascend s ss below up = (below, up)
 
@@ -58,14 +58,14 @@ further s t (x ∷ ss) lt below = (segment_total.trans s t x lt below.0, further
 
 -- ---- whether a segment is among some
 
-abbrev is_it : Segment → Segment → Bool
+abbrev pub is_it : Segment → Segment → Bool
 is_it s x = is_eq (segment_cmp s x)
 
-abbrev has : List Segment → Segment → Bool
+abbrev pub has : List Segment → Segment → Bool
 has [] s = false
 has (x ∷ xs) s = is_it s x || has xs s
 
-it_is : (s x : Segment) → is_it s x ≡ true → s ≡ x
+pub it_is : (s x : Segment) → is_it s x ≡ true → s ≡ x
 it_is s x e = by (segment_cmp s x) refl e
   where
     by : (o : Ordering) → segment_cmp s x ≡ o → is_eq o ≡ true → s ≡ x
@@ -73,7 +73,7 @@ it_is s x e = by (segment_cmp s x) refl e
     by Equal c h = segment_exact s x c
     by Greater c h = absurd (cc)
 
-itself : (s : Segment) → is_it s s ≡ true
+pub itself : (s : Segment) → is_it s s ≡ true
 itself s = ap is_eq (tied_itself segment_total s)
 
 below_none : (s : Segment) (xs : List Segment) → Below s xs → has xs s ≡ false
@@ -155,7 +155,7 @@ put_if_ascends false found s up = up
 abbrev due_at : Segments → Segment → Bool
 due_at t s = transit_due t s.0 s.1
 
-among_ascends : (t : Segments) (ss found : List Segment) → Ascending found → Ascending (due_among t ss found)
+pub among_ascends : (t : Segments) (ss found : List Segment) → Ascending found → Ascending (due_among t ss found)
 among_ascends t [] found up = up
 among_ascends t (s ∷ ss) found up = among_ascends t ss (put_if (due_at t s) found s) (put_if_ascends (due_at t s) found s up)
 
@@ -180,7 +180,7 @@ has_put_if : (b : Bool) (found : List Segment) (x s : Segment) → has (put_if b
 has_put_if true found x s = has_inserted found x s
 has_put_if false found x s = refl
 
-has_among : (t : Segments) (ss found : List Segment) (s : Segment) → has (due_among t ss found) s ≡ ((due_at t s && has ss s) || has found s)
+pub has_among : (t : Segments) (ss found : List Segment) (s : Segment) → has (due_among t ss found) s ≡ ((due_at t s && has ss s) || has found s)
 has_among t [] found s = by (due_at t s)
   where
     by : (d : Bool) → has found s ≡ ((d && false) || has found s)
@@ -193,11 +193,11 @@ has_among t (x ∷ ss) found s =
 
 -- ---- look-ups
 
-abbrev is_there : {X : Type 0} → Option X → Bool
+abbrev pub is_there : {X : Type 0} → Option X → Bool
 is_there None = false
 is_there (Some x) = true
 
-lookup_has : {X : Type 0} (es : List (Segment × X)) (s : Segment) → has (keys_of es) s ≡ is_there (lookup (is_segment s.0 s.1) es)
+pub lookup_has : {X : Type 0} (es : List (Segment × X)) (s : Segment) → has (keys_of es) s ≡ is_there (lookup (is_segment s.0 s.1) es)
 lookup_has [] s = refl
 lookup_has (e ∷ es) s = by (is_it s e.0) (lookup_has es s)
   where
@@ -206,7 +206,7 @@ lookup_has (e ∷ es) s = by (is_it s e.0) (lookup_has es s)
     by true f = refl
     by false f = f
 
-lookup_below : {X : Type 0} (es : List (Segment × X)) (s : Segment) → Below s (keys_of es) → lookup (is_segment s.0 s.1) es ≡ None
+pub lookup_below : {X : Type 0} (es : List (Segment × X)) (s : Segment) → Below s (keys_of es) → lookup (is_segment s.0 s.1) es ≡ None
 lookup_below [] s below = refl
 lookup_below (e ∷ es) s below = ap (λ o. cond (is_eq o) (Some e.1) (lookup (is_segment s.0 s.1) es)) below.0 ∙ lookup_below es s below.1
 
@@ -349,7 +349,7 @@ walk_has s (t ∷ ts) up es vp = from_has s t ts (first_below t.0 (keys_of ts) u
 
 -- ---- both find the same
 
-only_there : (m : Option Mode) (n : Option Entry) → is_due m n ≡ ((is_due m n && is_there m) || ((is_due m n && is_there n) || false))
+pub only_there : (m : Option Mode) (n : Option Entry) → is_due m n ≡ ((is_due m n && is_there m) || ((is_due m n && is_there n) || false))
 only_there None None = refl
 only_there None (Some e) = refl
 only_there (Some mode) n = by (is_due (Some mode) n) (is_there n)
@@ -361,21 +361,25 @@ only_there (Some mode) n = by (is_due (Some mode) n) (is_there n)
 abbrev segments : List (Segment × Mode) → List (Segment × Entry) → Segments
 segments targets entries = record { targets = targets; entries = entries }
 
+-- the list has what is due
+pub has_due : (t : Segments) (s : Segment) → has (due_of t) s ≡ due_at t s
+has_due t s =
+    has_among t (keys_of t.targets) (due_among t (keys_of t.entries) []) s
+    ∙ ap (λ b. (due_at t s && has (keys_of t.targets) s) || b) (has_among t (keys_of t.entries) [] s)
+    ∙ ap (λ b. (due_at t s && b) || ((due_at t s && has (keys_of t.entries) s) || false)) (lookup_has t.targets s)
+    ∙ ap (λ b. (due_at t s && is_there (mode_at s t.targets)) || ((due_at t s && b) || false)) (lookup_has t.entries s)
+    ∙ sym (only_there (mode_at s t.targets) (entry_at s t.entries))
+
+-- in order
+pub due_ascends : (t : Segments) → Ascending (due_of t)
+due_ascends t =
+    among_ascends t (keys_of t.targets) (due_among t (keys_of t.entries) []) (among_ascends t (keys_of t.entries) [] none_ascend)
+
 pub merged_is : (ts : List (Segment × Mode)) (es : List (Segment × Entry)) → Ascending (keys_of ts) → Ascending (keys_of es)
     → due_merged ts es ≡ due_of (segments ts es)
 merged_is ts es up vp =
-    alike_is (walked ts es) (due_of (segments ts es)) (walk_ascends ts up es vp)
-    (among_ascends (segments ts es) (keys_of ts) (due_among (segments ts es) (keys_of es) [])
-    (among_ascends (segments ts es) (keys_of es) [] none_ascend))
-    (λ s. walk_has s ts up es vp ∙ only_there (mode_at s ts) (entry_at s es) ∙ sym (found s))
-  where
-    found : (s : Segment) → has (due_of (segments ts es)) s
-        ≡ ((is_due (mode_at s ts) (entry_at s es) && is_there (mode_at s ts)) || ((is_due (mode_at s ts) (entry_at s es) && is_there (entry_at s es)) || false))
-    found s =
-        has_among (segments ts es) (keys_of ts) (due_among (segments ts es) (keys_of es) []) s
-        ∙ ap (λ b. (due_at (segments ts es) s && has (keys_of ts) s) || b) (has_among (segments ts es) (keys_of es) [] s)
-        ∙ ap (λ b. (due_at (segments ts es) s && b) || ((due_at (segments ts es) s && has (keys_of es) s) || false)) (lookup_has ts s)
-        ∙ ap (λ b. (due_at (segments ts es) s && is_there (mode_at s ts)) || ((due_at (segments ts es) s && b) || false)) (lookup_has es s)
+    alike_is (walked ts es) (due_of (segments ts es)) (walk_ascends ts up es vp) (due_ascends (segments ts es))
+    (λ s. walk_has s ts up es vp ∙ sym (has_due (segments ts es) s))
 
 -- of the table with these targets and entries
 pub merged_ok : {E : Type 0} (t : Segments) (ts : List (Segment × Mode)) (es : List (Segment × Entry)) (result : Result (List Segment) E) → segments ts es ≡ t

@@ -1,5 +1,6 @@
 -- What a call comes to, by the answer that its store gave.
-use Rattle.std.proofs.Common.{◌≡◌, ℕ, true, false, Option, Some, None, Result, Ok, Err, refl, sym, ap, subst, ◌∙◌}
+use Rattle.std.proofs.Common.{◌≡◌, ℕ, inr, true, false, Option, Some, None, Result, Ok, Err, refl, sym, ap, subst, ◌∙◌}
+use Rattle.rt_base.specs.declared.numbers.Instance.{Instance}
 use Rattle.rt_base.specs.declared.numbers.Moment.{Moment}
 use Rattle.rt_base.specs.declared.numbers.Partition.{Partition}
 use Rattle.rt_base.specs.declared.numbers.Sequence.{Sequence}
@@ -10,12 +11,13 @@ use Rattle.rt_model.specs.declared.replica_state.ReplicaState.{ReplicaState}
 use Rattle.rt_model.specs.declared.seg_meta.SeenMeta.{SeenMeta}
 use Rattle.rt_model.specs.Entries.{entries_by}
 use Rattle.rt_store.specs.declared.refused.StoreRefused.{StoreRefused}
+use Rattle.rt_store.specs.declared.refused.StoreRefused.TheVariants as store
 use Rattle.rt_store.specs.Calls.{Bumps, Reads}
 use Rattle.rt_store.specs.Meaning.{Meaning}
 use Rattle.rt_entry.specs.declared.refused.ServerRefused.{ServerRefused}
 use Rattle.rt_entry.specs.declared.refused.ServerRefused.TheVariants.{NotDue, StoreFault, BadFile, Memory}
 use Rattle.rt_entry.specs.Calls.{Comes, Step}
-use Rattle.rt_server.specs.Calls.{Restarts, SeesIdeal, Transits, TransitsIf, TransitsTo, answered_by, in_incarnation, restarted_in, seen_in, stepped_by, targets_of, with_targets}
+use Rattle.rt_server.specs.Calls.{RanOut, Restarts, WroteNothing, SeesIdeal, Transits, TransitsIf, TransitsTo, answered_by, in_incarnation, restarted_in, seen_in, stepped_by, targets_of, with_targets}
 use Rattle.rt_server.specs.Table.{Segments, ServerState, target_of, with_table}
 use Rattle.rt_entry.specs.Transition.{metadata_in}
 use Rattle.rt_server.specs.Transition.{moved_if, removed, transit_due, transited, transition}
@@ -99,8 +101,29 @@ sees_memory before after s answer reads = (answer, reads, refl)
 pub restarts_ok : (before after : Meaning) (s : ServerState) (answer : Result ℕ StoreRefused) (version : ℕ)
     → Bumps before after s.numbers.instance answer → answered_by answer ≡ Ok version
     → Restarts before after s (in_incarnation s version) (Ok version)
-restarts_ok before after s answer version bumps told = (answer, bumps, ap (restarted_in s) told)
+restarts_ok before after s answer version bumps told = (answer, bumps, ap (restarted_in s) told, tt)
+
+-- a bump that ran out of memory wrote nothing
+out_of_memory : (before after : Meaning) (i : Instance) (answer : Result ℕ StoreRefused) → Bumps before after i answer → answered_by answer ≡ refuse ℕ Memory → RanOut before after
+out_of_memory before after i (Ok version) c told = absurd (cc)
+out_of_memory before after i (Err store.NoNode) c told = absurd (cc)
+out_of_memory before after i (Err (store.Exists found)) c told = absurd (cc)
+out_of_memory before after i (Err (store.VersionChanged expected found)) c told = absurd (cc)
+out_of_memory before after i (Err store.Failed) c told = absurd (cc)
+out_of_memory before after i (Err store.Memory) c told = inr (c.base, c.sees, c.goes)
+
+wrote_nothing : (before after : Meaning) (i : Instance) (answer : Result ℕ StoreRefused) (e : ServerRefused) → Bumps before after i answer → answered_by answer ≡ refuse ℕ e
+    → WroteNothing before after (refuse ℕ e)
+wrote_nothing before after i answer NotDue c told = tt
+wrote_nothing before after i answer StoreFault c told = tt
+wrote_nothing before after i answer (BadFile wanted found) c told = tt
+wrote_nothing before after i answer Memory c told = out_of_memory before after i answer c told
 
 pub restarts_refused : (before after : Meaning) (s : ServerState) (answer : Result ℕ StoreRefused) (e : ServerRefused)
     → Bumps before after s.numbers.instance answer → answered_by answer ≡ Err e → Restarts before after s s (Err e)
-restarts_refused before after s answer e bumps told = (answer, bumps, refuses (restarted_in s (answered_by answer)) s e (ap (restarted_in s) told))
+restarts_refused before after s answer e bumps told = (
+  answer,
+  bumps,
+  refuses (restarted_in s (answered_by answer)) s e (ap (restarted_in s) told),
+  wrote_nothing before after s.numbers.instance answer e bumps told,
+)

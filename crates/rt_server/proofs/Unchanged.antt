@@ -1,9 +1,13 @@
--- A refused call of a replica leaves its server as it was.
-use Rattle.std.proofs.Common.{◌≡◌, ℕ, Option, Some, None, Result, Ok, Err, refl, ap, subst, ◌∙◌}
+-- A refused call leaves a server as it was.
+use Rattle.std.proofs.Common.{◌≡◌, ℕ, Bool, true, false, Option, Some, None, Result, Ok, Err, refl, ap, subst, ◌∙◌}
 use Rattle.rt_base.specs.declared.numbers.Moment.{Moment}
 use Rattle.rt_base.specs.declared.numbers.Partition.{Partition}
 use Rattle.rt_base.specs.declared.numbers.Sequence.{Sequence}
 use Rattle.rt_stream.specs.Feed.{FeedMeaning}
+use Rattle.rt_model.specs.declared.ideal_state.Mode.{Mode}
+use Rattle.rt_model.specs.declared.replica_state.ReplicaState.{ReplicaState}
+use Rattle.rt_model.specs.declared.replica_state.ReplicaState.TheVariants as state
+use Rattle.rt_store.specs.Meaning.{Meaning}
 use Rattle.rt_msgs.specs.Numbered.{Numbered}
 use Rattle.rt_consumer.specs.declared.consumer.Consumer.{Consumer}
 use Rattle.rt_consumer.specs.declared.phase.Phase.{Phase}
@@ -13,9 +17,11 @@ use Rattle.rt_consumer.specs.Batch.{Consumes}
 use Rattle.rt_consumer.specs.Requests.{Builds, Does, Extends, Requests, forced, stopped}
 use Rattle.rt_entry.specs.declared.entry.Entry.TheVariants.{Replica}
 use Rattle.rt_entry.specs.declared.refused.ServerRefused.{ServerRefused}
-use Rattle.rt_server.specs.Calls.{Asks, AsksFor, Forces, Seals, Stops, Takes, ThroughAt}
-use Rattle.rt_entry.specs.Calls.{ReplicaCall, answered_as}
-use Rattle.rt_server.specs.Table.{Segments, entry_of, put_back, replica_of}
+use Rattle.rt_entry.specs.declared.refused.ServerRefused.TheVariants as server
+use Rattle.rt_server.specs.Calls.{Asks, AsksFor, Forces, RanOut, Restarts, Seals, SeesIdeal, Stops, Takes, ThroughAt, Transits, TransitsIf, TransitsTo, WroteNothing}
+use Rattle.rt_entry.specs.Calls.{Comes, ReplicaCall, Step, answered_as}
+use Rattle.rt_server.specs.Table.{Segments, ServerState, entry_of, put_back, replica_of, target_of}
+use Rattle.rt_server.specs.Transition.{transit_due}
 use Rattle.rt_server.proofs.Kept.{replica_found}
 use Rattle.rt_server.proofs.Through.{put_same}
 
@@ -85,3 +91,35 @@ pub asks_for_stay : (before after : Numbered) (millis : ℕ) (old new : Segments
 asks_for_stay before after millis old new p q e h =
     through_refused (after ≡ before) (λ r next answer. Extends r next before after millis answer) old new p q e (replica_of old p q) refl
     (λ r next x c. extends_stay r next before after millis x c) h
+
+-- ---- the calls of a store
+
+comes_refused : {S X : Type 0} (step : Step S X) (old new : S) (e : ServerRefused) → Comes step old new (refuse X e) → new ≡ old
+comes_refused step old new server.NotDue h = h.1
+comes_refused step old new server.StoreFault h = h.1
+comes_refused step old new (server.BadFile wanted found) h = h.1
+comes_refused step old new server.Memory h = h
+
+pub sees_stay : (before after : Meaning) (old new : ServerState) (e : ServerRefused) → SeesIdeal before after old new (Err e) → new ≡ old
+sees_stay before after old new e h = comes_refused _ old new e h.2
+
+not_told : (e : ServerRefused) → refuse ReplicaState e ≡ Ok state.Discarded → ⊥
+not_told e h = cc
+
+to_stay : (o : Option Mode) (before after : Meaning) (old new : ServerState) (p : Partition) (q : Sequence) (now : Moment) (e : ServerRefused)
+    → TransitsTo o before after old new p q now (Err e) → new ≡ old
+to_stay None before after old new p q now e h = absurd (not_told e h.1)
+to_stay (Some mode) before after old new p q now e h = comes_refused _ old new e h.2
+
+if_stay : (b : Bool) (before after : Meaning) (old new : ServerState) (p : Partition) (q : Sequence) (now : Moment) (e : ServerRefused)
+    → TransitsIf b before after old new p q now (Err e) → new ≡ old
+if_stay true before after old new p q now e h = to_stay (target_of old.table p q) before after old new p q now e h
+if_stay false before after old new p q now e h = h.2
+
+pub transits_stay : (before after : Meaning) (old new : ServerState) (p : Partition) (q : Sequence) (now : Moment) (e : ServerRefused)
+    → Transits before after old new p q now (Err e) → new ≡ old
+transits_stay before after old new p q now e h = if_stay (transit_due old.table p q) before after old new p q now e h
+
+pub restarts_stay : (before after : Meaning) (old new : ServerState) (e : ServerRefused) → Restarts before after old new (Err e)
+    → (new ≡ old) × (e ≡ server.Memory → RanOut before after)
+restarts_stay before after old new e h = (comes_refused _ old new e h.2, λ out. subst (λ x. WroteNothing before after (refuse ℕ x)) out h.3)

@@ -1,5 +1,5 @@
 -- The calls of a server, by the answers of the calls that they make.
-use Rattle.std.specs.Prelude.{◌≡◌, ℕ, Bool, true, false, List, [], ◌∷◌, ◌==◌, if◌then◌else◌, Option, Some, None, Result, Ok, Err}
+use Rattle.std.specs.Prelude.{◌≡◌, ◌⊎◌, ℕ, Bool, true, false, List, [], ◌∷◌, ◌==◌, if◌then◌else◌, Option, Some, None, Result, Ok, Err}
 use Rattle.std.specs.BTreeMap.{insert_entry}
 use Rattle.rt_base.specs.declared.numbers.Instance.{Instance}
 use Rattle.rt_base.specs.declared.numbers.Moment.{Moment}
@@ -19,7 +19,7 @@ use Rattle.rt_stream.specs.Feed.{FeedMeaning}
 use Rattle.rt_store.specs.declared.refused.StoreRefused.{StoreRefused}
 use Rattle.rt_store.specs.declared.refused.StoreRefused.TheVariants as store
 use Rattle.rt_store.specs.Meaning.{Meaning}
-use Rattle.rt_store.specs.Calls.{Reads, Bumps}
+use Rattle.rt_store.specs.Calls.{Reads, Bumps, Sees, Stays}
 use Rattle.rt_consumer.specs.declared.consumer.Consumer.{Consumer}
 use Rattle.rt_consumer.specs.declared.refused.ReplicaRefused.{ReplicaRefused}
 use Rattle.rt_consumer.specs.Batch.{Consumes}
@@ -27,7 +27,7 @@ use Rattle.rt_consumer.specs.Replies.{is_answer, replied}
 use Rattle.rt_consumer.specs.Requests.{Builds, Does, Extends, Requests, forced, stopped}
 use Rattle.rt_entry.specs.declared.entry.Entry.TheVariants.{Replica}
 use Rattle.rt_entry.specs.declared.refused.ServerRefused.{ServerRefused}
-use Rattle.rt_entry.specs.declared.refused.ServerRefused.TheVariants.{NotDue, StoreFault, Memory}
+use Rattle.rt_entry.specs.declared.refused.ServerRefused.TheVariants.{NotDue, StoreFault, BadFile, Memory}
 use Rattle.rt_server.specs.Table.{Segment, Segments, ServerState, segment_cmp, with_table, target_of, without, put_back, replica_of}
 use Rattle.rt_server.specs.Transition.{Moved, transit_due, transited}
 use Rattle.rt_entry.specs.Calls.{Step, Comes, answered_as, ReplicaCall}
@@ -82,9 +82,22 @@ restarted_in s (Err e) = Err e
 abbrev pub restarted_by : ServerState → Result ℕ StoreRefused → Step ServerState ℕ
 restarted_by s answer = restarted_in s (answered_by answer)
 
+-- memory ran out, before the store was called or in its call: nothing was written
+abbrev pub RanOut : Meaning → Meaning → Type 0
+RanOut before after = (after ≡ before) ⊎ ((base : List Seen) × Sees before base × Stays before after base)
+
+-- a call that answers want of memory has written nothing
+abbrev pub WroteNothing : {X : Type 0} → Meaning → Meaning → Result X ServerRefused → Type 0
+WroteNothing before after (Ok x) = Unit {0}
+WroteNothing before after (Err NotDue) = Unit {0}
+WroteNothing before after (Err StoreFault) = Unit {0}
+WroteNothing before after (Err (BadFile wanted found)) = Unit {0}
+WroteNothing before after (Err Memory) = RanOut before after
+
 abbrev pub Restarts : Meaning → Meaning → ServerState → ServerState → Result ℕ ServerRefused → Type 0
 Restarts before after old new result =
-    (answer : Result ℕ StoreRefused) × Bumps before after old.numbers.instance answer × Comes (restarted_by old answer) old new result
+    (answer : Result ℕ StoreRefused) × Bumps before after old.numbers.instance answer
+    × Comes (restarted_by old answer) old new result × WroteNothing before after result
 
 -- ---- a transition
 

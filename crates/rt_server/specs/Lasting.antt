@@ -1,27 +1,28 @@
 -- What lasts of a server, with respect to what has grown so far: the stream, the store's history, the files and the
 -- messages. Each part stays true as these grow.
-use Rattle.std.specs.Prelude.{◌≡◌, ◌+◌, ◌<◌, ◌≤◌, ◌⊎◌, ℕ, List, [], length, IfSome}
-use Rattle.std.specs.List.Sorted.{IsStrictlySortedBy}
-use Rattle.std.specs.Map.{keys_of}
+use Rattle.std.specs.Prelude.{◌≡◌, ◌+◌, ◌<◌, ◌≤◌, ◌⊎◌, ℕ, All, List, [], length, IfSome}
 use Rattle.rt_base.specs.declared.numbers.Instance.{Instance}
 use Rattle.rt_base.specs.declared.numbers.Partition.{Partition}
 use Rattle.rt_base.specs.declared.numbers.Sequence.{Sequence}
 use Rattle.rt_lists.specs.Members.{Has}
 use Rattle.rt_segment.specs.Segment.{SealedSegment}
+use Rattle.rt_segment.specs.Spelling.{header_of}
 use Rattle.rt_stream.specs.Log.{messages_of}
+use Rattle.rt_model.specs.declared.commit.Commit.{Commit}
 use Rattle.rt_model.specs.declared.ideal_state.Mode.{Mode}
 use Rattle.rt_model.specs.declared.node.Seen.{Seen}
 use Rattle.rt_model.specs.declared.request.Request.{Request}
 use Rattle.rt_model.specs.declared.seg_meta.SeenMeta.{SeenMeta}
 use Rattle.rt_model.specs.declared.sent.Sent.{Sent}
 use Rattle.rt_model.specs.declared.setup.Setup.{Setup}
+use Rattle.rt_model.specs.declared.status.Status.TheVariants.{Done}
 use Rattle.rt_model.specs.Entries.{IsIdealWrite, entries_by}
 use Rattle.rt_msgs.specs.Numbered.{number_at}
 use Rattle.rt_past.specs.Past.{Past, Grows, with_request}
+use Rattle.rt_past.specs.Files.{IsIndexed, header_named}
 use Rattle.rt_past.specs.IsPast.{IsPast}
 use Rattle.rt_past.specs.Requests.{AreDrawn, IsRequest}
 use Rattle.rt_past.specs.Segments.{HadEntry, IsAssignedTo, IsIncarnation, WasDone}
-use Rattle.rt_consumer.specs.declared.consumer.Consumer.{Consumer}
 use Rattle.rt_consumer.specs.Consumer.{IsKept}
 use Rattle.rt_replica.specs.Held.{HoldsFile}
 use Rattle.rt_replica.specs.Lasting.{IsReplica}
@@ -30,13 +31,17 @@ use Rattle.rt_entry.specs.declared.entry.Entry.{Entry}
 use Rattle.rt_entry.specs.declared.entry.Entry.TheVariants.{Replica, Committed}
 use Rattle.rt_server.specs.Calls.{targets_of}
 use Rattle.rt_server.specs.Kept.{IsServer}
-use Rattle.rt_server.specs.Table.{Segment, ServerState, segment_cmp}
+use Rattle.rt_server.specs.Table.{Segment, ServerState, segment_of}
 
 -- ---- an entry
 
--- the file of a commit: whole, of its segment and range, with the stream's rows there
+-- the file of a commit: whole, of its segment and range, with the header that the commit names, in the setup's format, with an
+-- index for the columns that the table's settings name, and with the stream's rows there
 pub record IsLoaded (setup : Setup) (past : Past) (p : Partition) (q : Sequence) (done : SeenMeta) (file : SealedSegment) : Type 0 where
   pub kept : IsKept setup.schema p q done.meta.start (record { file = file; done = done })
+  pub named : (commit : Commit) → done.meta.status ≡ Done commit → header_of file ≡ header_named p q done.meta.start commit
+  pub format : file.format ≡ setup.format
+  pub indexed : All (IsIndexed setup.table.indexed) file.columns
   pub held : HoldsFile setup.schema (messages_of past.log p) done.meta.start file
 
 -- a committed segment that an instance is assigned to, and that has or had an entry in the ideal state: its commit was
@@ -47,10 +52,6 @@ pub record IsCommittedOver (setup : Setup) (past : Past) (i : Instance) (p : Par
   pub entered : HadEntry past.history p q
   pub done : WasDone past.history p q c.done
   pub loaded : IfSome c.file (IsLoaded setup past p q c.done)
-
--- the segment of a replica
-abbrev pub segment_of : Consumer → Segment
-segment_of r = (r.partition, r.sequence)
 
 -- a replica of the segment, of this instance in this incarnation of it, or a commit of the segment
 abbrev pub IsEntryOver : Setup → Past → Instance → ℕ → Segment → Entry → Type 0
@@ -76,7 +77,6 @@ pub record IsServerOver (setup : Setup) (past : Past) (s : ServerState) : Type 0
   pub exists : s.numbers.instance.0 < setup.servers
   pub incarnation : IsIncarnation past.history s.numbers.instance s.numbers.incarnation
   pub counted : s.numbers.made ≤ length past.sent
-  pub ascending : IsStrictlySortedBy segment_cmp (keys_of s.table.entries)
   pub targets : AreTargets past.history s.numbers.instance s.table.targets
   pub entries : AreEntriesOver setup past s.numbers.instance s.numbers.incarnation s.table.entries
 

@@ -11,15 +11,16 @@ use Rattle.rt_mutable.specs.Consuming as consuming
 use Rattle.rt_segment.specs.FileRight.{FileRight}
 use Rattle.rt_segment.specs.Segment.{SealedSegment}
 use Rattle.rt_segment.specs.Segment as segment
-use Rattle.rt_segment.specs.Spelling.{file_of}
+use Rattle.rt_segment.specs.Spelling.{file_of, header_of}
 use Rattle.rt_stream.specs.Log.{messages_of}
+use Rattle.rt_model.specs.declared.commit.Commit.{Commit}
 use Rattle.rt_model.specs.declared.piece.Piece.{Piece}
 use Rattle.rt_model.specs.declared.replica_state.ReplicaState.{ReplicaState}
 use Rattle.rt_model.specs.declared.replica_state.ReplicaState.TheVariants as state
 use Rattle.rt_model.specs.declared.seg_meta.SeenMeta.{SeenMeta}
 use Rattle.rt_model.specs.declared.setup.Setup.{Setup}
 use Rattle.rt_past.specs.Past.{Past}
-use Rattle.rt_past.specs.Files.{range_to}
+use Rattle.rt_past.specs.Files.{IsRightFile, header_named, range_to}
 use Rattle.rt_past.specs.Segments.{WasDone}
 use Rattle.rt_consumer.specs.declared.phase.Phase.{Phase}
 use Rattle.rt_consumer.specs.declared.phase.Phase.TheVariants as phase
@@ -92,6 +93,12 @@ pub record IsRightCopy (setup : Setup) (past : Past) (p : Partition) (q : Sequen
   pub end : Offset
   pub told : end_of done ≡ Some end
   pub right : FileRight setup.schema (messages_of past.log p) p q (range_to done.meta.start end) (file_of file)
+
+-- a file that was loaded: written out again it is right, up to the end of its commit, and it has the header that the commit names
+pub record IsLoadedCopy (setup : Setup) (past : Past) (p : Partition) (q : Sequence) (start : Offset) (commit : Commit) (file : SealedSegment) : Type 0 where
+  pub right : IsRightFile setup past p q start commit.end (file_of file)
+  pub same : right.file.segment ≡ file
+  pub header : header_of file ≡ header_named p q start commit
 
 -- ---- what a replica was told
 

@@ -3,9 +3,11 @@ use Rattle.std.specs.Prelude.{◌≡◌, ◌<◌, Option, Some, None}
 use Rattle.rt_base.specs.declared.numbers.Offset.{Offset}
 use Rattle.rt_base.specs.declared.numbers.Partition.{Partition}
 use Rattle.rt_base.specs.declared.numbers.Sequence.{Sequence}
+use Rattle.rt_lists.specs.Members.{IsFront}
 use Rattle.rt_model.specs.declared.seg_meta.SeenMeta.{SeenMeta}
 use Rattle.rt_model.specs.Lawful.{IsLawfulHistory}
 use Rattle.rt_model.specs.Metadata.{HasNode}
+use Rattle.rt_model.specs.Starting.{Starting}
 use Rattle.rt_past.specs.Segments.{OpensAt}
 use Rattle.rt_store.specs.Contents.{starting_of}
 use Rattle.rt_store.specs.Meaning.{Meaning}
@@ -30,3 +32,9 @@ MayLearnOf t p q seen =
 abbrev pub MayLearn : Segments → Partition → Sequence → Option SeenMeta → Type 0
 MayLearn t p q None = Unit {0}
 MayLearn t p q (Some seen) = MayLearnOf t p q seen
+
+-- a call that reads keeps its server's setup, and what its caller has seen grows lawfully
+pub record SeesLawfully (s : Starting) (before after : Meaning) (old new : ServerState) : Type 0 where
+  pub setup : new.setup ≡ old.setup
+  pub grows : IsFront before.seen after.seen
+  pub lawful : IsLawfulHistory s before.seen → IsLawfulHistory s after.seen

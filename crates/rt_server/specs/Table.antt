@@ -20,6 +20,10 @@ use Rattle.rt_entry.specs.Entry.{replica_in, wanted_in, file_in}
 abbrev pub Segment : Type 0
 Segment = Partition × Sequence
 
+-- the segment of a replica
+abbrev pub segment_of : Consumer → Segment
+segment_of r = (r.partition, r.sequence)
+
 -- by partition, then by number
 abbrev pub segment_cmp : Segment → Segment → Ordering
 segment_cmp a b = ordering_then ((partition_ord.ghosts).cmp a.0 b.0) ((sequence_ord.ghosts).cmp a.1 b.1)

@@ -35,6 +35,7 @@ ghost use Rattle.rt_consumer.specs.Consumer.{IsConsumer, cur, state_of};
 ghost use Rattle.rt_replica.specs.Lasting.{IsReplica};
 ghost use Rattle.rt_consumer.specs.Serving.{told_in};
 ghost use Rattle.rt_entry.specs.declared.entry.Entry.{Entry};
+ghost use Rattle.rt_entry.specs.declared.entry.Entry.TheVariants.{Committed};
 ghost use Rattle.rt_entry.specs.declared.entry.CommittedSegment.{CommittedSegment};
 ghost use Rattle.rt_entry.specs.declared.refused.ServerRefused.{ServerRefused};
 ghost use Rattle.rt_entry.specs.declared.refused.ServerRefused.TheVariants.{BadFile};
@@ -42,18 +43,20 @@ ghost use Rattle.rt_entry.specs.declared.served_rows.ServedRows.{ServedRows};
 ghost use Rattle.rt_entry.specs.Entry.{wanted_by};
 ghost use Rattle.rt_server.specs.Calls.{Asks, AsksFor, Forces, InTable, Restarts, Seals, SeesIdeal, Stops, Takes, Transits, crashed, replied_in};
 ghost use Rattle.rt_server.specs.Download.{Downloads};
-ghost use Rattle.rt_server.specs.Fresh.{fresh};
-ghost use Rattle.rt_server.specs.Lasting.{HasAsked, IsCommittedOver, IsEmpty, IsServerOver, segment_of};
-ghost use Rattle.rt_server.specs.LastingRows.{AreRightRows, CommittedRows, IsRightCommitted, IsRightCopy, IsToldOf, committed_rows};
+ghost use Rattle.rt_server.specs.Fresh.{IsFreshOf, fresh};
+ghost use Rattle.rt_server.specs.Lasting.{HasAsked, IsCommittedOver, IsEmpty, IsServerOver};
+ghost use Rattle.rt_server.specs.LastingRows.{AreRightRows, CommittedRows, IsLoadedCopy, IsRightCommitted, IsRightCopy, IsToldOf, committed_rows};
 ghost use Rattle.rt_server.specs.Logs.{HasMessages};
 ghost use Rattle.rt_server.specs.Past.{HasHistory, StartsWithItsNode};
 ghost use Rattle.rt_server.specs.Serving.{serve};
-ghost use Rattle.rt_server.specs.Table.{ServerState, entry_of, file_at, replica_of};
+ghost use Rattle.rt_server.specs.Table.{ServerState, entry_of, file_at, replica_of, segment_of};
 
-/// What lasts of a server is true of a fresh one in a fresh cluster, and stays true as the past grows.
+/// What lasts of a server is true of a fresh one in a fresh cluster, and stays true as the past grows. A fresh one has seen the
+/// starting ideal state, and has a started replica of each segment that this asks of it, and nothing else.
 pub fn what_lasts_of_a_server_stays_true()
     ensures begins { (setup : Setup) (i : Instance) → IsSetup setup → i.0 < setup.servers
         → IsServerOver setup (fresh_past setup) (fresh setup i) }
+    ensures fresh { (setup : Setup) (i : Instance) → IsFreshOf setup i (fresh setup i) }
     ensures grows { (setup : Setup) (a b : Past) (s : ServerState) → Grows a b → IsServerOver setup a s → IsServerOver setup b s }
 {}
 
@@ -129,8 +132,9 @@ pub fn a_wanted_file_stands()
         → Downloads before after old.setup.schema old.table new.table p q (Err (BadFile wanted found)) → ⊥ }
 {}
 
-/// What a server serves and what it has of committed segments are the stream's rows of those ranges, and a replica that was
-/// told of a commit is at its end, or on the way to it.
+/// What a server serves and what it has of committed segments are the stream's rows of those ranges; a file that it loaded is
+/// right, in the setup's format and with its indexes, and has the header that the commit names; and a replica that was told of a
+/// commit is at its end, or on the way to it.
 pub fn what_a_server_has_is_right()
     ensures serves { (setup : Setup) (past : Past) (s : ServerState) (piece : Piece) (served : ServedRows) → IsServerOver setup past s
         → IfSome piece.end (λ end. piece.start.0 ≤ end.0) → serve s.table piece ≡ Ok served
@@ -139,6 +143,11 @@ pub fn what_a_server_has_is_right()
         → IsServerOver setup past s → entry_of s.table p q ≡ Some e → committed_rows e ≡ Some c → IsRightCommitted setup past p q c }
     ensures copies { (setup : Setup) (past : Past) (s : ServerState) (p : Partition) (q : Sequence) (file : SealedSegment) → IsPast setup past
         → IsServerOver setup past s → file_at (entry_of s.table p q) ≡ Some file → IsRightCopy setup past p q file }
+    ensures loaded { (setup : Setup) (past : Past) (s : ServerState) (p : Partition) (q : Sequence)
+        (c : CommittedSegment) (file : SealedSegment) (commit : Commit) → IsPast setup past
+        → IsServerOver setup past s → entry_of s.table p q ≡ Some (Committed c) → c.file ≡ Some file
+        → c.done.meta.status ≡ Done commit
+        → IsLoadedCopy setup past p q c.done.meta.start commit file }
     ensures told { (setup : Setup) (past : Past) (i : Instance) (incarnation : ℕ) (r : Consumer) (done : SeenMeta) → IsConsumer r
         → IsReplica setup past i incarnation r → told_in r.phase ≡ Some done
         → IsToldOf past r.partition r.sequence (state_of r.phase) (cur r) done }

@@ -8,6 +8,7 @@ mod lasting;
 mod lasting_told;
 mod laws;
 mod lists;
+mod own_laws;
 mod replicas;
 mod resting;
 mod seen;
@@ -26,7 +27,14 @@ pub use lasting_told::{
 };
 pub use laws::{
     a_refused_call_changes_nothing, a_store_fault_raises_the_count,
-    calls_over_told_stores_are_exact,
+    a_target_is_what_the_ideal_state_asks, calls_over_told_stores_are_exact,
+    each_list_has_what_its_test_tells,
+};
+pub use own_laws::{
+    a_server_asks_what_is_its_own, a_servers_reads_see_lawfully,
+    each_call_of_a_replica_keeps_its_servers_own, each_call_of_a_server_keeps_its_own,
+    what_a_server_gives_is_right, what_is_a_servers_own_is_right_over_a_sound_past,
+    what_is_a_servers_own_lasts_over_a_right_past, what_is_a_servers_own_stays_true,
 };
 pub use rt_entry::{ServeRefused, ServedRows, ServerRefused};
 pub use server::Server;

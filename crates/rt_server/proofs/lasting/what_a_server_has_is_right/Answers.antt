@@ -1,5 +1,5 @@
 use Rattle.rt_server.proofs.LastingCommits.{commits_right, told_right}
-use Rattle.rt_server.proofs.LastingCopies.{copies_right}
+use Rattle.rt_server.proofs.LastingCopies.{copies_right, loaded_right}
 use Rattle.rt_server.proofs.LastingPuts.{replica_held}
 use Rattle.rt_server.proofs.LastingServes.{serves_right}
 use Rattle.rt_server.proofs.lasting.what_a_server_has_is_right.Goals as goal
@@ -18,3 +18,6 @@ returns-clause-replicas c = λ setup past s p q r k found. replica_held setup pa
 
 pub returns-clause-copies : goal.returns-clause-copies
 returns-clause-copies c = λ setup past s p q file right k e. copies_right setup past s p q file right k e
+
+pub returns-clause-loaded : goal.returns-clause-loaded
+returns-clause-loaded c = loaded_right
