@@ -1,7 +1,7 @@
 -- What a set that found another version shows, and that none is found after a segment's Done metadata.
-use Rattle.std.proofs.Common.{◌≡◌, ◌⊎◌, inl, inr, ℕ, ◌<◌, ◌≤◌, ◌==◌, Bool, true, false, cond, List, [], ◌∷◌, ◌++◌, length, map, Option, Some, None, Result, Err, refl, sym, ◌∙◌, ap, subst, arith, get_or}
+use Rattle.std.proofs.Common.{◌≡◌, ◌⊎◌, inl, inr, ℕ, ◌<◌, ◌≤◌, ◌==◌, Bool, true, false, cond, List, [], ◌∷◌, ◌++◌, length, map, Option, Some, None, Result, Err, refl, sym, ◌∙◌, ap, subst, arith, get_or, ⊎_elim}
 use Rattle.std.specs.Prelude.{All}
-use Rattle.std.proofs.lemmas.Bool.{eq-eqb, false≢true}
+use Rattle.std.proofs.lemmas.Bool.{cases_lt, eq-eqb, false≢true}
 use Rattle.std.proofs.lemmas.List.{get_or-map, length-map, map-append}
 use Rattle.std.proofs.lemmas.List.Elements.{All-push, All-get_or, All-nil}
 use Rattle.std.proofs.lemmas.List.Quantifiers.{all_pairs_push}
@@ -24,7 +24,7 @@ use Rattle.rt_model.proofs.Chains.{IsDone-final}
 use Rattle.rt_model.proofs.Histories.{Has-writes_of, last_of-place, value_of-last}
 use Rattle.rt_model.proofs.Lawful.{has_endings, versions_count_writes}
 use Rattle.rt_store.specs.declared.refused.StoreRefused.{StoreRefused}
-use Rattle.rt_store.specs.declared.refused.StoreRefused.TheVariants.{VersionChanged, Failed}
+use Rattle.rt_store.specs.declared.refused.StoreRefused.TheVariants.{NoNode, VersionChanged, Failed}
 use Rattle.rt_store.specs.Answers.{change_in, presence_in, first_of, refusal_of, answer_by, answer_of, after_call}
 use Rattle.rt_store.specs.Calls.{Calls, SetsFrom, CreatesAfter}
 use Rattle.rt_store.specs.Meaning.{Meaning}
@@ -103,6 +103,39 @@ set_changed old new from n expected found c =
     let same = refused_nothing (λ w. w.version) old new (set from n) (VersionChanged expected found) c (λ e. cc) in
     subst (λ (h : List Seen). IsChanged h from.key from.version expected found) (sym same)
     (changed_in c.base from.key from.version expected found (value_of c.base from.key) refl told)
+
+-- ---- a refusal since the node is gone
+
+gone_in : (read : ℕ) (o : Option Seen) → change_in read o ≡ some_refusal NoNode → o ≡ None
+gone_in read None e = refl
+gone_in read (Some w) e = absurd (by_test (w.version == read) e)
+  where
+    by_test : (b : Bool) → cond b None (some_refusal (VersionChanged read w.version)) ≡ some_refusal NoNode → ⊥
+    by_test true f = cc
+    by_test false f = cc
+
+pub set_gone : (old new : Meaning) (from : Seen) (n : Node) → SetsFrom old new from n (Err NoNode) → value_of new.seen from.key ≡ None
+set_gone old new from n c =
+    let call = set from n in
+    let told =
+    refused_by (refusal_of c.base call) (written_by c.base call).version NoNode
+    (without_fault Failed c.fault (answer_of (λ w. w.version) call c.base) (refused_as NoNode) c.base (after_call call c.base) new.seen (λ e. cc)
+    c.goes.answered c.goes.seen).0 in
+    let same = refused_nothing (λ w. w.version) old new call NoNode c (λ e. cc) in
+    ap (λ (h : List Seen). value_of h from.key) same ∙ gone_in from.version (value_of c.base from.key) told
+
+-- ---- a later version
+
+-- what is found in place of what was read is later, since that has the greatest version of its time
+pub set_later : (old new : Meaning) (from : Seen) (n : Node) (expected found : ℕ) → IsVersioned new.seen → Has new.seen from
+    → SetsFrom old new from n (Err (VersionChanged expected found)) → expected < found
+set_later old new from n expected found versions has c =
+    let change = set_changed old new from n expected found c in
+    let latest = value_latest new.seen from.key from change.there versions has refl change.value in
+    less expected found (omega (arith, latest, change.is_found, change.is_expected)) change.differs
+  where
+    less : (a b : ℕ) → a ≤ b → (a ≡ b → ⊥) → a < b
+    less a b le ne = ⊎_elim (λ lt. lt) (λ ge. absurd (ne (omega (arith, le, ge)))) (cases_lt a b)
 
 -- ---- the Done metadata of a segment stays
 

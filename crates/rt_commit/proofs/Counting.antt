@@ -20,14 +20,14 @@ entry_counted x (e ∷ es) = by_test (is_before x e) (entry_counted x es)
     by_test true before = omega arith
     by_test false before = omega (arith, before)
 
-consuming_counted :
+pub consuming_counted :
     (es : List IdealEntry) (p : Partition) (s : Sequence) (is : List Instance)
     → length (with_consuming es p s is) ≡ length es + length is
 consuming_counted es p s [] = omega arith
 consuming_counted es p s (i ∷ is) =
     omega (arith, entry_counted (consuming p s i) (with_consuming es p s is), consuming_counted es p s is)
 
-replicas_counted : (a : Assigned) (p : Partition) → length (replicas_in a p) ≡ a.replication
+pub replicas_counted : (a : Assigned) (p : Partition) → length (replicas_in a p) ≡ a.replication
 replicas_counted a p = length-map-range_with_len (replica_of p a.replication a.servers) 0 a.replication
 
 pub committed_counted :

@@ -19,13 +19,14 @@ use Rattle.rt_deep.specs.declared.refused.DeepRefused.{DeepRefused}
 use Rattle.rt_deep.specs.declared.refused.DeepRefused.TheVariants as deep
 use Rattle.rt_store.specs.declared.refused.StoreRefused.{StoreRefused}
 use Rattle.rt_store.specs.declared.refused.StoreRefused.TheVariants.{NoNode, Exists, VersionChanged, Failed, Memory}
+use Rattle.rt_past.specs.Files.{header_in}
 use Rattle.rt_znodes.specs.Znodes.{meta_in}
 use Rattle.rt_commit.specs.declared.job.JobStage.TheVariants as stage
 use Rattle.rt_commit.specs.declared.job.JobStage.{JobStage}
 use Rattle.rt_commit.specs.declared.work.Work.TheVariants as work
 use Rattle.rt_commit.specs.declared.work.Work.{Work}
 use Rattle.rt_commit.specs.Calls.{Answer, nothing, put, got, read, set, created}
-use Rattle.rt_commit.specs.Job.{Stepping, goes, ends, header_in, is_wanted, commit_of, bad, checked, after_get, done_write, after_done, after_next, changes, success, after_read, after_set, step_at}
+use Rattle.rt_commit.specs.Job.{Stepping, goes, ends, is_wanted, commit_of, bad, checked, after_get, done_write, after_done, after_next, changes, success, after_read, after_set, step_at}
 use Rattle.rt_commit.specs.Lasting.{commit_end}
 use Rattle.rt_commit.specs.Laws.{Move, GoesOn, IsTrying, steps_left}
 use Rattle.rt_commit.proofs.KeepsJobs.{not_ended, went}
@@ -134,17 +135,17 @@ falls_set w found ideal (Err Memory) x e f = absurd (cc)
 -- ---- a step, by its stage
 
 pub by_step :
-    (q : Asked) (now : Moment) (P : JobStage → Stepping → Type 0)
+    (q : Asked) (now : Moment) (P : JobStage → Answer → Stepping → Type 0)
     → ((from : Seen) (end : Offset) (path : List ℕ) (answer : Result (List ℕ) DeepRefused) (x : Stepping)
-    → after_get q from end path answer ≡ Some x → P (stage.Check from end path) x)
+    → after_get q from end path answer ≡ Some x → P (stage.Check from end path) (got answer) x)
     → ((from : Seen) (commit : Commit) (answer : Result ℕ StoreRefused) (x : Stepping)
-    → after_done from commit now answer ≡ Some x → P (stage.Done from commit) x)
-    → ((done : Seen) (answer : Result (Unit {0}) StoreRefused) (x : Stepping) → after_next done answer ≡ Some x → P (stage.Next done) x)
+    → after_done from commit now answer ≡ Some x → P (stage.Done from commit) (set answer) x)
+    → ((done : Seen) (answer : Result (Unit {0}) StoreRefused) (x : Stepping) → after_next done answer ≡ Some x → P (stage.Next done) (created answer) x)
     → ((w : Work) (found : List ℕ) (answer : Result Seen StoreRefused) (x : Stepping)
-    → after_read q w found answer ≡ Some x → P (stage.IdealRead w found) x)
+    → after_read q w found answer ≡ Some x → P (stage.IdealRead w found) (read answer) x)
     → ((w : Work) (found : List ℕ) (ideal : Seen) (answer : Result ℕ StoreRefused) (x : Stepping)
-    → after_set w found answer ≡ Some x → P (stage.IdealSet w found ideal) x)
-    → (from : JobStage) (answer : Answer) (x : Stepping) → step_at q now from answer ≡ Some x → P from x
+    → after_set w found answer ≡ Some x → P (stage.IdealSet w found ideal) (set answer) x)
+    → (from : JobStage) (answer : Answer) (x : Stepping) → step_at q now from answer ≡ Some x → P from answer x
 by_step q now P check done next ideal sets (stage.Check from end path) (got answer) x e = check from end path answer x e
 by_step q now P check done next ideal sets (stage.Done from commit) (set answer) x e = done from commit answer x e
 by_step q now P check done next ideal sets (stage.Next d) (created answer) x e = next d answer x e
@@ -185,7 +186,7 @@ by_step q now P check done next ideal sets stage.Ended (created answer) x e = ab
 pub falls : (q : Asked) (now : Moment) (from : JobStage) (answer : Answer) (x : Stepping) → IsTrying from
     → step_at q now from answer ≡ Some x → x.did.status ≡ None → Falls from x.stage
 falls q now from answer x t e =
-    by_step q now (λ s y. IsTrying s → y.did.status ≡ None → Falls s y.stage)
+    by_step q now (λ s a y. IsTrying s → y.did.status ≡ None → Falls s y.stage)
     (λ from end path answer x e t f. falls_get q from end path answer x e f)
     (λ from commit answer x e t f. falls_done from commit now answer x e f)
     (λ done answer x e t f. falls_next done answer x e f)

@@ -33,6 +33,7 @@ use Rattle.rt_store.specs.Calls.{Reads, SetsFrom, CreatesAfter}
 use Rattle.rt_store.specs.Meaning.{Meaning}
 use Rattle.rt_store.proofs.Told.{read_rose, write_rose}
 use Rattle.rt_store.proofs.Refusals.{read_no_node, read_exists, read_changed, set_exists, set_no_node}
+use Rattle.rt_past.specs.Files.{header_in}
 use Rattle.rt_znodes.specs.Znodes.{meta_in}
 use Rattle.rt_commit.specs.declared.job.JobStage.TheVariants as stage
 use Rattle.rt_commit.specs.declared.job.JobStage.{JobStage}
@@ -41,7 +42,7 @@ use Rattle.rt_commit.specs.Assignment.{Assigned}
 use Rattle.rt_commit.specs.Calls.{Makes, DeepMeaning}
 use Rattle.rt_commit.specs.Causes.{Rose}
 use Rattle.rt_commit.specs.IsJob.{IsAt}
-use Rattle.rt_commit.specs.Job.{Stepping, goes, ends, header_in, is_wanted, commit_of, bad, checked, after_get, done_node, after_done, next_key, next_node, after_next, changes, success, after_read, after_set, call_at, step_at}
+use Rattle.rt_commit.specs.Job.{Stepping, goes, ends, is_wanted, commit_of, bad, checked, after_get, done_node, after_done, next_key, next_node, after_next, changes, success, after_read, after_set, call_at, step_at}
 use Rattle.rt_commit.proofs.KeepsJobs.{same_step}
 
 -- ---- what isn't a failure

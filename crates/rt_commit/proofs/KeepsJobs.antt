@@ -37,6 +37,7 @@ use Rattle.rt_store.proofs.Seeing.{read_seen}
 use Rattle.rt_store.proofs.Told.{answered_took}
 use Rattle.rt_store.proofs.GoingOn.{GoesOn, read_is}
 use Rattle.rt_store.proofs.Refusals.{next_present}
+use Rattle.rt_past.specs.Files.{header_in}
 use Rattle.rt_znodes.specs.Znodes.{meta_in}
 use Rattle.rt_commit.specs.declared.job.Job.{Job}
 use Rattle.rt_commit.specs.declared.job.JobStage.TheVariants as stage
@@ -46,14 +47,14 @@ use Rattle.rt_commit.specs.declared.work.Work.{Work}
 use Rattle.rt_commit.specs.Assignment.{Assigned}
 use Rattle.rt_commit.specs.Calls.{Makes, DeepMeaning}
 use Rattle.rt_commit.specs.IsJob.{IsRead, IsSetDone, IsNextThere, IsWork, IsCommitting, IsAt, IsJob}
-use Rattle.rt_commit.specs.Job.{Stepping, goes, ends, header_in, is_wanted, commit_of, bad, checked, after_get, done_node, done_write, after_done, next_key, next_node, after_next, changes, success, after_read, after_set, call_at, step_at}
+use Rattle.rt_commit.specs.Job.{Stepping, goes, ends, is_wanted, commit_of, bad, checked, after_get, done_node, done_write, after_done, next_key, next_node, after_next, changes, success, after_read, after_set, call_at, step_at}
 
 -- ---- as more is seen
 
 pub read_on : (a b : List Seen) (p : Partition) (q : Sequence) (w : Seen) → IsFront a b → IsRead a p q w → IsRead b p q w
 read_on a b p q w f k = record { has = Has-front a b w f k.has; of = k.of; consuming = k.consuming }
 
-done_on : (a b : List Seen) (p : Partition) (q : Sequence) (w : Seen) → IsFront a b → IsSetDone a p q w → IsSetDone b p q w
+pub done_on : (a b : List Seen) (p : Partition) (q : Sequence) (w : Seen) → IsFront a b → IsSetDone a p q w → IsSetDone b p q w
 done_on a b p q w f k = record { has = Has-front a b w f k.has; of = k.of; done = k.done }
 
 next_on : (a b : List Seen) (p : Partition) (q : Sequence) (w : Seen) → IsFront a b → IsNextThere a p q w → IsNextThere b p q w

@@ -1,7 +1,7 @@
 -- What lasts of a job is kept by each of its steps, and how a step ends it.
-use Rattle.std.proofs.Common.{◌≡◌, inl, inr, ℕ, ◌<◌, ◌≤◌, Bool, true, false, cond, List, [], ◌∷◌, ◌++◌, length, Option, Some, None, Result, Ok, Err, nat_lt, refl, sym, ◌∙◌, ap, subst, arith, ⊎_elim}
+use Rattle.std.proofs.Common.{◌≡◌, inl, inr, ℕ, ◌<◌, ◌≤◌, Bool, true, false, cond, List, [], ◌∷◌, ◌++◌, length, Option, Some, None, Result, Ok, Err, nat_lt, refl, sym, ◌∙◌, ap, subst, arith}
 use Rattle.std.specs.Prelude.{All}
-use Rattle.std.proofs.lemmas.Bool.{cases_lt, ltb-false}
+use Rattle.std.proofs.lemmas.Bool.{ltb-false}
 use Rattle.std.proofs.lemmas.List.{length-append}
 use Rattle.std.proofs.lemmas.Option.{none-some}
 use Rattle.rt_base.specs.declared.numbers.Moment.{Moment}
@@ -9,6 +9,7 @@ use Rattle.rt_base.specs.declared.numbers.Offset.{Offset}
 use Rattle.rt_base.specs.declared.numbers.Partition.{Partition}
 use Rattle.rt_base.specs.declared.numbers.Sequence.{Sequence}
 use Rattle.rt_lists.specs.Members.{Has}
+use Rattle.rt_lists.proofs.Members.{Has-same}
 use Rattle.rt_model.specs.declared.asked.Asked.{Asked}
 use Rattle.rt_model.specs.declared.commit.Commit.{Commit}
 use Rattle.rt_model.specs.declared.job_step.StepName.{StepName}
@@ -25,7 +26,7 @@ use Rattle.rt_model.specs.declared.reply.ReplyStatus.{ReplyStatus}
 use Rattle.rt_model.specs.declared.reply.ReplyStatus.TheVariants as status
 use Rattle.rt_model.specs.declared.setup.Setup.{Setup}
 use Rattle.rt_model.specs.Entries.{entries_by}
-use Rattle.rt_model.specs.History.{value_of}
+use Rattle.rt_model.specs.History.{IsVersioned, value_of}
 use Rattle.rt_model.specs.Lawful.{set, create_after, IsLawfulHistory}
 use Rattle.rt_model.specs.Metadata.{IsDone, IsDoneStatus}
 use Rattle.rt_model.proofs.Lawful.{versions_count_writes}
@@ -62,8 +63,8 @@ use Rattle.rt_commit.specs.IsJob.{IsRead, IsSetDone, IsWork, IsAt}
 use Rattle.rt_commit.specs.Job.{Stepping, goes, ends, fails, commit_of, bad, checked, after_get, done_node, done_write, after_done, next_key, next_node, after_next, changes, success, after_read, ideal_node, after_set, call_at, step_at, is_commit, commits}
 use Rattle.rt_commit.specs.Lasting.{AreTries, IsBacked, WasIdeal, WasNamed}
 use Rattle.rt_commit.specs.Laws.{IsTrying}
-use Rattle.rt_commit.specs.Right.{StatusSo}
-use Rattle.rt_commit.proofs.Changed.{set_changed, next_unchanged, value_latest, more_tries, found_before, no_tries}
+use Rattle.rt_commit.specs.Right.{HasChanged, StatusSo}
+use Rattle.rt_commit.proofs.Changed.{set_changed, set_gone, set_later, next_unchanged, more_tries, found_before, no_tries}
 use Rattle.rt_commit.proofs.FailsJobs.{get_other}
 use Rattle.rt_commit.proofs.KeepsJobs.{same_step}
 use Rattle.rt_commit.proofs.NamedFile.{IsChecked, header_is, named_file, put_at, same_bytes}
@@ -146,16 +147,39 @@ module _ (setup : Setup) (past : Past) (k : IsPast setup past) (s t : Meaning) (
 
   -- ---- done and next
 
-  done_steps : (from : Seen) (commit : Commit) (answer : Result ℕ StoreRefused) (x : Stepping) → SetsFrom s t from (done_node from commit now) answer
-      → after_done from commit now answer ≡ Some x → Steps true x
-  done_steps from commit (Ok version) x c f = went true (stage.Next (done_write from commit now version)) name.Done outcome.Fine x f tt
-  done_steps from commit (Err NoNode) x c f = ended true name.Done outcome.NoNode (status.Failed cause.NoSegment) x f refl
-  done_steps from commit (Err (Exists found)) x c f = absurd (set_exists s t from (done_node from commit now) found c)
-  done_steps from commit (Err (VersionChanged expected found)) x c f =
+  -- what was read has changed
+  node_changed : (from : Seen) (n : Node) (expected found : ℕ) → IsRead past.history q.partition q.sequence from
+      → SetsFrom s t from n (Err (VersionChanged expected found)) → HasChanged past.history q.partition q.sequence expected found
+  node_changed from n expected found read c =
+      let change = set_changed s t from n expected found c in
+      let versions = versions_count_writes (starting_of setup) past.history k.lawful in
+      record {
+        read = from;
+        was_read = read;
+        is_expected = change.is_expected;
+        there = change.there;
+        present = ap (λ (h : List Seen). value_of h (key.Meta q.partition q.sequence)) (sym is_history) ∙ ap (value_of t.seen) (sym read.of) ∙ change.value;
+        is_found = change.is_found;
+        later =
+            set_later s t from n expected found (subst IsVersioned (sym is_history) versions) (Has-same past.history t.seen from (sym is_history) read.has) c;
+      }
+
+  done_steps : (from : Seen) (commit : Commit) (answer : Result ℕ StoreRefused) (x : Stepping) → IsRead past.history q.partition q.sequence from
+      → SetsFrom s t from (done_node from commit now) answer → after_done from commit now answer ≡ Some x → Steps true x
+  done_steps from commit (Ok version) x read c f = went true (stage.Next (done_write from commit now version)) name.Done outcome.Fine x f tt
+  done_steps from commit (Err NoNode) x read c f =
+      ended true name.Done outcome.NoNode (status.Failed cause.NoSegment) x f (
+        refl,
+        ap (λ (h : List Seen). value_of h (key.Meta q.partition q.sequence)) (sym is_history) ∙ ap (value_of t.seen) (sym read.of)
+            ∙ set_gone s t from (done_node from commit now) c,
+      )
+  done_steps from commit (Err (Exists found)) x read c f = absurd (set_exists s t from (done_node from commit now) found c)
+  done_steps from commit (Err (VersionChanged expected found)) x read c f =
       ended true name.Done (outcome.Changed expected found) (status.Failed (cause.VersionChanged expected found)) x f
-      (refl, (set_changed s t from (done_node from commit now) expected found c).differs)
-  done_steps from commit (Err Failed) x c f = failed true name.Done x f (inl (write_rose (λ w. w.version) s t (set from (done_node from commit now)) c))
-  done_steps from commit (Err Memory) x c f = absurd (cc)
+      (refl, node_changed from (done_node from commit now) expected found read c)
+  done_steps from commit (Err Failed) x read c f =
+      failed true name.Done x f (inl (write_rose (λ w. w.version) s t (set from (done_node from commit now)) c))
+  done_steps from commit (Err Memory) x read c f = absurd (cc)
 
   set_done : (done : Seen) → IsSetDone past.history q.partition q.sequence done → IsSetDone t.seen q.partition q.sequence done
   set_done done is = subst (λ (h : List Seen). IsSetDone h q.partition q.sequence done) (sym is_history) is
@@ -213,14 +237,11 @@ module _ (setup : Setup) (past : Past) (k : IsPast setup past) (s t : Meaning) (
       let value : value_of past.history key.Ideal ≡ Some change.there =
       ap (λ (h : List Seen). value_of h key.Ideal) (sym is_history) ∙ ap (value_of t.seen) (sym of) ∙ change.value in
       let there = value_has past.history key.Ideal change.there value in
-      let later = value_latest past.history key.Ideal ideal change.there (versions_count_writes (starting_of setup) past.history k.lawful) has of value in
+      let versions = subst IsVersioned (sym is_history) (versions_count_writes (starting_of setup) past.history k.lawful) in
+      let later = set_later s t ideal n expected version versions (Has-same past.history t.seen ideal (sym is_history) has) c in
       let read : WasIdeal past.history ideal.version = (ideal, record { has = has; is_ideal = of }, refl) in
       let now_there : WasIdeal past.history version = (change.there, record { has = there.0; is_ideal = there.1 }, change.is_found) in
-      more_tries past.history found ideal.version version tries before read now_there
-      (less ideal.version change.there.version version later change.is_found (λ same. change.differs (sym change.is_expected ∙ same)))
-    where
-      less : (a b c : ℕ) → a ≤ b → b ≡ c → (a ≡ c → ⊥) → a < c
-      less a b c le e ne = ⊎_elim (λ lt. lt) (λ ge. absurd (ne (omega (arith, le, e, ge)))) (cases_lt a c)
+      more_tries past.history found ideal.version version tries before read now_there (omega (arith, change.is_expected, later))
 
   set_steps : (w : Work) (found : List ℕ) (ideal : Seen) (n : Node) (answer : Result ℕ StoreRefused) (x : Stepping) → IsWork past.history q w
       → length found < 10 → AreTries past.history found → All (λ v. v ≤ ideal.version) found → Has past.history ideal → ideal.key ≡ key.Ideal
@@ -256,7 +277,7 @@ module _ (setup : Setup) (past : Past) (k : IsPast setup past) (s t : Meaning) (
   pub step_so : (a : Assigned) (from : JobStage) (x : Stepping) → IsAt past.history q from → IsBacked setup past q from → IsTrying from
       → Makes s t d e (call_at a q now from) (λ answer. step_at q now from answer ≡ Some x) → Steps (commits from) x
   step_so a (stage.Check from end path) x is backed trying (answer, c, same, f) = check_steps from end path answer x is.read backed c f
-  step_so a (stage.Done from commit) x is backed trying (answer, c, same, f) = done_steps from commit answer x c f
+  step_so a (stage.Done from commit) x is backed trying (answer, c, same, f) = done_steps from commit answer x is.read c f
   step_so a (stage.Next done) x is backed trying (answer, c, same, f) = next_steps a done answer x is c f
   step_so a (stage.IdealRead w found) x is backed trying (answer, c, same, f) = read_steps w found answer x is backed c f
   step_so a (stage.IdealSet w found ideal) x is backed trying (answer, c, same, f) =

@@ -1,4 +1,5 @@
 pub mod Changed
+pub mod Checking
 pub mod CommitEnds
 pub mod Counting
 pub mod Ending
@@ -12,6 +13,8 @@ pub mod Leaving
 pub mod Making
 pub mod MayStep
 pub mod NamedFile
+pub mod OwnDone
+pub mod Owns
 pub mod Parts
 pub mod Realized
 pub mod Replicas
@@ -19,3 +22,5 @@ pub mod Replying
 pub mod RightCalls
 pub mod RunningOut
 pub mod Telling
+pub mod Unchanged
+pub mod WantedHeader

@@ -23,14 +23,14 @@ use Rattle.rt_store.specs.Contents.{starting_of}
 use Rattle.rt_segment.specs.Segment.{SealedSegment}
 use Rattle.rt_segment.specs.Spelling.{header_of}
 use Rattle.rt_segment.proofs.FileLaws.{spelled_read}
-use Rattle.rt_past.specs.Files.{IsRightFile, Stands, range_to, header_named}
+use Rattle.rt_past.specs.Files.{IsRightFile, Stands, range_to, header_named, header_by, header_in}
 use Rattle.rt_past.specs.IsPast.{IsPast}
 use Rattle.rt_past.specs.Past.{Past}
 use Rattle.rt_past.specs.Requests.{IsKind}
 use Rattle.rt_past.specs.Segments.{IsBegun}
 use Rattle.rt_znodes.specs.Znodes.{meta_in}
 use Rattle.rt_commit.specs.IsJob.{IsRead}
-use Rattle.rt_commit.specs.Job.{header_by, header_in, is_wanted, commit_of}
+use Rattle.rt_commit.specs.Job.{is_wanted, commit_of}
 use Rattle.rt_commit.specs.Lasting.{WasNamed}
 
 same_offset : (x y : Offset) → x.0 ≡ y.0 → x ≡ y

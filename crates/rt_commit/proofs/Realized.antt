@@ -44,13 +44,13 @@ deep_goes_told : {X : Type 0} (t : ToldDeep) (answer : List DeepPut → Result X
     → result ≡ of_deep.answer_on t answer → IsNamedDeep result
     → of_deep.GoesBy (deep_memory.means t) (deep_memory.means (of_deep.told_on t after)) (fault_of t.faults.plan) t.files (after t.files) (answer t.files) result
 deep_goes_told t answer after (Ok x) e n =
-    record { meets = (refl, refl); counts = counted t.faults (fault_of t.faults.plan); answered = e; seen = refl }
+    record { meets = (refl, refl); counts = counted t.faults (fault_of t.faults.plan); answered = e; seen = refl; own = refl }
 deep_goes_told t answer after (Err deep.Absent) e n =
-    record { meets = (refl, refl); counts = counted t.faults (fault_of t.faults.plan); answered = e; seen = refl }
+    record { meets = (refl, refl); counts = counted t.faults (fault_of t.faults.plan); answered = e; seen = refl; own = refl }
 deep_goes_told t answer after (Err (deep.OtherBytes kept offered)) e n =
-    record { meets = (refl, refl); counts = counted t.faults (fault_of t.faults.plan); answered = e; seen = refl }
+    record { meets = (refl, refl); counts = counted t.faults (fault_of t.faults.plan); answered = e; seen = refl; own = refl }
 deep_goes_told t answer after (Err deep.Failed) e n =
-    record { meets = (refl, refl); counts = counted t.faults (fault_of t.faults.plan); answered = e; seen = refl }
+    record { meets = (refl, refl); counts = counted t.faults (fault_of t.faults.plan); answered = e; seen = refl; own = refl }
 deep_goes_told t answer after (Err deep.Memory) e n = absurd n
 
 deep_calls_told : {X Y : Type 0} (t : ToldDeep) (answer : List DeepPut → Result X DeepRefused) (after : List DeepPut → List DeepPut)

@@ -11,10 +11,11 @@ use Rattle.rt_model.specs.declared.node.Key.{Key}
 use Rattle.rt_model.specs.declared.node.Node.{Node}
 use Rattle.rt_model.specs.declared.node.Node.TheVariants as node
 use Rattle.rt_model.specs.declared.node.Seen.{Seen}
-use Rattle.rt_model.specs.declared.sent.Sent.TheVariants as sent
 use Rattle.rt_model.specs.declared.setup.Setup.{Setup}
 use Rattle.rt_model.specs.Entries.{entries_by}
 use Rattle.rt_model.specs.Lawful.{Write, set, create_after, IsLawful, written_by}
+use Rattle.rt_model.specs.Ideal.{next_sequence}
+use Rattle.rt_meta.specs.Lives.{first_of}
 use Rattle.rt_deep.specs.declared.deep_put.DeepPut.{DeepPut}
 use Rattle.rt_deep.proofs.Told as deep_told
 use Rattle.rt_store.specs.Answers.{after_call}
@@ -28,6 +29,7 @@ use Rattle.rt_past.specs.Writes.{AreRightEntries, IsRightNode, IsRightWrite}
 use Rattle.rt_past.proofs.Entries.{commit_right, offline_right}
 use Rattle.rt_past.proofs.Growth.{grows_same}
 use Rattle.rt_past.proofs.Ways.{past_called, past_put}
+use Rattle.rt_znodes.specs.Znodes.{end_in}
 use Rattle.rt_commit.specs.declared.job.JobStage.TheVariants as stage
 use Rattle.rt_commit.specs.declared.job.JobStage.{JobStage}
 use Rattle.rt_commit.specs.declared.work.Work.TheVariants as work
@@ -113,7 +115,8 @@ stage_right setup past a q now (stage.Check from end path) e within k w is backe
 stage_right setup past a q now (stage.Done from commit) e within k w is backed may =
     let P : Key → Type 0 = λ x. IsRightNode setup past x (done_node from commit now) in
     (may, subst P (sym is.read.of) (entered setup past q k w, backed))
-stage_right setup past a q now (stage.Next done) e within k w is backed may = (may, tt)
+stage_right setup past a q now (stage.Next done) e within k w is backed may =
+    (may, ap (λ (x : Assigned). (first_of x.table q.partition (next_sequence q.sequence) (end_in done.node) now).name) e)
 stage_right setup past a q now (stage.IdealRead w2 found) e within k w is backed may = tt
 stage_right setup past a q now (stage.IdealSet w2 found ideal) e within k w is backed may =
     (may, changed_right setup a q w2 (entries_by ideal.node) e within (state_right setup past ideal is.state k is.has is.is_state))

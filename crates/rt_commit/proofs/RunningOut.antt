@@ -18,6 +18,7 @@ use Rattle.rt_deep.specs.declared.refused.DeepRefused.TheVariants as deep
 use Rattle.rt_deep.specs.Answers.{getting}
 use Rattle.rt_deep.specs.Calls as of_deep
 use Rattle.rt_deep.specs.Meaning as deep_meaning
+use Rattle.rt_deep.proofs.Owning.{gains_nothing}
 use Rattle.rt_store.specs.declared.refused.StoreRefused.{StoreRefused}
 use Rattle.rt_store.specs.declared.refused.StoreRefused.TheVariants.{NoNode, Exists, VersionChanged, Failed, Memory}
 use Rattle.rt_store.specs.Answers.{reading, answer_of, after_call}
@@ -34,13 +35,13 @@ pub memory_idles :
     {X : Type 0} (old new : Meaning) (answer : List Seen → Result X StoreRefused) (after : List Seen → List Seen)
     → Calls old new answer after (Err Memory) → StoreIdles old new
 memory_idles old new answer after c =
-    inr (c.base, c.sees, record { told = c.goes.told; faults = omega (arith, c.goes.faults); seen = c.goes.seen })
+    inr (c.base, c.sees, record { told = c.goes.told; faults = omega (arith, c.goes.faults); seen = c.goes.seen; own = c.goes.own })
 
 pub deep_memory_idles :
     {X : Type 0} (old new : DeepMeaning) (answer : List DeepPut → Result X DeepRefused) (after : List DeepPut → List DeepPut)
     → of_deep.Calls old new answer after (Err deep.Memory) → DeepIdles old new
 deep_memory_idles old new answer after c =
-    inr (c.base, c.sees, record { told = c.goes.told; faults = omega (arith, c.goes.faults); seen = c.goes.seen })
+    inr (c.base, c.sees, record { told = c.goes.told; faults = omega (arith, c.goes.faults); seen = c.goes.seen; own = c.goes.own })
 
 -- ---- a read that was answered, after which memory ran out
 
@@ -79,6 +80,7 @@ get_idles old new path bytes c = by_fault c.fault refl
             told = files_same old.told new.told c.base new.seen c.sees.all (subst P e c.goes.meets) seen;
             faults = subst Q e c.goes.counts;
             seen = seen;
+            own = gains_nothing old.own new.own c.base new.seen c.goes.own seen;
           },
         )
     by_fault fault.Lost e =

@@ -1,7 +1,8 @@
 -- The one call that a step makes, and what it may answer.
-use Rattle.std.specs.Prelude.{◌≡◌, ℕ, ◌⊎◌, ◌≤◌, List, Result}
+use Rattle.std.specs.Prelude.{◌≡◌, ℕ, ◌⊎◌, ◌≤◌, List, length, Option, Some, None, Result}
 use Rattle.rt_model.specs.declared.node.Key.{Key}
 use Rattle.rt_model.specs.declared.node.Node.{Node}
+use Rattle.rt_model.specs.declared.node.Node.TheVariants as node
 use Rattle.rt_model.specs.declared.node.Seen.{Seen}
 use Rattle.rt_model.specs.Lawful.{IsLawful}
 use Rattle.rt_model.specs.Lawful as lawful
@@ -56,6 +57,21 @@ MayCall seen (reads k) = Unit {0}
 MayCall seen (sets from n) = IsLawful seen (lawful.set from n)
 MayCall seen (creates k n prior) = IsLawful seen (lawful.create_after k n prior)
 
+-- the number of entries of the ideal state that a call sets; none where it sets none
+abbrev pub entries_in : Node → Option ℕ
+entries_in (node.Ideal state) = Some (length state.entries)
+entries_in (node.Meta m) = None
+entries_in node.Boot = None
+entries_in node.Gone = None
+
+abbrev pub entries_set : Call → Option ℕ
+entries_set calls_nothing = None
+entries_set (puts path bytes) = None
+entries_set (gets path) = None
+entries_set (reads k) = None
+entries_set (sets from n) = entries_in n
+entries_set (creates k n prior) = None
+
 -- ---- where memory ran out
 
 -- nothing is written, whether or not the store was called
@@ -63,6 +79,7 @@ pub record Idles (old new : Meaning) (base : List Seen) : Type 0 where
   pub told : new.told ≡ old.told
   pub faults : old.faults ≤ new.faults
   pub seen : new.seen ≡ base
+  pub own : new.own ≡ old.own
 
 abbrev pub StoreIdles : Meaning → Meaning → Type 0
 StoreIdles old new = (new ≡ old) ⊎ ((base : List Seen) × Sees old base × Idles old new base)
@@ -72,6 +89,7 @@ pub record DeepIdlesOn (old new : DeepMeaning) (base : List DeepPut) : Type 0 wh
   pub told : new.told ≡ old.told
   pub faults : old.faults ≤ new.faults
   pub seen : new.seen ≡ base
+  pub own : new.own ≡ old.own
 
 abbrev pub DeepIdles : DeepMeaning → DeepMeaning → Type 0
 DeepIdles old new = (new ≡ old) ⊎ ((base : List DeepPut) × of_deep.Sees old base × DeepIdlesOn old new base)

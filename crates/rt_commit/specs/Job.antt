@@ -26,10 +26,7 @@ use Rattle.rt_deep.specs.declared.refused.DeepRefused.{DeepRefused}
 use Rattle.rt_deep.specs.declared.refused.DeepRefused.TheVariants as deep
 use Rattle.rt_store.specs.declared.refused.StoreRefused.{StoreRefused}
 use Rattle.rt_store.specs.declared.refused.StoreRefused.TheVariants.{NoNode, Exists, VersionChanged, Failed, Memory}
-use Rattle.rt_segment.specs.Reading.{read_file}
-use Rattle.rt_segment.specs.Segment.{SealedSegment}
-use Rattle.rt_segment.specs.Spelling.{header_of}
-use Rattle.rt_segment.specs.declared.segment_refused.SegmentRefused.{SegmentRefused}
+use Rattle.rt_past.specs.Files.{header_in}
 use Rattle.rt_znodes.specs.Znodes.{meta_in, seen_meta_of, end_in}
 use Rattle.rt_commit.specs.declared.job.Job.{Job}
 use Rattle.rt_commit.specs.declared.job.JobStage.TheVariants as stage
@@ -60,14 +57,6 @@ abbrev pub fails : StepName → Option Stepping
 fails n = ends n outcome.Failed (status.Failed cause.StoreFault)
 
 -- ---- check: the file at the path is the segment's, from its start to the offset
-
-abbrev pub header_by : Result SealedSegment SegmentRefused → Option Header
-header_by (Ok segment) = Some (header_of segment)
-header_by (Err refused) = None
-
--- the header of bytes that are a segment's file
-abbrev pub header_in : List ℕ → Option Header
-header_in bytes = header_by (read_file bytes)
 
 abbrev pub is_wanted : Asked → Offset → Offset → Header → Bool
 is_wanted asked start end h =

@@ -7,6 +7,7 @@ pub mod IsJob
 pub mod Job
 pub mod Lasting
 pub mod Laws
+pub mod Own
 pub mod Right
 pub mod Steps
 pub mod Told

@@ -1,9 +1,10 @@
 ghost use Rattle.std.specs.Prelude.{◌≡◌, Some, IfOk};
 ghost use Rattle.rt_base.specs.declared.numbers.Moment.{Moment};
 ghost use Rattle.rt_store.specs.Meaning.{Meaning};
+ghost use Rattle.rt_past.specs.Files.{header_in};
 ghost use Rattle.rt_commit.specs.declared.job.JobStage.TheVariants as stage;
 ghost use Rattle.rt_commit.specs.Assignment.{Assigned};
-ghost use Rattle.rt_commit.specs.Job.{after_get, bad, checked, header_in, is_wanted, wanted};
+ghost use Rattle.rt_commit.specs.Job.{after_get, bad, checked, is_wanted, wanted};
 ghost use Rattle.rt_commit.specs.Steps.{StageSteps, Checks, Checked};
 
 use crate::job::JobStage;

@@ -19,6 +19,9 @@ mod work;
 pub use assignment::Assignment;
 pub use found_versions::FoundVersions;
 pub use job::{Job, JobStage, step_at};
-pub use laws::{a_job_replies_by_its_first_failure, jobs_end};
+pub use laws::{
+    a_job_replies_by_its_first_failure, a_job_sets_what_it_changes, a_job_writes_what_it_has_read,
+    jobs_end,
+};
 pub use stepped::Stepped;
 pub use work::Work;

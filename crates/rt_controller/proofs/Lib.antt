@@ -15,6 +15,8 @@ pub mod Numbered
 pub mod OneJob
 pub mod OverRequests
 pub mod OverSteps
+pub mod OwnAnswers
+pub mod OwnPuts
 pub mod Paired
 pub mod PairedJobs
 pub mod Parts
@@ -24,6 +26,7 @@ pub mod Realized
 pub mod RightCalls
 pub mod RightStatuses
 pub mod RunningOut
+pub mod StartsAlone
 pub mod Telling
 pub mod Timely
 pub mod Turning

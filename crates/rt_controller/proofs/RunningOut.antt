@@ -15,6 +15,7 @@ use Rattle.rt_store.specs.declared.refused.StoreRefused.TheVariants.{NoNode, Exi
 use Rattle.rt_store.specs.Answers.{reading}
 use Rattle.rt_store.specs.Calls.{Reads, Meets, AreAll}
 use Rattle.rt_store.specs.Meaning.{Meaning, Told}
+use Rattle.rt_store.proofs.Owning.{gains_nothing}
 use Rattle.rt_commit.specs.Calls.{StoreIdles, DeepIdles, DeepMeaning}
 use Rattle.rt_commit.proofs.RunningOut.{memory_idles, deep_memory_idles, not_met}
 use Rattle.rt_controller.specs.Steps.{MayRunOutReading}
@@ -52,6 +53,7 @@ read_idles old new k w c = by_fault c.fault refl
             told = told_same old.told new.told c.base new.seen c.sees.all (subst P e c.goes.meets) seen;
             faults = subst Q e c.goes.counts;
             seen = seen;
+            own = gains_nothing old.own new.own c.base new.seen c.goes.own seen;
           },
         )
     by_fault fault.Lost e =

@@ -4,6 +4,7 @@ pub mod Controller
 pub mod IsController
 pub mod Lasting
 pub mod Requests
+pub mod Own
 pub mod Right
 pub mod Steps
 pub mod Told

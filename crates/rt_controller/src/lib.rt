@@ -10,6 +10,7 @@ mod controller;
 mod handled;
 mod lasting;
 mod laws;
+mod own_laws;
 mod requests;
 mod segment_machine;
 mod starting;
@@ -23,4 +24,8 @@ pub use lasting::{
     what_lasts_is_ready, what_lasts_stays_true, what_needs_no_store_keeps_what_lasts,
 };
 pub use laws::told_calls_are_exact;
+pub use own_laws::{
+    a_commit_job_starts_at_its_machine_alone, a_controller_answers_what_it_saw,
+    a_controller_puts_what_it_took,
+};
 pub use segment_machine::SegmentMachine;

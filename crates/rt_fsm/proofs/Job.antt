@@ -97,7 +97,7 @@ commit_start Committing m i x now e = kept m now _
 commit_start Committed m i x now e = kept m now _
 commit_start Aborted m i x now e = kept m now _
 
-in_time : (m : Completion) (now : Moment) → m.state ≡ CommitterUploading → is_late m now ≡ false → now.0 ≤ m.deadline.0
+pub in_time : (m : Completion) (now : Moment) → m.state ≡ CommitterUploading → is_late m now ≡ false → now.0 ≤ m.deadline.0
 in_time m now e late = ltb-false m.deadline.0 now.0 (subst (λ s. (has_deadline s && nat_lt m.deadline.0 now.0) ≡ false) e late)
 
 starting : (m : Completion) (now : Moment) (x : Offset) → m.state ≡ CommitterUploading → is_late m now ≡ false → Well m now (StartCommit x, goes m Committing)

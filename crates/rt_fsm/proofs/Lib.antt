@@ -6,3 +6,4 @@ pub mod Committer
 pub mod Pick
 pub mod Exclusion
 pub mod Offsets
+pub mod Alone

@@ -181,3 +181,21 @@ abbrev pub StartsItsJob : Completion → Moment → Type 0
 StartsItsJob m now =
     m.state ≡ CommitterUploading → now.0 ≤ m.deadline.0
     → react m m.winner (CommitEnd m.offset) now ≡ (StartCommit m.offset, goes m Committing)
+
+-- The converse.
+
+-- a commit job up to `x` starts at the CommitEnd of the committer that uploads, at its offset, which is past the segment's start, and up
+-- to the deadline; and the machine is COMMITTING then
+pub record IsItsCommit (m : Completion) (i : Instance) (ask : Ask) (now : Moment) (x : Offset) (n : Completion) : Type 0 where
+  pub uploading : m.state ≡ CommitterUploading
+  pub winner : i ≡ m.winner
+  pub offset : x ≡ m.offset
+  pub asks : ask ≡ CommitEnd m.offset
+  pub past : m.seen.meta.start.0 < m.offset.0
+  pub time : now.0 ≤ m.deadline.0
+  pub after : n ≡ goes m Committing
+
+abbrev pub StartsAlone : Completion → Instance → Ask → Moment → Reaction → Completion → Type 0
+StartsAlone m i ask now (Answer said) n = Unit {0}
+StartsAlone m i ask now (StartCommit x) n = IsItsCommit m i ask now x n
+StartsAlone m i ask now StartOffline n = Unit {0}

@@ -5,9 +5,10 @@ ghost use Rattle.rt_base.specs.declared.numbers.Instance.{Instance};
 ghost use Rattle.rt_base.specs.declared.numbers.Moment.{Moment};
 ghost use Rattle.rt_model.specs.declared.seg_meta.SeenMeta.{SeenMeta};
 ghost use Rattle.rt_model.specs.declared.machine_state.MachineState.{MachineState};
-ghost use Rattle.rt_model.specs.Completion.{first, IsBeforePick};
+ghost use Rattle.rt_model.specs.declared.completion.Ask.{Ask};
+ghost use Rattle.rt_model.specs.Completion.{Completion, first, react, IsBeforePick};
 ghost use Rattle.rt_fsm.specs.Life.{Message, life, machine_after};
-ghost use Rattle.rt_fsm.specs.Laws.{HasOneCommitter, CommitsAgree, CommitsThePick, ComeFrom, HasNoLateJob, StaysOut, HasOneJobAtMost, ReportAtMost, HasOffsetsWithin, StartsItsJob};
+ghost use Rattle.rt_fsm.specs.Laws.{HasOneCommitter, CommitsAgree, CommitsThePick, ComeFrom, HasNoLateJob, StaysOut, HasOneJobAtMost, ReportAtMost, HasOffsetsWithin, StartsAlone, StartsItsJob};
 
 /// There is one instance and one offset for the whole life of a machine: each COMMIT goes to that instance and names
 /// that offset, each CATCH_UP names that offset, each COMMIT_CONTINUE answers that instance's CommitStart at that
@@ -70,4 +71,11 @@ pub fn timely_commit_end()
     ensures { (seen : SeenMeta) (replicas : List Instance) (state : MachineState) (made : Moment) (messages : List Message) (now : Moment)
         → IsBeforePick state → ComeFrom replicas messages
         → StartsItsJob (machine_after (first seen replicas state made) messages) now }
+{}
+
+/// A commit job starts at no other message: its machine is COMMITTER_UPLOADING, the sender is the committer, and the message is its
+/// CommitEnd at its offset, past the segment's start and up to the deadline.
+pub fn a_commit_starts_at_its_committer_alone()
+    ensures { (m : Completion) (i : Instance) (ask : Ask) (now : Moment)
+        → StartsAlone m i ask now (react m i ask now).0 (react m i ask now).1 }
 {}

@@ -7,7 +7,7 @@ mod machine;
 mod reporters;
 
 pub use laws::{
-    commits_agree, commits_the_pick, no_late_job, offsets_stay_within, one_committer, one_job,
-    stays_out, timely_commit_end,
+    a_commit_starts_at_its_committer_alone, commits_agree, commits_the_pick, no_late_job,
+    offsets_stay_within, one_committer, one_job, stays_out, timely_commit_end,
 };
 pub use machine::Machine;
