@@ -202,11 +202,11 @@ record IsReady (setup : Setup) (past : Past) (query : Query) (p : Partition) (xs
 lawful_front : (s : Starting) (h k : List Seen) → Begins s h → IsFront h k → IsLawfulHistory s k → IsLawfulHistory s h
 lawful_front s h k begins g l = prefix_is_lawful s h g.0 begins (subst (IsLawfulHistory s) g.1 l)
 
-ready : (setup : Setup) (past : Past) (query : Query) (p : Partition) (xs : List PieceAsked) → IsPast setup past → p.0 < setup.partitions
+ready : (setup : Setup) (past : Past) (query : Query) (p : Partition) (xs : List PieceAsked) → IsLawfulHistory (starting_of setup) past.history → p.0 < setup.partitions
     → IsPlan setup past query p xs → IsReady setup past query p xs
 ready setup past query p xs k within plan =
     let s = starting_of setup in
-    let order = (lawful_kept s plan.seen (lawful_front s plan.seen past.history plan.begins plan.front k.lawful)).order p within in
+    let order = (lawful_kept s plan.seen (lawful_front s plan.seen past.history plan.begins plan.front k)).order p within in
     record {
       ordered = subst (AreOrdered 0) (sym plan.plan) (plan_ordered plan.seen p order);
       of = subst (AreOf p) (sym plan.plan) (plan_is_of p (metadata_of plan.seen p));
@@ -225,7 +225,7 @@ record IsGood (setup : Setup) (past : Past) (query : Query) (p : Partition) (rou
 good_none : (setup : Setup) (past : Past) (p : Partition) → IsServed past.log (record { partition = p; pieces = None })
 good_none setup past p = record { in_order = tt; within = All-nil (IsWithin past p) }
 
-good : (setup : Setup) (past : Past) (query : Query) (p : Partition) (route : Route) → IsPast setup past → p.0 < setup.partitions
+good : (setup : Setup) (past : Past) (query : Query) (p : Partition) (route : Route) → IsLawfulHistory (starting_of setup) past.history → p.0 < setup.partitions
     → IsRoute setup past query p route → IsGood setup past query p route
 good setup past query p Untried k within r = record { served = good_none setup past p; held = tt; few = omega arith }
 good setup past query p Failed k within r = record { served = good_none setup past p; held = tt; few = omega arith }
@@ -306,16 +306,20 @@ all_few setup past query n (route ∷ routes) rest same g =
     by_rest (ms ∷ more) each further =
         omega (arith, split, g.0.few, size ms (each 0), further more (later more (λ i. each (suc i))))
 
-pub asked_served : (setup : Setup) (past : Past) (a : Asking) → IsAsked setup past a → IsPast setup past → messages_in past.log < 9223372036854775808
-    → AreServed setup.schema past.log a
-asked_served setup past a k right few =
+pub lawfully_served : (setup : Setup) (past : Past) (a : Asking) → IsAsked setup past a → length past.log ≡ setup.partitions
+    → IsLawfulHistory (starting_of setup) past.history → messages_in past.log < 9223372036854775808 → AreServed setup.schema past.log a
+lawfully_served setup past a k partitions lawful few =
     let all = all_good setup past a.query 0 a.routes
     (λ i route at. let start : i ≡ 0 + i = omega arith in
     subst (λ (m : ℕ). IsGood setup past a.query (numbered m) route) start
-    (good setup past a.query (numbered i) route right (omega (arith, slice_get_within a.routes i route at, k.partitions)) (k.routes (numbered i) route at))) in
+    (good setup past a.query (numbered i) route lawful (omega (arith, slice_get_within a.routes i route at, k.partitions)) (k.routes (numbered i) route at))) in
     record {
-      partitions = right.partitions ∙ sym k.partitions;
+      partitions = partitions ∙ sym k.partitions;
       served = all_served setup past a.query 0 a.routes all;
       held = all_held setup past a.query 0 a.routes all;
       few = omega (arith, few, all_few setup past a.query 0 a.routes past.log (λ i. let start : 0 + i ≡ i = omega arith in ap (λ (m : ℕ). get_or past.log m []) start) all);
     }
+
+pub asked_served : (setup : Setup) (past : Past) (a : Asking) → IsAsked setup past a → IsPast setup past → messages_in past.log < 9223372036854775808
+    → AreServed setup.schema past.log a
+asked_served setup past a k right few = lawfully_served setup past a k right.partitions right.lawful few

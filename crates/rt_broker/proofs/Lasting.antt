@@ -156,7 +156,7 @@ unasked_right setup past query (p ∷ ps) = (tt, unasked_right setup past query 
 begins_on : (s : Starting) (h k : List Seen) → Begins s h → IsFront h k → Begins s k
 begins_on s h k b g = front_then (starting_contents s) h k b g
 
-planned_now : (setup : Setup) (past : Past) (query : Query) (old new : Meaning) (p : Partition) (nodes : List Listed) → Begins (starting_of setup) old.seen
+pub planned_now : (setup : Setup) (past : Past) (query : Query) (old new : Meaning) (p : Partition) (nodes : List Listed) → Begins (starting_of setup) old.seen
     → IsFront new.seen past.history → Lists old new p (Ok nodes) → IsPlan setup past query p (map unasked (plan_of p nodes))
 planned_now setup past query old new p nodes begins front c =
     let told = without_fault store.Failed c.fault (listing p c.base) (Ok nodes) c.base c.base new.seen (λ e. cc) c.goes.answered c.goes.seen in

@@ -1,7 +1,9 @@
 pub mod Answered
 pub mod Causes
 pub mod Gaining
+pub mod Given
 pub mod Lasting
+pub mod Listed
 pub mod Merging
 pub mod Noting
 pub mod Plans

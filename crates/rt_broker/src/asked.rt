@@ -274,6 +274,7 @@ impl Asked {
         self.take_route(alloc, partition, store)
     }
 
+    #[tactic(auto, using(crate::proofs::Listed::never_no_node, crate::proofs::Listed::never_exists, crate::proofs::Listed::never_changed))]
     fn take_route<S: Store>(
         &mut self,
         alloc: Global,
@@ -300,9 +301,9 @@ impl Asked {
                 *self.routes.at_mut(partition.0 as usize) = Route::Failed;
                 Err(BrokerRefused::StoreFault)
             }
-            Err(StoreRefused::NoNode) => Err(BrokerRefused::Memory),
-            Err(StoreRefused::Exists { .. }) => Err(BrokerRefused::Memory),
-            Err(StoreRefused::VersionChanged { .. }) => Err(BrokerRefused::Memory),
+            Err(StoreRefused::NoNode) => unreachable!(),
+            Err(StoreRefused::Exists { .. }) => unreachable!(),
+            Err(StoreRefused::VersionChanged { .. }) => unreachable!(),
             Err(StoreRefused::Memory) => Err(BrokerRefused::Memory),
         }
     }

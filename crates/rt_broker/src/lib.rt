@@ -5,7 +5,9 @@
 mod answering;
 mod asked;
 mod laws;
+mod own_laws;
 mod piece_asked;
+mod piece_given;
 mod piece_got;
 mod plan;
 mod ranges;
@@ -16,7 +18,12 @@ pub use asked::Asked;
 pub use laws::{
     routes_over_a_told_store_are_exact, what_was_asked_is_served, what_was_asked_lasts,
 };
+pub use own_laws::{
+    a_broker_notes_what_was_given, what_a_broker_asked_lasts, what_is_missing_was_refused,
+    what_was_asked_is_served_over_a_lawful_history, what_was_given_right_is_asked_right,
+};
 pub use piece_asked::{PieceAnswer, PieceAsked};
+pub use piece_given::PieceGiven;
 pub use piece_got::PieceGot;
 pub use plan::Plan;
 pub use refused::BrokerRefused;

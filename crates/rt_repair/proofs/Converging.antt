@@ -17,7 +17,7 @@ use Rattle.rt_model.specs.Ideal.{has_entry, has_partition, goes_on, next_sequenc
 use Rattle.rt_model.specs.Metadata.{IsInProgress}
 use Rattle.rt_model.specs.Moments.{later}
 use Rattle.rt_model.specs.Repair.{last_listed, are_offline, decide_open, decide_by, decide_last}
-use Rattle.rt_repair.specs.Converging.{Standing, created_node, abandoned_node, abandoned_last, repaired_by, decided, IsOver, IsSettled, SettlesIn, CanSettle}
+use Rattle.rt_repair.specs.Converging.{Standing, created_node, abandoned_node, abandoned_last, repaired_by, decided, writes, IsOver, IsSettled, SettlesIn, CanSettle}
 use Rattle.rt_repair.specs.ReadNode.{last_follows}
 use Rattle.rt_repair.specs.Repairing.{Repairing, added_entries}
 use Rattle.rt_repair.proofs.Adding.{added_online, online_has}
@@ -69,7 +69,7 @@ settled n r x l last few consumes online = at n
 -- ---- one repair more
 
 abbrev Left : Repairing → ℕ → Moment → Standing → Decision → Type 0
-Left r n now x d = (m : Listed) × (last_listed (repaired_by r now x d).nodes ≡ Some m) × SettlesIn r n (repaired_by r now x d) m
+Left r n now x d = (writes r x d ≡ true) × (m : Listed) × (last_listed (repaired_by r now x d).nodes ≡ Some m) × SettlesIn r n (repaired_by r now x d) m
 
 goes : (r : Repairing) (n : ℕ) (now : Moment) (x : Standing) (l : Listed) (d : Decision) → decided r now x ≡ d → Left r n now x d
     → IsSettled r now x l ⊎ Left r n now x (decided r now x)
@@ -83,6 +83,7 @@ opened n r x l last few some consumes none on = λ now over.
     let es = added_entries r l.sequence (last_follows x.nodes) x.entries in
     let y : Standing = record { nodes = x.nodes; entries = es } in
     goes r n now x l (AddToIdeal l.sequence) (decides_open r now x l last few over consumes ∙ rw none) (
+      on,
       l,
       last,
       settled n r y l last few consumes (added_online r l.sequence (last_follows x.nodes) x.entries some none on),
@@ -109,7 +110,7 @@ created n r now x l start few some has none =
     let on : goes_on x.entries r.partition s.0 ≡ true =
     cond-false (eqb (l.sequence.0 + 1) 0) (not (has_partition x.entries r.partition)) (has_entry x.entries r.partition (record { 0 = (l.sequence.0 + 1) - 1 })) other
     ∙ subst P back has in
-    (m, last, opened n r y m last few some tt none on)
+    (refl, m, last, opened n r y m last few some tt none on)
 
 closed : (n : ℕ) (r : Repairing) (x : Standing) (l : Listed) → last_listed x.nodes ≡ Some l → l.sequence.0 + 1 < LAST_NUMBER
     → 0 < length r.instances → Ended l.seen.meta.status → has_entry x.entries r.partition l.sequence ≡ true
@@ -150,7 +151,7 @@ offline n r x l last few some consumes has off none = λ now over.
     let end = last_given_up now x.nodes l last in
     goes r (suc (suc n)) now x l (Abandon l.sequence)
     (decides_open r now x l last (omega (arith, few)) over consumes ∙ rw (has, off))
-    (m, end, closed n r y m end few some tt has none)
+    (refl, m, end, closed n r y m end few some tt has none)
 
 -- ---- all together
 

@@ -1,5 +1,5 @@
 -- What a repair and a retirement remember, as the past grows.
-use Rattle.std.proofs.Common.{◌<◌, ℕ, Bool, List, Option, refl, sym, subst}
+use Rattle.std.proofs.Common.{◌≡◌, ◌<◌, ℕ, Bool, List, Option, Some, refl, sym, subst}
 use Rattle.rt_base.specs.declared.numbers.Instance.{Instance}
 use Rattle.rt_base.specs.declared.numbers.Partition.{Partition}
 use Rattle.rt_lists.specs.Members.{IsFront}
@@ -67,6 +67,7 @@ repair_lasts setup a b r g k =
       within = k.within;
       table = k.table;
       instances = k.instances;
+      grace = k.grace;
       remembers = repair_grows (starting_of setup) a.history b.history r.partition r.stage k.remembers g.history;
     }
 
@@ -74,16 +75,18 @@ pub retire_lasts : (setup : Setup) (a b : Past) (r : Retirement) → Grows a b �
 retire_lasts setup a b r g k =
     record {
       within = k.within;
+      keep = k.keep;
       remembers = retire_grows (starting_of setup) a.history b.history r.partition r.stage k.remembers g.history;
     }
 
 pub repair_begins_over : (setup : Setup) (past : Past) (p : Partition) → p.0 < setup.partitions
     → IsRepairOver setup past (beginnings.beginning p setup)
-repair_begins_over setup past p within = record { within = within; table = refl; instances = refl; remembers = tt }
+repair_begins_over setup past p within =
+    record { within = within; table = refl; instances = refl; grace = refl; remembers = tt }
 
 pub retire_begins_over : (setup : Setup) (past : Past) (p : Partition) (keep : ℕ) → p.0 < setup.partitions
-    → IsRetireOver setup past (retirements.beginning p keep)
-retire_begins_over setup past p keep within = record { within = within; remembers = tt }
+    → Some keep ≡ setup.retention → IsRetireOver setup past (retirements.beginning p keep)
+retire_begins_over setup past p keep within kept = record { within = within; keep = kept; remembers = tt }
 
 pub repair_ready : (setup : Setup) (past : Past) (r : Repairing) → IsSetup setup → all.IsPast setup past → IsRepairOver setup past r
     → IsRepair (starting_of setup) past.history r

@@ -6,7 +6,6 @@ use Rattle.rt_lists.specs.Members.{IsFront}
 use Rattle.rt_lists.proofs.Members.{front_same, front_then}
 use Rattle.rt_model.specs.declared.decision.Decision.{Decision}
 use Rattle.rt_model.specs.declared.decision.Decision.TheVariants as decision
-use Rattle.rt_model.specs.declared.node.Key.{Key}
 use Rattle.rt_model.specs.declared.node.Key.TheVariants as key
 use Rattle.rt_model.specs.declared.node.Listed.{Listed}
 use Rattle.rt_model.specs.declared.node.Seen.{Seen}

@@ -1,4 +1,5 @@
 pub mod Adding
+pub mod Alone
 pub mod Beginning
 pub mod Converging
 pub mod Counting
@@ -9,6 +10,7 @@ pub mod LastSegment
 pub mod Lists
 pub mod MayRepair
 pub mod MayRetire
+pub mod Owning
 pub mod Realized
 pub mod RetireFailing
 pub mod RetireKeeping
@@ -16,5 +18,7 @@ pub mod RetireRunningOut
 pub mod RightRepair
 pub mod RightRetire
 pub mod RunningOut
+pub mod Setting
 pub mod Settling
+pub mod Standing
 pub mod Telling

@@ -6,6 +6,8 @@ use Rattle.rt_base.specs.declared.limits.TheConstants.{LAST_NUMBER}
 use Rattle.rt_base.specs.declared.numbers.Instance.{Instance}
 use Rattle.rt_base.specs.declared.numbers.Moment.{Moment}
 use Rattle.rt_base.specs.declared.numbers.Sequence.{Sequence}
+use Rattle.rt_names.specs.Minute.{minute_text}
+use Rattle.rt_names.specs.Name.{name_of, name_text}
 use Rattle.rt_model.specs.declared.decision.Decision.{Decision}
 use Rattle.rt_model.specs.declared.decision.Decision.TheVariants as decision
 use Rattle.rt_model.specs.declared.ideal_state.IdealEntry.{IdealEntry}
@@ -18,7 +20,7 @@ use Rattle.rt_model.specs.declared.setup.Setup.{Setup}
 use Rattle.rt_model.specs.declared.status.Status.{Status}
 use Rattle.rt_model.specs.declared.status.Status.TheVariants.{InProgress, Done, Abandoned}
 use Rattle.rt_model.specs.Entries.{entries_by}
-use Rattle.rt_model.specs.Ideal.{has_entry, goes_on, commit_step_of, add_consuming_of}
+use Rattle.rt_model.specs.Ideal.{has_entry, goes_on, commit_step_of, add_consuming_of, next_sequence}
 use Rattle.rt_model.specs.Lawful.{Write, set, written_by}
 use Rattle.rt_model.specs.Moments.{later}
 use Rattle.rt_model.specs.Repair.{are_offline, decide_open, decide_by, decide_last}
@@ -34,6 +36,7 @@ use Rattle.rt_store.specs.Memory.{means}
 use Rattle.rt_store.proofs.Told.{leaves_on, read_same}
 use Rattle.rt_past.specs.IsPast.{IsPast, GrowsRight}
 use Rattle.rt_past.specs.Past.{Past, with_history}
+use Rattle.rt_past.specs.Segments.{name_at}
 use Rattle.rt_past.specs.Writes.{AreRightEntries, IsRightNode, IsRightWrite}
 use Rattle.rt_past.proofs.Entries.{commit_right, add_right}
 use Rattle.rt_past.proofs.Growth.{grows_same}
@@ -106,13 +109,18 @@ right_open setup a r now l follows ideal i k state right =
     (λ off. (ideal, record { has = state.has; is_ideal = state.is_ideal }, not-false (has_entry es p s) has))
     (λ on. tt))
 
+-- a segment that is created has the name of this moment
+new_named : (setup : Setup) (a : Past) (r : Repairing) (now : Moment) (s : Sequence) → IsRepairOver setup a r
+    → name_text (name_of r.table r.partition.0 s.0 (minute_text now.0)) ≡ name_at setup r.partition s now
+new_named setup a r now s k = ap (λ (table : List ℕ). name_text (name_of table r.partition.0 s.0 (minute_text now.0))) k.table
+
 right_by : (setup : Setup) (a : Past) (r : Repairing) (now : Moment) (l : Listed) (follows : Bool) (ideal : Seen) (i : IdealState)
     (status : Status) → IsRepairOver setup a r → IsState a.history ideal i → AreRightEntries setup (entries_by ideal.node)
     → RightDo setup a r now (Some (read_node r.partition l)) follows ideal
     (decide_by r.partition l.sequence (entries_by ideal.node) l.seen.meta status)
 right_by setup a r now l follows ideal i InProgress k state right = right_open setup a r now l follows ideal i k state right
-right_by setup a r now l follows ideal i (Done commit) k state right = tt
-right_by setup a r now l follows ideal i Abandoned k state right = tt
+right_by setup a r now l follows ideal i (Done commit) k state right = new_named setup a r now (next_sequence l.sequence) k
+right_by setup a r now l follows ideal i Abandoned k state right = new_named setup a r now (next_sequence l.sequence) k
 
 right_last : (setup : Setup) (a : Past) (r : Repairing) (now : Moment) (l : Listed) (follows : Bool) (ideal : Seen) (i : IdealState)
     → IsRepairOver setup a r → IsState a.history ideal i → AreRightEntries setup (entries_by ideal.node)
@@ -240,4 +248,4 @@ repair_kept setup past t r now x s k i e =
     let O : Repairing → Type 0 = IsRepairOver setup (told_past past u) in
     let there = subst K to.1 kept in
     subst O (sym to.1)
-    (record { within = i.within; table = i.table; instances = i.instances; remembers = there.remembers })
+    (record { within = i.within; table = i.table; instances = i.instances; grace = i.grace; remembers = there.remembers })

@@ -120,4 +120,4 @@ retire_kept setup past t r now x s k i e =
     let K : Retirement → Type 0 = IsRetire st u.writes in
     let O : Retirement → Type 0 = IsRetireOver setup (told_past past u) in
     let there = subst K to.1 kept in
-    subst O (sym to.1) (record { within = i.within; remembers = there.remembers })
+    subst O (sym to.1) (record { within = i.within; keep = i.keep; remembers = there.remembers })

@@ -57,7 +57,7 @@ run_end nodes l d n last run some =
     ap (λ xs. get_or xs k l.sequence.0) run ∙ get_or-range_with_len d n k l.sequence.0 (omega (arith, counted, some)) in
     omega (arith, counted, some, here, there)
 
-last_sequence : (s : Starting) (h : List Seen) (p : Partition) (l : Listed) → IsLawfulHistory s h → p.0 < s.partitions
+pub last_sequence : (s : Starting) (h : List Seen) (p : Partition) (l : Listed) → IsLawfulHistory s h → p.0 < s.partitions
     → last_listed (metadata_of h p) ≡ Some l → l.sequence.0 + 1 ≡ sequences_of h p
 last_sequence s h p l lawful within last =
     let chain = (has_chains s h lawful p within).some in

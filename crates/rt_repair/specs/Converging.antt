@@ -1,5 +1,5 @@
 -- Repairs of one partition that run alone, without faults: what is decided takes effect, and nothing else does.
-use Rattle.std.specs.Prelude.{◌≡◌, ℕ, zero, suc, ◌+◌, ◌<◌, ◌≤◌, ◌⊎◌, true, false, List, [], ◌∷◌, ◌++◌, length, Some}
+use Rattle.std.specs.Prelude.{◌≡◌, ℕ, zero, suc, ◌+◌, ◌<◌, ◌≤◌, ◌⊎◌, Bool, true, false, List, [], ◌∷◌, ◌++◌, length, Some}
 use Rattle.rt_base.specs.declared.numbers.Moment.{Moment}
 use Rattle.rt_base.specs.declared.numbers.Offset.{Offset}
 use Rattle.rt_base.specs.declared.numbers.Partition.{Partition}
@@ -50,6 +50,13 @@ decided r now x = decide x.nodes r.partition x.entries now r.grace
 abbrev pub repaired : Repairing → Moment → Standing → Standing
 repaired r now x = repaired_by r now x (decided r now x)
 
+-- whether a repair that decides this writes: entries are added only where the partition goes on with the segment
+abbrev pub writes : Repairing → Standing → Decision → Bool
+writes r x Nothing = false
+writes r x (Create s start) = true
+writes r x (AddToIdeal s) = goes_on x.entries r.partition s.0
+writes r x (Abandon s) = true
+
 -- the grace of the last segment is over
 abbrev pub IsOver : Repairing → Moment → Listed → Type 0
 IsOver r now l = (later l.seen.meta.written r.grace).0 ≤ now.0
@@ -61,13 +68,13 @@ pub record IsSettled (r : Repairing) (now : Moment) (x : Standing) (l : Listed) 
   pub entered : has_entry x.entries r.partition l.sequence ≡ true
   pub online : are_offline x.entries r.partition l.sequence ≡ false
 
--- after at most so many repairs that decide something, each once the grace of the then last segment is over
+-- after at most so many repairs that write, each once the grace of the then last segment is over
 abbrev pub SettlesIn : Repairing → ℕ → Standing → Listed → Type 0
 SettlesIn r zero x l = (now : Moment) → IsOver r now l → IsSettled r now x l
 SettlesIn r (suc n) x l =
     (now : Moment) → IsOver r now l
     → IsSettled r now x l
-    ⊎ ((m : Listed) × (last_listed (repaired r now x).nodes ≡ Some m) × SettlesIn r n (repaired r now x) m)
+    ⊎ ((writes r x (decided r now x) ≡ true) × (m : Listed) × (last_listed (repaired r now x).nodes ≡ Some m) × SettlesIn r n (repaired r now x) m)
 
 -- the last segment has entries, or it consumes and the entries go on with it; none is of a later segment
 pub record CanSettle (r : Repairing) (x : Standing) (l : Listed) : Type 0 where

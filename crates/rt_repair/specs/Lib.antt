@@ -1,12 +1,15 @@
+pub mod Alone
 pub mod Converging
 pub mod Decided
 pub mod IsRepair
 pub mod IsRetire
 pub mod Lasting
+pub mod Owning
 pub mod ReadNode
 pub mod RepairSteps
 pub mod Repairing
 pub mod RetireSteps
 pub mod Retired
 pub mod Retirement
+pub mod Setting
 pub mod Told

@@ -1,5 +1,5 @@
 //! The laws of what lasts of repairs and retirements. Each stands on a function that does nothing: its clause is the law.
-ghost use Rattle.std.specs.Prelude.{◌≡◌, ◌<◌, ◌≤◌, ℕ, Some};
+ghost use Rattle.std.specs.Prelude.{◌≡◌, ◌<◌, ◌≤◌, ℕ, List, [], Some};
 ghost use Rattle.rt_base.specs.declared.numbers.Moment.{Moment};
 ghost use Rattle.rt_base.specs.declared.numbers.Partition.{Partition};
 ghost use Rattle.rt_model.specs.declared.node.Listed.{Listed};
@@ -10,6 +10,7 @@ ghost use Rattle.rt_past.specs.IsPast.{IsPast, GrowsRight};
 ghost use Rattle.rt_past.specs.Past.{Past, Grows};
 ghost use Rattle.rt_store.specs.Contents.{starting_of};
 ghost use Rattle.rt_store.specs.Meaning.{Told};
+ghost use Rattle.rt_repair.specs.Alone.{SettlesAlone};
 ghost use Rattle.rt_repair.specs.Converging.{CanSettle, standing_of};
 ghost use Rattle.rt_repair.specs.IsRepair.{IsRepair};
 ghost use Rattle.rt_repair.specs.IsRetire.{IsRetire};
@@ -30,12 +31,12 @@ pub fn what_is_remembered_lasts()
         → IsRetireOver setup b r }
 {}
 
-/// A repair and a retirement that begin are right over any past.
+/// A repair and a retirement that begin are right over any past, a retirement with the setup's retention.
 pub fn what_begins_lasts()
     ensures repairs { (setup : Setup) (past : Past) (p : Partition) → p.0 < setup.partitions
         → IsRepairOver setup past (repairs.beginning p setup) }
     ensures retires { (setup : Setup) (past : Past) (p : Partition) (keep : ℕ) → p.0 < setup.partitions
-        → IsRetireOver setup past (retirements.beginning p keep) }
+        → Some keep ≡ setup.retention → IsRetireOver setup past (retirements.beginning p keep) }
 {}
 
 /// Over a right past they are ready to step.
@@ -73,4 +74,12 @@ pub fn every_partition_can_settle()
     ensures { (setup : Setup) (past : Past) (r : Repairing) → IsSetup setup → IsPast setup past → IsRepairOver setup past r
         → sequences_of past.history r.partition ≤ 4294967290
         → (l : Listed) × CanSettle r (standing_of past.history r.partition) l }
+{}
+
+/// So repairs of a partition of the setup that run alone and without faults from a right past settle, after at most three
+/// that write.
+pub fn every_partition_settles_alone()
+    ensures { (setup : Setup) (past : Past) (t : Told) (p : Partition) → IsSetup setup → IsPast setup (told_past past t)
+        → p.0 < setup.partitions → sequences_of t.writes p ≤ 4294967290 → t.faults.plan ≡ []
+        → SettlesAlone (repairs.beginning p setup) 3 t }
 {}

@@ -193,7 +193,7 @@ impl Repair {
                 self.stage = RepairStage::Ended;
                 Ok(did)
             }
-            RepairStage::Ended => Ok(RepairStep::Nothing),
+            RepairStage::Ended => unreachable!(),
         }
     }
 

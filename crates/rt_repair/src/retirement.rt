@@ -161,7 +161,7 @@ impl Retire {
                 self.stage = RetireStage::Ended;
                 Ok(did)
             }
-            RetireStage::Ended => Ok(RetireStep::Nothing),
+            RetireStage::Ended => unreachable!(),
         }
     }
 
