@@ -2,4 +2,5 @@ pub mod Fetched
 pub mod Keeping
 pub mod Others
 pub mod Plans
+pub mod RightPeers
 pub mod Steps

@@ -16,7 +16,7 @@ mod server_peer;
 mod stepped;
 mod told;
 
-pub use laws::what_is_rehearsed_keeps_enough;
+pub use laws::{a_server_with_a_loaded_file_is_a_right_peer, what_is_rehearsed_keeps_enough};
 pub use peer_file::PeerFile;
 pub use peering::peer;
 pub use planned::Planned;

@@ -2,9 +2,11 @@
 #![tactic(auto)]
 
 mod event;
+mod laws;
 mod outcome;
 mod refusal;
 
 pub use event::Event;
+pub use laws::the_limits_are;
 pub use outcome::Outcome;
 pub use refusal::Refusal;

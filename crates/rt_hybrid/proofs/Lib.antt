@@ -14,3 +14,4 @@ pub mod Gaining
 pub mod Places
 pub mod Starting
 pub mod Offline
+pub mod Keeping

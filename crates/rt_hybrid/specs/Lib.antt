@@ -9,3 +9,4 @@ pub mod Pushes
 pub mod Sides
 pub mod Timed
 pub mod Refused
+pub mod Kept

@@ -1,11 +1,15 @@
 //! What the sides and the boundary are, over the definitions alone.
 ghost use Rattle.std.specs.Prelude.{◌≡◌, ◌↔◌, ◌≤ℤ◌, ◌+◌, ◌<◌, ℤ, List, [], length, not, All, Some, None};
+ghost use Rattle.serde_json.specs.Data.{Data};
 ghost use Rattle.rt_lists.specs.Members.{Has};
+ghost use Rattle.rt_schema.specs.declared.column.Column.{Column};
 ghost use Rattle.rt_schema.specs.declared.row.Row.{Row as AnyRow};
 ghost use Rattle.rt_model.specs.declared.answer.ResultRow.{ResultRow};
 ghost use Rattle.rt_model.specs.declared.query.Query.{Query};
 ghost use Rattle.rt_model.specs.Aggregate.{aggregate, taken};
 ghost use Rattle.rt_agg.specs.Grouped.{Finishes, Grouped, Holds, Merges};
+ghost use Rattle.rt_hybrid.specs.Batch.{columns_kept};
+ghost use Rattle.rt_hybrid.specs.Kept.{AreKept};
 ghost use Rattle.rt_hybrid.specs.Sides.{hybrid_rows, is_offline_row, is_realtime_row, offline_side, realtime_side};
 ghost use Rattle.rt_hybrid.specs.Table.{OfflineTable, greatest_of};
 
@@ -30,4 +34,10 @@ pub fn merged_sides_are_the_hybrid_rows()
         → Holds query (taken query (offline_side table)) offline → Holds query (taken query (realtime_side table rows)) realtime
         → Merges offline realtime merged → length (taken query (offline_side table)) + length (taken query (realtime_side table rows)) < 9223372036854775808
         → Finishes merged result → result ≡ aggregate query (hybrid_rows table rows) }
+{}
+
+/// The file of a push has a column exactly where some object of the text has it, with null or another value, in the order
+/// of the schema; where no object has any, it has the schema's first column.
+pub fn a_column_is_kept_where_some_object_has_it()
+    ensures { (columns : List Column) (items : List Data) → AreKept columns items (columns_kept columns items) }
 {}

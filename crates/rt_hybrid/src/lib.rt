@@ -18,5 +18,6 @@ mod times;
 pub use hybrid::Hybrid;
 pub use hybrid_refused::HybridRefused;
 pub use laws::{
-    each_time_is_on_one_side, merged_sides_are_the_hybrid_rows, the_greatest_time_is_of_a_row,
+    a_column_is_kept_where_some_object_has_it, each_time_is_on_one_side,
+    merged_sides_are_the_hybrid_rows, the_greatest_time_is_of_a_row,
 };

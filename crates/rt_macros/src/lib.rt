@@ -7,6 +7,7 @@
 mod acting;
 mod exchanging;
 mod filling;
+mod laws;
 mod outcomes;
 mod querying;
 mod resting;
@@ -15,6 +16,7 @@ mod settling;
 pub use acting::{act, apply, attempt, happen, pass, produce};
 pub use exchanging::{Exchanged, exchange};
 pub use filling::fill;
+pub use laws::the_numbers_of_settle_are;
 pub use outcomes::{Delivered, Replied};
 pub use querying::query;
 pub use settling::{MOST_ROUNDS, settle, waits};

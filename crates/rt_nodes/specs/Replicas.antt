@@ -8,6 +8,7 @@ use Rattle.rt_model.specs.declared.replica_state.ReplicaState.{ReplicaState}
 use Rattle.rt_consumer.specs.Consumer.{cur, state_of}
 use Rattle.rt_consumer.specs.Requests.{rows_in, forced, is_due, builds_in}
 use Rattle.rt_consumer.specs.declared.consumer.Consumer.{Consumer}
+pub use Rattle.rt_consumer.specs.Next.{takes_in}
 use Rattle.rt_server.specs.Calls.{InTable, Takes, Seals, Forces as server_forces, Stops as server_stops}
 use Rattle.rt_server.specs.Table.{replica_of}
 use Rattle.rt_stream.specs.Feed.{log_meaning}
@@ -16,19 +17,7 @@ use Rattle.rt_nodes.specs.Steps.{ServerStep}
 use Rattle.rt_events.specs.declared.outcome.Outcome.TheVariants as told
 use Rattle.rt_model.specs.declared.replica_state.ReplicaState.TheVariants as state
 
--- the states in which a replica takes messages
-abbrev pub takes_in : ReplicaState → Bool
-takes_in state.InitialConsuming = true
-takes_in state.CatchingUp = true
-takes_in state.ConsumingToOnline = true
-takes_in state.Holding = false
-takes_in state.Retaining = false
-takes_in state.Retained = false
-takes_in state.Committing = false
-takes_in state.Committed = false
-takes_in state.Discarded = false
-
--- those in which it can be stopped
+-- the states in which it can be stopped
 abbrev pub stops_in : ReplicaState → Bool
 stops_in state.InitialConsuming = true
 stops_in state.CatchingUp = true

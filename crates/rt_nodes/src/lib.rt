@@ -20,6 +20,7 @@ mod upkeep;
 pub use controller_node::ControllerNode;
 pub use fresh::{first_controllers, first_servers};
 pub use queries::{note_answer, piece_outcome, route_query};
-pub use replicas::{stops, takes_messages};
+pub use replicas::stops;
+pub use rt_consumer::takes_messages;
 pub use server_node::ServerNode;
 pub use upkeep::Upkeep;

@@ -3,7 +3,7 @@ ghost use Rattle.std.specs.Prelude.{◌≡◌, true, Some, IsSome, IfOk};
 ghost use Rattle.rt_entry.specs.declared.refused.ServerRefused.TheVariants.{Memory};
 ghost use Rattle.rt_server.specs.Logs.{HasMessages};
 ghost use Rattle.rt_server.specs.Table.{replica_of};
-ghost use Rattle.rt_nodes.specs.Replicas.{passes, takes_in, stops_in, takes_now, forces_now, stops_now, builds_now, NodeConsumes, NodeForces, NodeStops, NodeBuilds};
+ghost use Rattle.rt_nodes.specs.Replicas.{passes, stops_in, takes_now, forces_now, stops_now, builds_now, NodeConsumes, NodeForces, NodeStops, NodeBuilds};
 
 use crate::ServerNode;
 use rt_base::{Moment, Partition, Sequence};
@@ -107,23 +107,6 @@ pub(crate) fn out_of_memory(refused: ServerRefused) -> AllocError
 {
     let _ = refused;
     AllocError
-}
-
-/// Whether a replica in this state takes messages.
-pub fn takes_messages(state: ReplicaState) -> bool
-    ensures { result ≡ takes_in state }
-{
-    match state {
-        ReplicaState::InitialConsuming => true,
-        ReplicaState::CatchingUp => true,
-        ReplicaState::ConsumingToOnline => true,
-        ReplicaState::Holding => false,
-        ReplicaState::Retaining => false,
-        ReplicaState::Retained => false,
-        ReplicaState::Committing => false,
-        ReplicaState::Committed => false,
-        ReplicaState::Discarded => false,
-    }
 }
 
 /// Whether a replica in this state can be stopped.

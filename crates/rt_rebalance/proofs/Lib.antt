@@ -1,3 +1,4 @@
+pub mod Availability
 pub mod Ends
 pub mod Fewest
 pub mod Grouping
@@ -8,3 +9,4 @@ pub mod Placing
 pub mod Plans
 pub mod Rehearsals
 pub mod Stages
+pub mod Turns

@@ -48,11 +48,11 @@ count_filter test other (e ∷ es) h = by (test e) (other e) h.0 (count_filter t
 
 -- ---- an entry of the same instance and segment
 
-same_numbers : (p q : Partition) (s t : Sequence) (i j : Instance) (es : List IdealEntry) → p.0 ≡ q.0 → s.0 ≡ t.0 → i.0 ≡ j.0
+pub same_numbers : (p q : Partition) (s t : Sequence) (i j : Instance) (es : List IdealEntry) → p.0 ≡ q.0 → s.0 ≡ t.0 → i.0 ≡ j.0
     → list_any (is_of_instance p s i) es ≡ list_any (is_of_instance q t j) es
 same_numbers p q s t i j es a b c = λ k. list_any (is_of_instance (record { 0 = a k }) (record { 0 = b k }) (record { 0 = c k })) es
 
-replica_more : (e : IdealEntry) (es : List IdealEntry) (o : IdealEntry) → has_replica es o ≡ true → has_replica (e ∷ es) o ≡ true
+pub replica_more : (e : IdealEntry) (es : List IdealEntry) (o : IdealEntry) → has_replica es o ≡ true → has_replica (e ∷ es) o ≡ true
 replica_more e es o h = or_right (is_of_instance o.partition o.sequence o.instance e) (has_replica es o) h
 
 all_more : (e : IdealEntry) (es : List IdealEntry) (segment : Segment) → AllByRecursion (λ o. has_replica es o ≡ true) segment → AllByRecursion (λ o. has_replica (e ∷ es) o ≡ true) segment
@@ -64,7 +64,7 @@ each_more : (e : IdealEntry) (es : List IdealEntry) (segments : List Segment) �
 each_more e es [] h = tt
 each_more e es (segment ∷ segments) h = (all_more e es segment h.0, each_more e es segments h.1)
 
-own_replica : (e : IdealEntry) (es : List IdealEntry) → has_replica (e ∷ es) e ≡ true
+pub own_replica : (e : IdealEntry) (es : List IdealEntry) → has_replica (e ∷ es) e ≡ true
 own_replica e es =
     or_left (is_of_instance e.partition e.sequence e.instance e) (has_replica es e)
     (and_from (is_of e.partition e.sequence e) (e.instance.0 == e.instance.0) (beside_self e) (eq-eqb e.instance.0 e.instance.0 refl))

@@ -1,3 +1,5 @@
+pub mod Available
+pub mod InTurn
 pub mod Plan
 pub mod Planned
 pub mod Refused

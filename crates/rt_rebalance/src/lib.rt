@@ -12,7 +12,10 @@ mod slot;
 mod slots;
 mod targets;
 
-pub use laws::enough_instances_are_available;
+pub use laws::{
+    enough_instances_are_available, instances_are_available_once_they_have_loaded,
+    the_lowest_leave_and_come_first,
+};
 pub use planning::{plan, plan_to};
 pub use rebalance_refused::RebalanceRefused;
 pub use rehearsal::Rehearsal;

@@ -26,11 +26,12 @@ use Rattle.rt_store.specs.Answers.{answer_by, change_in}
 use Rattle.rt_store.specs.Meaning.{Told}
 use Rattle.rt_store.specs.declared.refused.StoreRefused.{StoreRefused}
 use Rattle.rt_store.specs.declared.refused.StoreRefused.TheVariants.{NoNode, Exists, VersionChanged, Failed, Memory}
+use Rattle.rt_past.specs.Files.{header_in}
 use Rattle.rt_commit.specs.Assignment.{Assigned}
 use Rattle.rt_controller.specs.Working.{Working, job_place, settled, with_stage, work_at, work_call_at, work_call_on, work_on, worked}
 use Rattle.rt_controller.specs.Controller.{Controlling, reply_to}
 use Rattle.rt_znodes.specs.Znodes.{meta_in, seen_meta_of}
-use Rattle.rt_commit.specs.Job.{Stepping, after_done, after_get, after_next, after_read, after_set, bad, call_at, checked, commits, done_node, ends, fails, goes, header_in, is_wanted, step_at, success, tries_again}
+use Rattle.rt_commit.specs.Job.{Stepping, after_done, after_get, after_next, after_read, after_set, bad, call_at, checked, commits, done_node, ends, fails, goes, is_wanted, step_at, success, tries_again}
 use Rattle.rt_controller.specs.Right.{job_at, job_of}
 use Rattle.rt_commit.specs.Told.{ToldDeep, answer_to}
 use Rattle.rt_controller.specs.Told.{worked_on}

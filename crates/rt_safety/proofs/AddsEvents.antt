@@ -49,25 +49,25 @@ use Rattle.rt_safety.proofs.Adds.{Adds, adds_quietly, adds_reply, grows_history,
 use Rattle.rt_state.proofs.Bounds.{few_writes}
 use Rattle.rt_world.proofs.KeepsMessages.{request_sent}
 use Rattle.rt_world.proofs.KeepsQueries.{routed_reads}
-use Rattle.rt_world.proofs.KeepsRepairs.{found_within, upkeep_there, repair_writes, retire_writes}
+use Rattle.rt_world.proofs.KeepsRepairs.{found_within, upkeep_there, repair_writes, retention_set, retire_writes}
 use Rattle.rt_state.proofs.Possible.{then_passed}
 
 -- ---- possible replies
 
-fails_possibly : (h : List Seen) (rose : Type 0) (n : StepName) (why : FailCause) → FailsSo h rose n why → IsPossible why
-fails_possibly h rose n (cause.WrongState s) f = tt
-fails_possibly h rose n (cause.WrongOffset x o) f = tt
-fails_possibly h rose n (cause.NotCommitter i) f = tt
-fails_possibly h rose n cause.NoSegment f = tt
-fails_possibly h rose n (cause.VersionChanged expected found) f = tt
-fails_possibly h rose n cause.StoreFault f = tt
-fails_possibly h rose n (cause.BadUpload wanted found) f = f
-fails_possibly h rose n (cause.IdealChanged versions) f = tt
-fails_possibly h rose n cause.NotReplica f = f
+fails_possibly : (h : List Seen) (p : Partition) (s : Sequence) (rose : Type 0) (n : StepName) (why : FailCause) → FailsSo h p s rose n why → IsPossible why
+fails_possibly h p s rose n (cause.WrongState state) f = tt
+fails_possibly h p s rose n (cause.WrongOffset x o) f = tt
+fails_possibly h p s rose n (cause.NotCommitter i) f = tt
+fails_possibly h p s rose n cause.NoSegment f = tt
+fails_possibly h p s rose n (cause.VersionChanged expected found) f = tt
+fails_possibly h p s rose n cause.StoreFault f = tt
+fails_possibly h p s rose n (cause.BadUpload wanted found) f = f
+fails_possibly h p s rose n (cause.IdealChanged versions) f = tt
+fails_possibly h p s rose n cause.NotReplica f = f
 
 ends_possibly : (h : List Seen) (p : Partition) (s : Sequence) (rose : Type 0) (commit : Bool) (n : StepName) (how : ReplyStatus) → StatusSo h p s rose commit n how
     → IsPossibleStatus how
-ends_possibly h p s rose commit n (status.Failed why) f = fails_possibly h rose n why f
+ends_possibly h p s rose commit n (status.Failed why) f = fails_possibly h p s rose n why f
 ends_possibly h p s rose commit n (status.Keep seen) f = tt
 ends_possibly h p s rose commit n (status.CommitSuccess seen) f = tt
 ends_possibly h p s rose commit n (status.UploadSuccess path) f = tt
@@ -158,7 +158,8 @@ retain_adds w c p cost x s possible h = by_found (slice_get w.controllers c.0) r
     by_found (Some n) there None at h = absurd h
     by_found (Some n) there (Some old) at (new, store, did, steps, is) =
         let due = then_passed (find_upkeep w c p) (retain_by w c (retirement_in (upkeep_at w c p))) cost possible in
-        let k = retire_writes w p old new store did s.safe (found_within w c p due.0) (upkeep_there w c p n old s.safe there at) steps in
+        let set = retention_set w c p old cost at due.1 in
+        let k = retire_writes w p old new store did s.safe (found_within w c p due.0) set (upkeep_there w c p n old s.safe there at) steps in
         subst (λ (y : Next). Adds w y.0) (sym is) (adds_quietly w (after_upkeep w c p n new store cost) refl refl k.grows)
 
 -- ---- queries

@@ -6,7 +6,7 @@ use Rattle.rt_past.specs.Segments.{IsBegun}
 use Rattle.rt_consumer.specs.Consumer.{settings_of}
 use Rattle.rt_replica.specs.Held.{IsHeld}
 use Rattle.rt_consumer.specs.declared.consumer.Consumer.{Consumer}
-use Rattle.rt_server.specs.Lasting.{segment_of}
+use Rattle.rt_server.specs.Table.{segment_of}
 use Rattle.rt_state.specs.declared.state.State.{State}
 
 -- it is of the segment, over the setup's schema; it starts where its segment's node was created; and it holds the rows of all

@@ -168,17 +168,23 @@ repair_needs w c p cost s h =
       repair_spends w c (repair_in (upkeep_at w c p)) cost found.1,
     )
 
+-- a retirement begins with the retention, where one is set
+pub retention_kept : (o : Option ℕ) → IsSome o → Some (unwrap_or o 0) ≡ o
+retention_kept None set = absurd (cc)
+retention_kept (Some keep) set = refl
+
 retiring_ready : (w : State) (p : Partition) (u : Upkeep) (r : Option Retirement) → IsSafeWorld w → p.0 < w.setup.partitions
-    → u.retirement ≡ r → IsUpkeepOver w.setup (past_of w) u → IsReadyRetirement w.store.writes (retiring w.setup p r)
-retiring_ready w p u None s within e k = (
+    → (IsNone r → IsSome w.setup.retention) → u.retirement ≡ r → IsUpkeepOver w.setup (past_of w) u
+    → IsReadyRetirement w.store.writes (retiring w.setup p r)
+retiring_ready w p u None s within set e k = (
   tt,
   (
     starting_of w.setup,
     retire_ready w.setup (past_of w) (retire_beginning p (unwrap_or w.setup.retention 0)) s.safe.setup s.safe.past
-        (retire_begins_over w.setup (past_of w) p (unwrap_or w.setup.retention 0) within),
+        (retire_begins_over w.setup (past_of w) p (unwrap_or w.setup.retention 0) within (retention_kept w.setup.retention (set refl))),
   ),
 )
-retiring_ready w p u (Some r) s within e k = (
+retiring_ready w p u (Some r) s within set e k = (
   subst (λ o. IfSome o (λ x. retire_unended x.stage)) e k.retirement_goes,
   (
     starting_of w.setup,
@@ -193,7 +199,7 @@ retain_spends w c None cost h =
 retain_spends w c (Some r) cost h = priced_spends w (set_cost (retire_sets r w.moment)) cost h
 
 -- a retirement begins only where a retention is set
-retain_keeps : (w : State) (c : ControllerId) (r : Option Retirement) (cost : Cost) → retain_by w c r ≡ Ok cost → IsNone r → IsSome w.setup.retention
+pub retain_keeps : (w : State) (c : ControllerId) (r : Option Retirement) (cost : Cost) → retain_by w c r ≡ Ok cost → IsNone r → IsSome w.setup.retention
 retain_keeps w c None cost h none =
     let test = only_passed (is_some w.setup.retention && believes_at w c) NothingToDo (priced w no_cost) cost h in
     (both (is_some w.setup.retention) (believes_at w c) test.0).0
@@ -217,10 +223,11 @@ retain_needs w c p cost s h =
       λ n at.
           let node = node_at w c n s at in (
             omega (arith, there.partition, node.partitions),
-            λ u stands. (
-              λ none. retain_keeps w c (retirement_in (upkeep_at w c p)) cost found.1 (subst (λ o. IsNone o) (sym (retirement_there w c p n u at stands)) none),
-              retiring_ready w p u u.retirement s there.partition refl (node.upkeep p.0 u stands),
-            ),
+            λ u stands.
+                let set : IsNone u.retirement → IsSome w.setup.retention =
+                λ none. retain_keeps w c (retirement_in (upkeep_at w c p)) cost found.1
+                (subst (λ o. IsNone o) (sym (retirement_there w c p n u at stands)) none)
+                in (set, retiring_ready w p u u.retirement s there.partition set refl (node.upkeep p.0 u stands)),
           ),
       retain_spends w c (retirement_in (upkeep_at w c p)) cost found.1,
     )

@@ -74,7 +74,7 @@ first_quoted text at within is = sym (ap first_token (begins_with text at within
 pub first_text : (text : List ℕ) (at : ℕ) → at < length text → get_or text at 0 ≡ 39 → quoted_text (drop (at + 1) text) ≡ first_token (drop at text)
 first_text text at within is = sym (ap first_token (begins_with text at within) ∙ ap (λ b. first_token (b ∷ drop (at + 1) text)) is)
 
-cond_false : {A : Type 0} (b : Bool) (x y : A) → b ≡ false → (if b then x else y) ≡ y
+pub cond_false : {A : Type 0} (b : Bool) (x y : A) → b ≡ false → (if b then x else y) ≡ y
 cond_false b x y h = ap (λ c. if c then x else y) h
 
 not_equal : (a b : ℕ) → (a ≡ b → ⊥) → (a == b) ≡ false
@@ -131,7 +131,7 @@ behind_behind xs ys m n (Some c) =
     let sizes : m + (n + c.size) ≡ m + n + c.size = omega arith in
     ap (λ t. Some (record { text = t; size = m + (n + c.size) })) (sym (append_assoc xs ys c.text)) ∙ ap (λ k. Some (record { text = (xs ++ ys) ++ c.text; size = k })) sizes
 
-content_other : (b : ℕ) (bytes : List ℕ) → (b ≡ 39 → ⊥) → content (b ∷ bytes) ≡ behind (b ∷ []) 1 (content bytes)
+pub content_other : (b : ℕ) (bytes : List ℕ) → (b ≡ 39 → ⊥) → content (b ∷ bytes) ≡ behind (b ∷ []) 1 (content bytes)
 content_other b [] h = cond_false (b == 39) _ _ (not_equal b 39 h)
 content_other b (c ∷ bytes) h = cond_false (b == 39) _ _ (not_equal b 39 h)
 

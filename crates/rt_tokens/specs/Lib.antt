@@ -1,2 +1,3 @@
 pub mod Literals
 pub mod Tokens
+pub mod Written

@@ -2,6 +2,7 @@ ghost use Rattle.std.specs.Prelude.{◌≡◌, ◌+◌, ◌-◌, ◌≤◌, ◌<
 ghost use Rattle.std.specs.Char.{is_ascii_digit};
 ghost use Rattle.std.specs.List.{prefix_len};
 ghost use Rattle.rt_tokens.specs.Tokens.{is_blank, is_name_start, is_name_byte, is_quotable, named, numbered, number_from, with_digit, quoted, quoted_text, first_token, tokens_of};
+ghost use Rattle.rt_tokens.specs.Written.{Tile};
 
 use crate::content::content_at;
 use crate::lexeme::Lexeme;
@@ -21,6 +22,15 @@ pub(crate) struct Lexed {
 
 /// The tokens of a text, up to the first bytes that are none.
 pub fn tokens_of(alloc: Global, text: &str) -> Result<Items<Token>, AllocError>
+    requires { length text.now ≤ 65_536 }
+    ensures value { IfOk result (λ tokens. tokens ≡ tokens_of text.now) }
+    // The text is blanks and what is written for these tokens, each at its byte and none within another.
+    ensures tiled { IfOk result (λ tokens. Tile 0 text.now tokens) }
+{
+    read(alloc, text)
+}
+
+fn read(alloc: Global, text: &str) -> Result<Items<Token>, AllocError>
     requires { length text.now ≤ 65_536 }
     ensures { IfOk result (λ tokens. tokens ≡ tokens_of text.now) }
 {

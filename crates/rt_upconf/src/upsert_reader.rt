@@ -1,6 +1,7 @@
 ghost use Rattle.std.specs.Prelude.{◌≡◌, IfOk, IfSome, is_some, option_map};
 ghost use Rattle.serde_json.specs.View.{view};
-ghost use Rattle.rt_upconf.specs.Upsert.{Answers, are_columns, column_at, comparison_of, comparison_from, config_with, configured, fallback_of, full_of, is_comparable, keys_of, upsert_at, upsert_of, IsUpsertConfig};
+ghost use Rattle.rt_upconf.specs.Upsert.{Answers, are_columns, column_at, comparison_of, comparison_from, config_with, configured, fallback_of, full_of, is_comparable, keys_of, object_of, upsert_at, upsert_of, IsUpsertConfig};
+ghost use Rattle.rt_upconf.specs.Told.{IsTold};
 
 use crate::object::{inside, is_given, lent, object_at, read_object, text_at, text_of, texts_at};
 use crate::time_column::time_of;
@@ -22,6 +23,8 @@ pub fn read_upsert(
 ) -> Result<Option<UpsertConfig>, UpsertRefused>
     ensures config { Answers (upsert_of schema.now schema_text.now table_text.now) result }
     ensures columns { IfOk result (λ found. IfSome found (IsUpsertConfig schema.now)) }
+    // Each answer and each refusal comes only where the texts say so.
+    ensures told { IsTold schema.now.columns (object_of schema_text.now) (object_of table_text.now) result }
 {
     read_texts(alloc, schema_text, table_text, schema)
 }

@@ -72,7 +72,8 @@ impl Upsert {
     }
 
     /// Adds a row of the schema at a place; places come in any order. It is refused where a row is held at that place. Where
-    /// memory runs out, all is as before.
+    /// memory runs out, all is as before. The memory of a key is never given back: its number stays for rows to come, also
+    /// where the row is then refused memory, and where all of the key's rows are taken out.
     pub fn add(&mut self, alloc: Global, place: Place, row: &Row) -> Result<(), AddRefused>
         requires kinds { map kind_of row.now.values ≡ self.old.kinds }
         requires row { place.row < 4294967295 }

@@ -1,6 +1,6 @@
 -- A step of a repair, and one of a retirement, keeps a world safe.
 use Rattle.std.proofs.Common.{◌≡◌, ℕ, ◌+◌, ◌<◌, ◌≤◌, Bool, true, false, cond, Ok, Option, Some, None, refl, sym, ◌∙◌, ap, subst, slice_get, length, arith, ◌&&◌}
-use Rattle.std.specs.Prelude.{slice_set, IfSome, is_some}
+use Rattle.std.specs.Prelude.{slice_set, IfSome, IsNone, IsSome, is_some}
 use Rattle.std.proofs.lemmas.Bool.{ltb-true, and_parts, true≢false}
 use Rattle.std.proofs.lemmas.List.{length-set}
 use Rattle.rt_base.specs.declared.numbers.ControllerId.{ControllerId}
@@ -29,6 +29,7 @@ use Rattle.rt_state.specs.Applying.{Next}
 use Rattle.rt_state.specs.Finding.{has_controller, has_partition}
 use Rattle.rt_state.specs.IsSafe.{IsUpkeepAt, IsSafe, past_of}
 use Rattle.rt_state.specs.IsSafeWorld.{IsSafeWorld}
+use Rattle.rt_state.proofs.NeedsNodes.{retain_keeps as retention_needed, retention_kept}
 use Rattle.rt_state.specs.Repairs.{upkeep_in, upkeep_at, believes_at, find_upkeep, after_upkeep, repair_by, repair_in, repair_due, begun, going_on, UpkeepRepairs, RepairsAt, Repairs, retain_by, retirement_in, retain_due, retiring, retiring_on, UpkeepRetires, RetiresAt, Retires}
 use Rattle.rt_state.specs.Room.{set_cost, no_cost, priced}
 use Rattle.rt_nodes.specs.declared.controller_node.ControllerNode.{ControllerNode}
@@ -177,10 +178,10 @@ repair_keeps w c p cost x s possible h = by_found (slice_get w.controllers c.0) 
 
 -- ---- a retirement
 
-retiring_over : (setup : Setup) (past : Past) (p : Partition) (o : Option Retirement) → p.0 < setup.partitions → IfSome o (IsRetireOver setup past)
-    → IsRetireOver setup past (retiring setup p o)
-retiring_over setup past p None within k = retire_begins_over setup past p _ within
-retiring_over setup past p (Some r) within k = k
+retiring_over : (setup : Setup) (past : Past) (p : Partition) (o : Option Retirement) → p.0 < setup.partitions → (IsNone o → IsSome setup.retention)
+    → IfSome o (IsRetireOver setup past) → IsRetireOver setup past (retiring setup p o)
+retiring_over setup past p None within set k = retire_begins_over setup past p _ within (retention_kept setup.retention (set refl))
+retiring_over setup past p (Some r) within set k = k
 
 retiring_on_over : (setup : Setup) (past : Past) (r : Retirement) → IsRetireOver setup past r → IfSome (retiring_on r) (IsRetireOver setup past)
 retiring_on_over setup past r k = by_test (retire_is_ended r.stage)
@@ -202,16 +203,23 @@ retiring_unended r = by_test (retire_is_ended r.stage) refl
     by_test true e = tt
     by_test false e = unended_retirement r.stage e
 
+-- a retirement that begins has a retention that is set
+pub retention_set : (w : State) (c : ControllerId) (p : Partition) (old : Upkeep) (cost : Cost) → upkeep_at w c p ≡ Some old
+    → retain_by w c (retirement_in (upkeep_at w c p)) ≡ Ok cost → IsNone old.retirement → IsSome w.setup.retention
+retention_set w c p old cost at due none =
+    retention_needed w c (retirement_in (upkeep_at w c p)) cost due
+    (subst (λ o. IsNone (retirement_in o)) (sym at) none)
+
 retain_room : (w : State) (c : ControllerId) (o : Option Retirement) (cost : Cost) → retain_by w c o ≡ Ok cost → (sets : Option ℕ) × (priced w (set_cost sets) ≡ Ok cost)
 retain_room w c None cost e = (None, (only_passed (is_some w.setup.retention && believes_at w c) NothingToDo (priced w no_cost) cost e).1)
 retain_room w c (Some r) cost e = (retire_sets r w.moment, e)
 
 pub retire_writes : (w : State) (p : Partition) (old new : Upkeep) (store : Told) (did : RetireStep) → IsSafe w → p.0 < w.setup.partitions
-    → IsUpkeepAt w.setup (past_of w) p.0 old → UpkeepRetires w.setup p w.store store w.moment old new did → UpkeepWrites w new store
-retire_writes w p old new store did s within k (after, steps, is) =
+    → (IsNone old.retirement → IsSome w.setup.retention) → IsUpkeepAt w.setup (past_of w) p.0 old → UpkeepRetires w.setup p w.store store w.moment old new did → UpkeepWrites w new store
+retire_writes w p old new store did s within set k (after, steps, is) =
     let a = past_of w in
     let r = retiring w.setup p old.retirement in
-    let over = retiring_over w.setup a p old.retirement within k.retirement in
+    let over = retiring_over w.setup a p old.retirement within set k.retirement in
     let x : of_retire.Stepped = record { retire = after; step = did } in
     let left = told_retire w.store store r w.moment x steps in
     let grown = retire_past w.setup a w.store r w.moment s.setup s.past over in
@@ -247,4 +255,5 @@ retain_keeps w c p cost x s possible h = by_found (slice_get w.controllers c.0) 
         let room = retain_room w c (retirement_in (upkeep_at w c p)) cost due.1 in
         subst (λ (y : Next). IsSafeWorld y.0) (sym is)
         (upkeep_put w c p n new store room.0 cost s there room.1
-        (retire_writes w p old new store did s.safe (found_within w c p due.0) (upkeep_there w c p n old s.safe there at) steps))
+        (retire_writes w p old new store did s.safe (found_within w c p due.0) (retention_set w c p old cost at due.1)
+        (upkeep_there w c p n old s.safe there at) steps))

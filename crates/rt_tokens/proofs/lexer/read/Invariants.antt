@@ -1,6 +1,6 @@
 use Rattle.std.proofs.Common.{◌≡◌, ◌-◌, ◌≤◌, ◌++◌, length, drop}
 use Rattle.rt_tokens.specs.Tokens.{tokens_of, tokens_at}
-use Rattle.rt_tokens.proofs.lexer.tokens_of.Given as goal
+use Rattle.rt_tokens.proofs.lexer.read.Given as goal
 
 -- the tokens so far and those of what is left are all tokens
 abbrev pub invariant-loop-at : goal.invariant-loop-at
