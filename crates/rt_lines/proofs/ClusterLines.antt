@@ -1,190 +1,14 @@
 -- The lines that are read as clusters are those that spell them.
-use Rattle.std.proofs.Common.{◌≡◌, ◌⊎◌, inl, inr, suc, ℕ, ◌+◌, ◌<◌, ◌≤◌, ◌==◌, ◌&&◌, Bool, true, false, if◌then◌else◌, List, [], ◌∷◌, ◌++◌, length, take, drop, Option, Some, None, refl, sym, ap, subst, ◌∙◌, arith, append_assoc}
-use Rattle.std.specs.Prelude.{◌↔◌, codes, nat_eq, nat_le, nat_lt}
-use Rattle.std.specs.Char.{is_ascii_digit}
-use Rattle.std.specs.List.{list_all, starts_with}
-use Rattle.std.specs.Str.Parse.{digits_value}
-use Rattle.std.proofs.lemmas.Bool.{and_parts, and_from, cond-true, cond-false, eqb-true, le-leb, leb-true, le-ltb, lt-ltb, ltb-true}
-use Rattle.std.proofs.lemmas.Bool.Decides.{Decides-eqb, nat_tests}
-use Rattle.std.proofs.lemmas.Grind.{common_steps}
-use Rattle.std.proofs.lemmas.List.{append-nil, length-append}
-use Rattle.std.proofs.lemmas.Slice.Eq.{starts_is}
+use Rattle.std.proofs.Common.{◌≡◌, ◌⊎◌, inl, inr, ℕ, ◌==◌, Bool, true, false, if◌then◌else◌, List, [], ◌∷◌, ◌++◌, Option, Some, None, refl, sym, ap, subst, ◌∙◌}
+use Rattle.std.specs.Prelude.{◌↔◌, codes}
+use Rattle.std.proofs.lemmas.Bool.{eqb-true}
+use Rattle.std.proofs.lemmas.List.{append-nil}
 use Rattle.rt_lines.specs.declared.cluster.Cluster.{Cluster}
 use Rattle.rt_lines.specs.declared.cluster.Options.{Options}
 use Rattle.rt_lines.specs.Cluster.{cluster_of, end_by, end_of, format_of, formatted, next_field, no_options, option_by, options_by, options_of, retained}
 use Rattle.rt_lines.specs.ClusterLine.{IsClusterLine, SaysFormat, SaysRetention, Spells}
-use Rattle.rt_lines.specs.Words.{field_of, after_prefix, is_numeral, number_of, parted_at, place_in, then_some}
-
-same_some : {A : Type 0} (x y : A) → Some x ≡ Some y → x ≡ y
-same_some x y e = cc
-
-some_if : {A : Type 0} (b : Bool) (x y : A) → (if b then Some x else None) ≡ Some y → (b ≡ true) × (x ≡ y)
-some_if true x y e = (refl, same_some x y e)
-some_if false x y e = cc
-
-then_found : {A B : Type 0} (o : Option A) (f : A → Option B) (y : B) → then_some o f ≡ Some y → (x : A) × (o ≡ Some x) × (f x ≡ Some y)
-then_found None f y e = cc
-then_found (Some x) f y e = (x, refl, e)
-
--- no byte of a text is a space
-abbrev spaceless : List ℕ → Bool
-spaceless [] = true
-spaceless (b ∷ bs) = if b == 32 then false else spaceless bs
-
-not_both : (test rest : Bool) → (if test then false else rest) ≡ true → (test ≡ false) × (rest ≡ true)
-not_both true rest e = cc
-not_both false rest e = (refl, e)
-
-spaceless_joined : (a b : List ℕ) → spaceless a ≡ true → spaceless b ≡ true → spaceless (a ++ b) ≡ true
-spaceless_joined [] b h k = k
-spaceless_joined (x ∷ a) b h k =
-    let parts = not_both (x == 32) (spaceless a) h in
-    cond-false _ _ _ parts.0 ∙ spaceless_joined a b parts.1 k
-
-digit_spaceless : (d : ℕ) → is_ascii_digit d ≡ true → (d == 32) ≡ false
-digit_spaceless d h = grind (arith, nat_tests)
-
-digits_spaceless : (ds : List ℕ) → list_all is_ascii_digit ds ≡ true → spaceless ds ≡ true
-digits_spaceless [] h = refl
-digits_spaceless (d ∷ ds) h =
-    let parts = and_parts (is_ascii_digit d) (list_all is_ascii_digit ds) h in
-    cond-false _ _ _ (digit_spaceless d parts.0) ∙ digits_spaceless ds parts.1
-
-numeral_spaceless : (word : List ℕ) → is_numeral word ≡ true → spaceless word ≡ true
-numeral_spaceless [] h = refl
-numeral_spaceless (b ∷ []) h = cond-false _ _ _ (digit_spaceless b h)
-numeral_spaceless (b ∷ c ∷ bs) h = digits_spaceless (b ∷ c ∷ bs) (not_both (b == 48) (list_all is_ascii_digit (b ∷ c ∷ bs)) h).1
-
--- numbers
-number_spells : (word : List ℕ) (n : ℕ) → number_of word ≡ Some n → Spells word n
-number_spells word n e =
-    let found = some_if (is_numeral word && nat_le (digits_value 10 word) 18446744073709551615) (digits_value 10 word) n e in
-    let parts = and_parts (is_numeral word) (nat_le (digits_value 10 word) 18446744073709551615) found.0 in
-    record { numeral = parts.0; value = sym found.1; fits = subst (λ k. k ≤ 18446744073709551615) found.1 (leb-true _ _ parts.1) }
-
-spelled_number : (word : List ℕ) (n : ℕ) → Spells word n → number_of word ≡ Some n
-spelled_number word n k =
-    cond-true _ _ _ (and_from _ _ k.numeral (le-leb (digits_value 10 word) 18446744073709551615 (subst (λ m. m ≤ 18446744073709551615) k.value k.fits)))
-    ∙ ap Some (sym k.value)
-
--- prefixes
-prefix_said : (prefix text rest : List ℕ) → after_prefix prefix text ≡ Some rest → text ≡ prefix ++ rest
-prefix_said prefix text rest e =
-    let found = some_if (starts_with nat_eq text prefix) (drop (length prefix) text) rest e in
-    (starts_is Decides-eqb text prefix (starts_with nat_eq text prefix) refl).0 found.0 ∙ ap (λ xs. prefix ++ xs) found.1
-
-prefix_dropped : (prefix text : List ℕ) → drop (length prefix) (prefix ++ text) ≡ text
-prefix_dropped [] text = refl
-prefix_dropped (b ∷ bs) text = prefix_dropped bs text
-
-prefix_read : (prefix text : List ℕ) → after_prefix prefix (prefix ++ text) ≡ Some text
-prefix_read prefix text =
-    cond-true _ _ _ ((starts_is Decides-eqb (prefix ++ text) prefix (starts_with nat_eq (prefix ++ text) prefix) refl).1 text refl)
-    ∙ ap Some (prefix_dropped prefix text)
-
--- the word before the first space
-abbrev IsSplit : List ℕ → ℕ → Type 0
-IsSplit bs n = bs ≡ take n bs ++ 32 ∷ drop (n + 1) bs
-
-taken_next : (n b : ℕ) (bs : List ℕ) → take (n + 1) (b ∷ bs) ≡ b ∷ take n bs
-taken_next n b bs = let next : n + 1 ≡ suc n = omega arith in ap (λ k. take k (b ∷ bs)) next
-
-dropped_next : (n b : ℕ) (bs : List ℕ) → drop (n + 1 + 1) (b ∷ bs) ≡ drop (n + 1) bs
-dropped_next n b bs = let next : n + 1 + 1 ≡ suc (n + 1) = omega arith in ap (λ k. drop k (b ∷ bs)) next
-
-split_next : (b : ℕ) (bs : List ℕ) (n : ℕ) (test : Bool) → (b == 32) ≡ test → (if test then 0 else n + 1) < length (b ∷ bs) → (n < length bs → IsSplit bs n) → IsSplit (b ∷ bs) (if test then 0 else n + 1)
-split_next b bs n true is h more = ap (λ x. x ∷ bs) (eqb-true b 32 is)
-split_next b bs n false is h more =
-    ap (λ xs. b ∷ xs) (more (omega arith))
-    ∙ ap (λ xs. xs ++ 32 ∷ drop (n + 1) bs) (sym (taken_next n b bs))
-    ∙ ap (λ xs. take (n + 1) (b ∷ bs) ++ 32 ∷ xs) (sym (dropped_next n b bs))
-
-split_at : (bs : List ℕ) → place_in 32 bs < length bs → IsSplit bs (place_in 32 bs)
-split_at [] h = let bad : ⊥ = omega (arith, h) in absurd bad
-split_at (b ∷ bs) h = split_next b bs (place_in 32 bs) (b == 32) refl h (split_at bs)
-
-parted_said : (text : List ℕ) (parts : List ℕ × List ℕ) → parted_at 32 text ≡ Some parts → text ≡ parts.0 ++ 32 ∷ parts.1
-parted_said text parts e =
-    let found = some_if (nat_lt (place_in 32 text) (length text)) (take (place_in 32 text) text, drop (place_in 32 text + 1) text) parts e in
-    subst (λ p. text ≡ p.0 ++ 32 ∷ p.1) found.1 (split_at text (ltb-true _ _ found.0))
-
-place_before : (word rest : List ℕ) → spaceless word ≡ true → place_in 32 (word ++ 32 ∷ rest) ≡ length word
-place_before [] rest h = refl
-place_before (b ∷ bs) rest h =
-    let parts = not_both (b == 32) (spaceless bs) h in
-    let behind = place_before bs rest parts.1 in
-    cond-false _ _ _ parts.0 ∙ omega (arith, behind)
-
-place_nowhere : (word : List ℕ) → spaceless word ≡ true → place_in 32 word ≡ length word
-place_nowhere [] h = refl
-place_nowhere (b ∷ bs) h =
-    let parts = not_both (b == 32) (spaceless bs) h in
-    let behind = place_nowhere bs parts.1 in
-    cond-false _ _ _ parts.0 ∙ omega (arith, behind)
-
-abbrev cut_at : List ℕ → ℕ → Option (List ℕ × List ℕ)
-cut_at text k = if nat_lt k (length text) then Some (take k text, drop (k + 1) text) else None
-
-taken : (word rest : List ℕ) → take (length word) (word ++ 32 ∷ rest) ≡ word
-taken word rest = grind (arith, common_steps)
-
-dropped_by : (word rest : List ℕ) → drop (suc (length word)) (word ++ 32 ∷ rest) ≡ rest
-dropped_by [] rest = refl
-dropped_by (b ∷ bs) rest = dropped_by bs rest
-
-dropped : (word rest : List ℕ) → drop (length word + 1) (word ++ 32 ∷ rest) ≡ rest
-dropped word rest = let next : length word + 1 ≡ suc (length word) = omega arith in ap (λ n. drop n (word ++ 32 ∷ rest)) next ∙ dropped_by word rest
-
-parted_read : (word rest : List ℕ) → spaceless word ≡ true → parted_at 32 (word ++ 32 ∷ rest) ≡ Some (word, rest)
-parted_read word rest h =
-    let text = word ++ 32 ∷ rest in
-    ap (cut_at text) (place_before word rest h)
-    ∙ cond-true _ _ _ (lt-ltb (length word) (length text) (omega (arith, length-append word (32 ∷ rest))))
-    ∙ ap (λ xs. Some (xs, drop (length word + 1) text)) (taken word rest)
-    ∙ ap (λ xs. Some (word, xs)) (dropped word rest)
-
-parted_none : (word : List ℕ) → spaceless word ≡ true → parted_at 32 word ≡ None
-parted_none word h = ap (cut_at word) (place_nowhere word h) ∙ cond-false _ _ _ (le-ltb (length word) (length word) (omega arith))
-
--- `KEY=N`
-field_said : (key word : List ℕ) (n : ℕ) → field_of key word ≡ Some n → (digits : List ℕ) × (word ≡ key ++ digits) × Spells digits n
-field_said key word n e =
-    let found = then_found (after_prefix key word) number_of n e in
-    (found.0, prefix_said key word found.0 found.1, number_spells found.0 n found.2)
-
-field_read : (key word : List ℕ) (n : ℕ) → Spells word n → field_of key (key ++ word) ≡ Some n
-field_read key word n k = ap (λ o. then_some o number_of) (prefix_read key word) ∙ spelled_number word n k
-
--- `KEY=N` and a space
-abbrev counted : ℕ → List ℕ → ℕ × List ℕ
-counted n rest = (n, rest)
-
-abbrev with_parts : List ℕ → List ℕ × List ℕ → Option (ℕ × List ℕ)
-with_parts key parts = then_some (field_of key parts.0) (λ n. Some (counted n parts.1))
-
-record IsNext (key text : List ℕ) (found : ℕ × List ℕ) : Type 0 where
-  word : List ℕ
-  whole : text ≡ key ++ (word ++ 32 ∷ found.1)
-  says : Spells word found.0
-
-next_said : (key text : List ℕ) (found : ℕ × List ℕ) → next_field key text ≡ Some found → IsNext key text found
-next_said key text found e =
-    let (parts, apart, rest) = then_found (parted_at 32 text) (with_parts key) found e in
-    let (n, is, same) = then_found (field_of key parts.0) (λ n. Some (counted n parts.1)) found rest in
-    let (digits, whole, says) = field_said key parts.0 n is in
-    let made : IsNext key text (counted n parts.1) =
-    record {
-      word = digits;
-      whole = parted_said text parts apart ∙ ap (λ xs. xs ++ 32 ∷ parts.1) whole ∙ append_assoc key digits (32 ∷ parts.1);
-      says = says;
-    } in
-    subst (IsNext key text) (same_some (counted n parts.1) found same) made
-
-next_read : (key word rest : List ℕ) (n : ℕ) → spaceless key ≡ true → Spells word n → next_field key (key ++ (word ++ 32 ∷ rest)) ≡ Some (counted n rest)
-next_read key word rest n h k =
-    ap (next_field key) (sym (append_assoc key word (32 ∷ rest)))
-    ∙ ap (λ o. then_some o (with_parts key)) (parted_read (key ++ word) rest (spaceless_joined key word h (numeral_spaceless word k.numeral)))
-    ∙ ap (λ o. then_some o (λ n. Some (counted n rest))) (field_read key word n k)
+use Rattle.rt_lines.specs.Words.{after_prefix, field_of, parted_at, then_some}
+use Rattle.rt_lines.proofs.PartsOfLines.{field_read, field_said, lacks_joined, next_read, next_said, numeral_lacks, parted_none, parted_read, parted_said, prefix_read, prefix_said, same_some, then_found}
 
 -- formats
 abbrev one_of_two : ℕ → Option ℕ
@@ -245,7 +69,7 @@ options_said text (Some words) o is e =
     record {
       retention = codes " retention=" ++ digits;
       format = 32 ∷ words.1;
-      whole = ap (λ xs. 32 ∷ xs) (parted_said text words is ∙ ap (λ xs. xs ++ 32 ∷ words.1) whole);
+      whole = ap (λ xs. 32 ∷ xs) (parted_said 32 text words is ∙ ap (λ xs. xs ++ 32 ∷ words.1) whole);
       says_retention = (digits, refl, says);
       says_format = format_said words.1 format read;
     } in
@@ -254,20 +78,20 @@ options_said text (Some words) o is e =
 retention_read : (word : List ℕ) (n : ℕ) → Spells word n → options_of (codes "retention=" ++ word) ≡ Some (retained n 2)
 retention_read word n k =
     let text = codes "retention=" ++ word in
-    ap (λ o. options_by o text) (parted_none text (spaceless_joined (codes "retention=") word refl (numeral_spaceless word k.numeral)))
+    ap (λ o. options_by o text) (parted_none 32 text (lacks_joined 32 (codes "retention=") word refl (numeral_lacks 32 word refl k.numeral)))
     ∙ ap (λ o. option_by o text) (field_read (codes "retention=") word n k)
 
 only_format_read : (word : List ℕ) (f : ℕ) → Spells word f → (f ≡ 1) ⊎ (f ≡ 2) → options_of (codes "format=" ++ word) ≡ Some (formatted f)
 only_format_read word f k one =
     let text = codes "format=" ++ word in
-    ap (λ o. options_by o text) (parted_none text (spaceless_joined (codes "format=") word refl (numeral_spaceless word k.numeral)))
+    ap (λ o. options_by o text) (parted_none 32 text (lacks_joined 32 (codes "format=") word refl (numeral_lacks 32 word refl k.numeral)))
     ∙ ap (λ o. then_some o (λ format. Some (formatted format))) (format_read word f k one)
 
 both_read : (kept word : List ℕ) (n f : ℕ) → Spells kept n → Spells word f → (f ≡ 1) ⊎ (f ≡ 2) → options_of (codes "retention=" ++ (kept ++ 32 ∷ (codes "format=" ++ word))) ≡ Some (retained n f)
 both_read kept word n f k l one =
     let rest = codes "format=" ++ word in
     let text = codes "retention=" ++ (kept ++ 32 ∷ rest) in
-    ap (λ o. options_by o text) (parted_read (codes "retention=" ++ kept) rest (spaceless_joined (codes "retention=") kept refl (numeral_spaceless kept k.numeral)))
+    ap (λ o. options_by o text) (parted_read 32 (codes "retention=" ++ kept) rest (lacks_joined 32 (codes "retention=") kept refl (numeral_lacks 32 kept refl k.numeral)))
     ∙ ap (λ o. then_some o (λ n. then_some (format_of rest) (λ format. Some (retained n format)))) (field_read (codes "retention=") kept n k)
     ∙ ap (λ o. then_some o (λ format. Some (retained n format))) (format_read word f l one)
 
@@ -309,7 +133,7 @@ end_said text (Some parts) end is e =
       grace = digits;
       retention = more.retention;
       format = more.format;
-      whole = parted_said text parts is ∙ ap (λ xs. xs ++ 32 ∷ parts.1) whole ∙ ap (λ xs. codes "grace=" ++ (digits ++ xs)) more.whole;
+      whole = parted_said 32 text parts is ∙ ap (λ xs. xs ++ 32 ∷ parts.1) whole ∙ ap (λ xs. codes "grace=" ++ (digits ++ xs)) more.whole;
       says_grace = says;
       says_retention = more.says_retention;
       says_format = more.says_format;
@@ -319,13 +143,13 @@ end_said text (Some parts) end is e =
 grace_read : (word : List ℕ) (n : ℕ) → Spells word n → end_of (codes "grace=" ++ word) ≡ Some (ended n no_options)
 grace_read word n k =
     let text = codes "grace=" ++ word in
-    ap (λ o. end_by o text) (parted_none text (spaceless_joined (codes "grace=") word refl (numeral_spaceless word k.numeral)))
+    ap (λ o. end_by o text) (parted_none 32 text (lacks_joined 32 (codes "grace=") word refl (numeral_lacks 32 word refl k.numeral)))
     ∙ ap (λ o. then_some o (λ grace. Some (ended grace no_options))) (field_read (codes "grace=") word n k)
 
 more_read : (word rest : List ℕ) (n : ℕ) (options : Options) → Spells word n → options_of rest ≡ Some options → end_of (codes "grace=" ++ (word ++ 32 ∷ rest)) ≡ Some (ended n options)
 more_read word rest n options k e =
     let text = codes "grace=" ++ (word ++ 32 ∷ rest) in
-    ap (λ o. end_by o text) (parted_read (codes "grace=" ++ word) rest (spaceless_joined (codes "grace=") word refl (numeral_spaceless word k.numeral)))
+    ap (λ o. end_by o text) (parted_read 32 (codes "grace=" ++ word) rest (lacks_joined 32 (codes "grace=") word refl (numeral_lacks 32 word refl k.numeral)))
     ∙ ap (λ o. then_some o (λ grace. then_some (options_of rest) (λ options. Some (ended grace options)))) (field_read (codes "grace=") word n k)
     ∙ ap (λ o. then_some o (λ options. Some (ended n options))) e
 

@@ -5,3 +5,5 @@ pub mod Cuts
 mod Digits
 pub mod Headers
 pub mod JsonTexts
+pub mod PartsOfLines
+mod Readings

@@ -4,4 +4,5 @@ pub mod ClusterLine
 pub mod Fault
 pub mod Header
 pub mod Lines
+pub mod Reading
 pub mod Words

@@ -136,8 +136,8 @@ fn file_format(word: &[u8]) -> Option<u8>
     }
 }
 
-// The number of a text's first word `KEY=N`, and the words behind it.
-fn next_field<'a>(key: &[u8], text: &'a [u8]) -> Option<(u64, &'a [u8])>
+/// The number of a text's first word `KEY=N`, and the words behind it.
+pub fn next_field<'a>(key: &[u8], text: &'a [u8]) -> Option<(u64, &'a [u8])>
     ensures some { IfSome result (λ field. next_field key.now text.now ≡ Some (field.0, field.1.now)) }
     ensures none { IfNone result (next_field key.now text.now ≡ None) }
 {

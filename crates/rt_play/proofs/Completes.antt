@@ -8,7 +8,8 @@ use Rattle.rt_lines.specs.Lines.{script_lines}
 use Rattle.rt_lines.specs.declared.play_fault.PlayFault.{PlayFault}
 use Rattle.rt_lines.specs.declared.play_fault.PlayFault.TheVariants.{Usage, Refused, ReadFault, WriteFault, Memory, Limit}
 use Rattle.rt_play.specs.declared.play_end.PlayEnd.{PlayEnd}
-use Rattle.rt_play.specs.Plays.{Reads, TakesSome, IsTooLong, PlaysInput, RunsOut, TellsAll, TellsInput, Meets, IsAnswer, answer_by, input_limit}
+use Rattle.rt_lines.specs.Reading.{ReadsInput, TakesSome, input_limit}
+use Rattle.rt_play.specs.Plays.{IsTooLong, PlaysInput, RunsOut, TellsAll, TellsInput, Meets, IsAnswer, answer_by}
 use Rattle.rt_play.specs.Report.{IsReport}
 use Rattle.rt_play.proofs.Beginnings.{nothing_behind}
 use Rattle.rt_play.proofs.InputLimits.{report_never}
@@ -26,16 +27,16 @@ all_read None input told e end = cc
 all_read (Some rest) input told e end = let same : told ≡ input ++ rest = cc in sym (same ∙ ap (λ r. input ++ r) end ∙ append-nil input)
 
 -- the whole input was read
-told_input : (from to : SourceMeaning) (input told : List ℕ) → from.left ≡ Some told → Reads from to input → input ≡ told
+told_input : (from to : SourceMeaning) (input told : List ℕ) → from.left ≡ Some told → ReadsInput from to input → input ≡ told
 told_input from to input told is reads = all_read to.left input told (sym is ∙ reads.taken.left) reads.ended
 
-stop_answers : (fault : PlayFault) (from to : SourceMeaning) (old new : SinkMeaning) (input told : List ℕ) → from.left ≡ Some told → Reads from to input
+stop_answers : (fault : PlayFault) (from to : SourceMeaning) (old new : SinkMeaning) (input told : List ℕ) → from.left ≡ Some told → ReadsInput from to input
     → TellsAll (IsReport input) old new (Some fault) → IsAnswer told (Err fault)
 stop_answers fault from to old new input told is reads all =
     subst (λ bytes. IsAnswer bytes (Err fault)) (told_input from to input told is reads)
     (record { within = reads.within; report = all.report; is = all.is; same = sym (ap (answer_by all.report) all.stop) })
 
-end_answers : (end : PlayEnd) (from to : SourceMeaning) (old new : SinkMeaning) (input told : List ℕ) → from.left ≡ Some told → Reads from to input
+end_answers : (end : PlayEnd) (from to : SourceMeaning) (old new : SinkMeaning) (input told : List ℕ) → from.left ≡ Some told → ReadsInput from to input
     → (all : TellsAll (IsReport input) old new None) → end.lines ≡ length all.report.texts → IsAnswer told (Ok end)
 end_answers end from to old new input told is reads all count =
     subst (λ bytes. IsAnswer bytes (Ok end)) (told_input from to input told is reads)
@@ -73,7 +74,7 @@ pub long_alone : (result : Result PlayEnd PlayFault) (from to : SourceMeaning) (
 long_alone result from to old new plays is = subst (PlaysInput from to old new) is plays
 
 -- the report of the whole input was written
-pub plays_all : (result : Result PlayEnd PlayFault) (from to : SourceMeaning) (old new : SinkMeaning) (input : List ℕ) → Reads from to input → TellsInput input old new result → PlaysInput from to old new result
+pub plays_all : (result : Result PlayEnd PlayFault) (from to : SourceMeaning) (old new : SinkMeaning) (input : List ℕ) → ReadsInput from to input → TellsInput input old new result → PlaysInput from to old new result
 plays_all (Ok end) from to old new input reads tells = record { input = input; reads = reads; tells = tells }
 plays_all (Err Usage) from to old new input reads tells = absurd tells
 plays_all (Err ReadFault) from to old new input reads tells = absurd tells

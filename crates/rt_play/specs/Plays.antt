@@ -1,10 +1,9 @@
 -- What a run does to its source and its sink, and what it answers.
-use Rattle.std.specs.Prelude.{◌≡◌, ℕ, ◌+◌, ◌<◌, ◌≤◌, List, ◌++◌, length, false, Option, None, Some, Result, Ok, Err}
+use Rattle.std.specs.Prelude.{◌≡◌, ℕ, ◌<◌, ◌≤◌, List, ◌++◌, length, false, Option, None, Some, Result, Ok, Err}
 use Rattle.std.specs.List.{concat}
-use Rattle.rt_base.specs.declared.limits.TheConstants.{MOST_INPUT}
 use Rattle.rt_base.specs.declared.which.Which.TheVariants.{Input, Partitions, Servers, Controllers, Replication, Message, Events, Sent, Queries, Stored, Moment, Rows}
 use Rattle.rt_base.specs.Sink.{SinkMeaning, added}
-use Rattle.rt_base.specs.Source.{SourceMeaning, Rises, IsEnd, put_back}
+use Rattle.rt_base.specs.Source.{SourceMeaning, Rises}
 use Rattle.rt_lines.specs.declared.play_fault.PlayFault.{PlayFault}
 use Rattle.rt_lines.specs.declared.play_fault.PlayFault.TheVariants.{Usage, Refused, ReadFault, WriteFault, Memory, Limit}
 use Rattle.rt_play.specs.declared.play_end.PlayEnd.{PlayEnd}
@@ -12,28 +11,11 @@ use Rattle.rt_base.specs.declared.failed.Failed.{Failed}
 use Rattle.rt_desk.specs.declared.desk.Desk.{Desk}
 use Rattle.rt_world.specs.Kept.{Kept}
 use Rattle.rt_lines.specs.Header.{NumberedLine}
+use Rattle.rt_lines.specs.Reading.{ReadsInput, Takes, input_limit}
 use Rattle.rt_play.specs.Going.{Going}
-use Rattle.rt_play.specs.declared.reading.ReadStop.{ReadStop}
-use Rattle.rt_play.specs.declared.reading.ReadStop.TheVariants as stop
 use Rattle.rt_play.specs.Report.{FrontRuns, IsFrontOfReport, IsReport, IsReportFrom, Report, Runs, Stops}
 use Rattle.rt_script.specs.Line.{line_in}
 use Rattle.rt_script.specs.declared.line.Line.{Line}
-
--- the most bytes of a script
-abbrev pub input_limit : ℕ
-input_limit = MOST_INPUT
-
--- this was read, and nothing more
-pub record Takes (old new : SourceMeaning) (input : List ℕ) : Type 0 where
-  pub left : old.left ≡ put_back input new.left
-  pub few : length input ≤ input_limit + 1
-  pub counts : old.faults ≤ new.faults
-
--- the source was read to its end, and this is what it gave
-pub record Reads (old new : SourceMeaning) (input : List ℕ) : Type 0 where
-  pub taken : Takes old new input
-  pub ended : IsEnd new.left
-  pub within : length input ≤ input_limit
 
 -- this was written, and nothing else
 pub record Puts (old new : SinkMeaning) (text : List ℕ) : Type 0 where
@@ -86,7 +68,7 @@ TellsFrom lines g old new result = Tells (IsReportFrom lines g) (FrontRuns lines
 -- the input was read to its end, and its report written
 pub record PlaysAllBy (All : List ℕ → Report → Type 0) (Front : List ℕ → List (List ℕ) → Type 0) (from to : SourceMeaning) (old new : SinkMeaning) (result : Result PlayEnd PlayFault) : Type 0 where
   pub input : List ℕ
-  pub reads : Reads from to input
+  pub reads : ReadsInput from to input
   pub tells : Tells (All input) (Front input) old new result
 
 abbrev pub PlaysAll : SourceMeaning → SourceMeaning → SinkMeaning → SinkMeaning → Result PlayEnd PlayFault → Type 0
@@ -111,7 +93,7 @@ pub record RunsOutBy (Front : List ℕ → List (List ℕ) → Type 0) (from to 
   pub input : List ℕ
   pub taken : Takes from to input
   pub lines : TellsFront (Front input) old new
-  pub ended : 0 < length lines.texts → Reads from to input
+  pub ended : 0 < length lines.texts → ReadsInput from to input
 
 abbrev pub RunsOut : SourceMeaning → SourceMeaning → SinkMeaning → SinkMeaning → Type 0
 RunsOut from to old new = RunsOutBy IsFrontOfReport from to old new
@@ -178,17 +160,6 @@ Meets input (Err (Limit Rows)) = IsAnswer input (Err (Limit Rows))
 abbrev pub WritesAll : SinkMeaning → SinkMeaning → List ℕ → Result Unit Failed → Type 0
 WritesAll old new piece (Ok done) = Puts old new piece
 WritesAll old new piece (Err failed) = FailsWithin piece old new
-
--- an input was read to its end, or some of it
-pub record TakesSome (from to : SourceMeaning) : Type 0 where
-  pub input : List ℕ
-  pub taken : Takes from to input
-
-abbrev pub ReadsAll : SourceMeaning → SourceMeaning → Result (List ℕ) ReadStop → Type 0
-ReadsAll from to (Ok input) = Reads from to input
-ReadsAll from to (Err stop.Failed) = TakesSome from to × Rises from.faults to.faults
-ReadsAll from to (Err stop.TooLong) = (some : TakesSome from to) × (input_limit < length some.input)
-ReadsAll from to (Err stop.Memory) = TakesSome from to
 
 -- a world that isn't spent, and the desk beside it
 abbrev pub going : Kept → Desk → Going

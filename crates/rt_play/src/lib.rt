@@ -12,7 +12,6 @@ mod laws;
 mod one_report;
 mod play_end;
 mod player;
-mod reading;
 mod running;
 mod words;
 mod writing;

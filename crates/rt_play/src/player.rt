@@ -9,11 +9,10 @@ ghost use Rattle.rt_play.specs.declared.words.Asked.TheVariants as Asked;
 
 use crate::PlayEnd;
 use crate::generating::generate;
-use crate::reading::{ReadStop, read_all};
 use crate::running::play_input;
 use crate::words::{Asked, read_words};
 use rt_base::{Sink, Source, Which};
-use rt_lines::PlayFault;
+use rt_lines::{PlayFault, ReadStop, read_all};
 use std::alloc::Global;
 
 /// Runs the script that a source gives, and writes its report to a sink; by the words `gen SEED PARTITIONS ROWS` a

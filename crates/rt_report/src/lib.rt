@@ -31,3 +31,4 @@ pub use pending_texts::write_pending;
 pub use rehearsal_texts::{
     write_at, write_nopeer, write_noplan, write_peer, write_plan, write_rehearsed,
 };
+pub use shown_texts::write_stored;

@@ -29,8 +29,8 @@ pub(crate) fn write_shown(
     }
 }
 
-// A node as it is stored.
-fn write_stored(alloc: Global, out: &mut String, node: &Node) -> Result<(), AllocError>
+/// Adds a node as it is stored.
+pub fn write_stored(alloc: Global, out: &mut String, node: &Node) -> Result<(), AllocError>
     ensures { OnOk result (string_bytes out.new ≡ string_bytes out.old ++ stored_text node.now) }
 {
     match node {

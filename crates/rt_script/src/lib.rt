@@ -20,4 +20,4 @@ mod words;
 
 pub use further::Further;
 pub use line::{Line, Macro, read_line};
-pub use query_text::QueryText;
+pub use query_text::{QueryText, read_query};

@@ -10,7 +10,7 @@ use crate::macro_lines::{exchange, fill, settle};
 use crate::message_lines::{deliver, job_line, reply};
 use crate::node_lines::{crash, repair, restart, retain, see};
 use crate::outside_lines::{fault, lead, produce, show, tick};
-use crate::query_text::query_text;
+use crate::query_text::read_query;
 use crate::replica_lines::{build, consume, download, extend, force, report, stop, transit};
 use crate::{Further, QueryText};
 use rt_base::{ControllerId, Instance, Partition, Sequence};
@@ -123,7 +123,7 @@ fn ask(
     ensures line { IfOk result (λ line. line ≡ option_map ask_line (text_of schema.now table.now text.now)) }
     ensures fits { IfOk result (λ line. IfSome line (FitsLine schema.now)) }
 {
-    match query_text(alloc, schema, table, text)? {
+    match read_query(alloc, schema, table, text)? {
         Some(QueryText::Query(query)) => Ok(Some(Line::Event(Event::Ask { query }))),
         Some(QueryText::Refused(number)) => Ok(Some(Line::NoQuery(number))),
         None => Ok(None),
@@ -141,7 +141,7 @@ fn query(
     ensures line { IfOk result (λ line. line ≡ option_map query_line (text_of schema.now table.now text.now)) }
     ensures fits { IfOk result (λ line. IfSome line (FitsLine schema.now)) }
 {
-    match query_text(alloc, schema, table, text)? {
+    match read_query(alloc, schema, table, text)? {
         Some(QueryText::Query(query)) => Ok(Some(Line::Macro(Macro::Query { query }))),
         Some(QueryText::Refused(number)) => Ok(Some(Line::NoQuery(number))),
         None => Ok(None),
@@ -159,7 +159,7 @@ fn latest(
     ensures line { IfOk result (λ line. line ≡ option_map latest_line (text_of schema.now table.now text.now)) }
     ensures fits { IfOk result (λ line. IfSome line (FitsLine schema.now)) }
 {
-    match query_text(alloc, schema, table, text)? {
+    match read_query(alloc, schema, table, text)? {
         Some(asked) => Ok(Some(Line::Further(Further::Latest { asked }))),
         None => Ok(None),
     }
@@ -176,7 +176,7 @@ fn hybrid(
     ensures line { IfOk result (λ line. line ≡ option_map hybrid_line (text_of schema.now table.now text.now)) }
     ensures fits { IfOk result (λ line. IfSome line (FitsLine schema.now)) }
 {
-    match query_text(alloc, schema, table, text)? {
+    match read_query(alloc, schema, table, text)? {
         Some(asked) => Ok(Some(Line::Further(Further::Hybrid { asked }))),
         None => Ok(None),
     }

@@ -20,7 +20,7 @@ pub enum QueryText {
 
 /// What a text is among the queries of a table, or none where it isn't UTF-8.
 #[tactic(auto, using(crate::proofs::Queries::text_asked, crate::proofs::Queries::bytes_refused))]
-pub(crate) fn query_text(
+pub fn read_query(
     alloc: Global,
     schema: &Schema,
     table: &Text,

@@ -1,6 +1,6 @@
 use Rattle.std.proofs.Common.{◌≡◌, ◌-◌, ◌≤◌, length}
 use Rattle.rt_base.specs.Source.{put_back}
-use Rattle.rt_play.proofs.reading.read_all.Given as goal
+use Rattle.rt_lines.proofs.reading.read_all.Given as goal
 
 abbrev pub invariant-pieces : goal.invariant-pieces
 invariant-pieces g l =

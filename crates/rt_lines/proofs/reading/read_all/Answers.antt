@@ -1,7 +1,7 @@
 use Rattle.std.proofs.Common.{◌++◌, take, arith}
 use Rattle.std.proofs.lemmas.List.{length-take}
-use Rattle.rt_play.proofs.Writes.{takes_more}
-use Rattle.rt_play.proofs.reading.read_all.Goals as goal
+use Rattle.rt_lines.proofs.Readings.{takes_more}
+use Rattle.rt_lines.proofs.reading.read_all.Goals as goal
 
 pub returns-then-len-gt-MOST_INPUT : goal.returns-then-len-gt-MOST_INPUT
 returns-then-len-gt-MOST_INPUT g c =

@@ -1,4 +1,4 @@
-ghost use Rattle.rt_play.specs.Plays.{ReadsAll};
+ghost use Rattle.rt_lines.specs.Reading.{ReadsAll};
 
 use rt_base::Source;
 use rt_base::limits::MOST_INPUT;
@@ -10,14 +10,17 @@ const PIECE: usize = 8_192;
 
 /// Why an input was not read to its end.
 #[derive(Clone, Copy)]
-pub(crate) enum ReadStop {
+pub enum ReadStop {
+    /// The source failed; its count of faults rose.
     Failed,
+    /// The source gives more bytes than an input may have.
     TooLong,
+    /// Memory ran out.
     Memory,
 }
 
-/// The whole input of a source. At most one byte beyond the limit is read.
-pub(crate) fn read_all<S: Source>(alloc: Global, source: &mut S) -> Result<Bytes, ReadStop>
+/// The whole input of a source, up to its end. At most one byte beyond the limit of an input is read.
+pub fn read_all<S: Source>(alloc: Global, source: &mut S) -> Result<Bytes, ReadStop>
     ensures { ReadsAll (S.meaning source.old) (S.meaning source.new) result }
 {
     let mut input = Bytes::new(alloc);

@@ -1,0 +1,4 @@
+pub mod Chaoses
+pub mod Entered
+pub mod Gathered
+pub mod Inputs

@@ -1,0 +1,5 @@
+pub mod ChaosWords
+pub mod Entries
+pub mod Gathering
+pub mod Input
+pub mod Lines
