@@ -1,12 +1,12 @@
-"""Runs lines of calls, as docs/rules/calls.md has them, on the built rt_calls."""
+"""Runs lines of calls, as docs/rules/calls.md has them, on the built rt_calls, proved or not."""
+import functools
 import os
-import pathlib
 import subprocess
 import sys
 import tempfile
 
-ROOT = pathlib.Path(__file__).resolve().parent.parent.parent
-PROGRAM = ROOT / "crates" / "rt_calls" / "out" / "rt_calls"
+import programs
+
 # How many differences are printed.
 SHOWN = 20
 
@@ -16,11 +16,15 @@ def as_hex(text):
     return (text.encode() if isinstance(text, str) else text).hex() or "-"
 
 
+@functools.cache
+def program():
+    """The built rt_calls; ends the tool where there is none."""
+    return programs.needed("rt_calls")
+
+
 def run(lines):
     """The program's output; ends the script where it does not end well."""
-    if not PROGRAM.exists():
-        sys.exit("build the program first: (cd crates/rt_calls && rt run < /dev/null)")
-    ran = subprocess.run([PROGRAM], input="".join(f"{line}\n" for line in lines).encode(), stdout=subprocess.PIPE, check=False)
+    ran = subprocess.run([program()], input="".join(f"{line}\n" for line in lines).encode(), stdout=subprocess.PIPE, check=False)
     if ran.returncode != 0:
         sys.exit(f"rt_calls ended with status {ran.returncode}")
     return ran.stdout
@@ -36,7 +40,7 @@ def seconds(lines):
     with tempfile.TemporaryFile() as file:
         file.write("".join(f"{line}\n" for line in lines).encode())
         file.seek(0)
-        ran = subprocess.Popen([PROGRAM], stdin=file, stdout=subprocess.DEVNULL)
+        ran = subprocess.Popen([program()], stdin=file, stdout=subprocess.DEVNULL)
         _, status, used = os.wait4(ran.pid, 0)
         ran.returncode = os.waitstatus_to_exitcode(status)
     if ran.returncode != 0:

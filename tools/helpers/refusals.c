@@ -1,5 +1,7 @@
 // Stands before a program's own calls of the C library, and refuses one of them: the allocation, the read of standard input or
-// the write to standard output whose number, from 1, stands in REFUSED_ALLOCATION, REFUSED_READ or REFUSED_WRITE.
+// the write to standard output whose number, from 1, stands in REFUSED_ALLOCATION, REFUSED_READ or REFUSED_WRITE. The write
+// whose number stands in EMPTY_WRITE takes nothing. Where FROM_THEN_ON stands, each later call of that kind is refused too. No
+// read gives and no write takes more bytes than SHORT_READS and SHORT_WRITES say.
 #define _GNU_SOURCE
 #include <dlfcn.h>
 #include <errno.h>
@@ -7,8 +9,8 @@
 #include <stdlib.h>
 #include <sys/types.h>
 
-static long numbers[3];
-static long left[3];
+static long numbers[4];
+static long left[4];
 
 static int refuses(int kind, const char *name)
 {
@@ -17,7 +19,18 @@ static int refuses(int kind, const char *name)
         left[kind] = text ? atol(text) : -1;
         numbers[kind] = 1;
     }
-    return left[kind] > 0 && --left[kind] == 0;
+    if (left[kind] <= 0 || --left[kind] > 0)
+        return 0;
+    if (getenv("FROM_THEN_ON"))
+        left[kind] = 1;
+    return 1;
+}
+
+static size_t at_most(size_t size, const char *name)
+{
+    const char *text = getenv(name);
+    size_t most = text ? strtoul(text, NULL, 10) : 0;
+    return most && most < size ? most : size;
 }
 
 static int refuses_allocation(void)
@@ -77,7 +90,7 @@ ssize_t read(int file, void *into, size_t size)
         errno = EIO;
         return -1;
     }
-    return own(file, into, size);
+    return own(file, into, file == 0 ? at_most(size, "SHORT_READS") : size);
 }
 
 ssize_t write(int file, const void *from, size_t size)
@@ -89,5 +102,7 @@ ssize_t write(int file, const void *from, size_t size)
         errno = EIO;
         return -1;
     }
-    return own(file, from, size);
+    if (file == 1 && refuses(3, "EMPTY_WRITE"))
+        return 0;
+    return own(file, from, file == 1 ? at_most(size, "SHORT_WRITES") : size);
 }

@@ -193,8 +193,9 @@ def read_header(cursor):
     return MAGICS[magic], [partition, sequence, start, end], rows
 
 
-def read(data):
-    cursor = Cursor(data)
+def read(data, cursor=None):
+    """What a file says; a cursor over it may be given, which sees what is read."""
+    cursor = cursor or Cursor(data)
     version, numbers, rows = read_header(cursor)
     place = cursor.at
     count = cursor.number(2)

@@ -5,7 +5,10 @@ import subprocess
 import sys
 import tempfile
 
-ROOT = os.path.dirname(os.path.dirname(os.path.dirname(os.path.abspath(__file__))))
+import usage
+
+ROOT = str(usage.HOME)
+RT = os.path.join(ROOT, "tools", "rt")
 
 
 def make(folder, program, libraries, kit_libraries=(), modules=None):
@@ -35,15 +38,25 @@ def make(folder, program, libraries, kit_libraries=(), modules=None):
 
 def built(folder, program, libraries, kit_libraries=()):
     """The path of such a program, once it is proved and built."""
+    usage.kit()
     home = make(folder, program, libraries, kit_libraries)
-    subprocess.run(["rt", "run"], cwd=home, stdin=subprocess.DEVNULL, stdout=subprocess.DEVNULL, check=True)
+    tell(libraries)
+    if subprocess.run([RT, "run"], cwd=home, stdin=subprocess.DEVNULL, stdout=subprocess.DEVNULL, check=False).returncode != 0:
+        usage.fail("the program that is timed wasn't built")
     return os.path.join(home, "out", "timed")
 
 
-def run(usage, program, libraries, kit_libraries=(), command="run", modules=None):
-    """Ends with the status of `rt COMMAND` on such a program. A script that takes no words shows its usage where there are some."""
-    if len(sys.argv) != 1:
-        sys.exit(usage)
+def tell(libraries):
+    """Says what is built, since it takes a while."""
+    below = f" and the {len(libraries)} crates below it" if libraries else ""
+    print(f"proving and building a program in a temporary folder{below} ..", file=sys.stderr)
+
+
+def run(text, program, libraries, kit_libraries=(), modules=None):
+    """The status of a run of such a program, of a tool that takes no words and has this doc string."""
+    usage.no_words(text)
+    usage.kit()
     with tempfile.TemporaryDirectory() as folder:
         home = make(folder, program, libraries, kit_libraries, modules)
-        sys.exit(subprocess.run(["rt", command], cwd=home).returncode)
+        tell(libraries)
+        return subprocess.run([RT, "run"], cwd=home, check=False).returncode

@@ -22,6 +22,10 @@ class Job:
     def success(self):
         return "COMMIT_SUCCESS" if self.commit else "PROCESSED"
 
+    def sets(self, world):
+        """How many entries the next step would set."""
+        return self.stepped(world, self.seen[1]).count() if self.step == "idealSet" else 0
+
     def works(self, world):
         """What the step came to, and the reply where it ended the job."""
         before = self.step

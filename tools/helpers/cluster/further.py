@@ -39,6 +39,7 @@ class Further(macros.Macros):
 
     def on_latest(self, rest):
         self.needs(lambda: True, lambda: True, lambda: True, lambda: self.config is not None)
+        self.spend()
         number = answers.number_of(rest, self.setup)
         if number is not None:
             return f"noquery {number}"
@@ -65,6 +66,7 @@ class Further(macros.Macros):
         return [row for place, row in enumerate(listed) if place in kept]
 
     def on_offline(self, rest):
+        self.spend()
         time = self.time_column()
         if time is None:
             return "nooffline 1"
@@ -86,6 +88,7 @@ class Further(macros.Macros):
         return listed
 
     def on_hybrid(self, rest):
+        self.spend()
         time = self.time_column()
         if time is None:
             return "nooffline 1"
@@ -112,6 +115,7 @@ class Further(macros.Macros):
         for server in self.servers:
             for segment in server.held():
                 if server.replica(segment).force_due():
+                    self.spend()
                     server.replica(segment).force()
                     found.append(segment)
         return found
@@ -121,6 +125,7 @@ class Further(macros.Macros):
         return f"paused {len(self.forces())}"
 
     def on_resume(self, rest):
+        self.spend()
         self.paused = False
         return "resumed"
 
@@ -130,6 +135,7 @@ class Further(macros.Macros):
 
     def on_forceStatus(self, rest):
         self.needs(lambda: True, lambda: int(rest[1:]) < len(self.forced))
+        self.spend()
         pending = [segment for segment in self.forced[int(rest[1:])] if self.is_in_progress(segment)]
         return f"force {rest} pending={json.dumps(pending, separators=(',', ':'))}"
 
@@ -150,6 +156,7 @@ class Further(macros.Macros):
         server, segment = self.server_at(at), self.segment_at(where)
         self.needs(lambda: server is not None and segment is not None, lambda: True, lambda: server.up,
                    lambda: self.meta(segment) is not None and self.meta(segment).status == storage.DONE)
+        self.spend()
         for other in self.servers:
             if other is not server and other.up and servers.has_file(other.table.get(segment)):
                 return f"peer {rest} from s{other.number} rows={self.meta(segment).rows}"
@@ -162,6 +169,7 @@ class Further(macros.Macros):
     def rehearses_plan(self, rest):
         count, keep = (int(part.split("=")[1]) for part in rest.split(" "))
         self.needs(lambda: True, lambda: True, lambda: True, lambda: self.setup.replication <= count <= MOST_SERVERS)
+        self.spend()
         states = rehearsals.plan(self.setup, self.ideal().entries, count, keep)
         if isinstance(states, int):
             return f"noplan {states}"
@@ -173,9 +181,11 @@ class Further(macros.Macros):
         segment = self.segment_at(where)
         self.needs(lambda: segment is not None, lambda: True, lambda: True, lambda: self.rehearsal is not None)
         self.needs(lambda: int(at[1:]) < self.rehearsal.servers)
+        self.spend()
         return "rehearsed" if self.rehearsal.loads(segment, int(at[1:])) else "notplanned"
 
     def rehearses_step(self):
         self.needs(lambda: True, lambda: True, lambda: True, lambda: self.rehearsal is not None)
+        self.spend()
         refusal = self.rehearsal.step()
         return f"noplan {refusal}" if refusal else f"at {self.rehearsal.at}/{len(self.rehearsal.states) - 1}"

@@ -1,5 +1,6 @@
 """The lines that are single events: what each needs, does and reports."""
 import answers
+import limits
 import repairs
 import servers
 import storage
@@ -9,7 +10,7 @@ class Refused(Exception):
     """Why a line is refused."""
 
 
-class Lines:
+class Lines(limits.Limits):
     """Of a world: a method for each first word of a line. What follows the word is its argument."""
 
     def needs(self, *conditions):
@@ -40,10 +41,12 @@ class Lines:
     def on_produce(self, rest):
         partition, _, text = rest.partition(" ")
         self.needs(lambda: int(partition) < self.setup.partitions)
+        self.spend(message=limits.size_of(text))
         self.log[int(partition)].append(text)
         return f"produced {partition}@{len(self.log[int(partition)]) - 1}"
 
     def on_tick(self, rest):
+        self.spend(moment=self.now + int(rest))
         self.now += int(rest)
         return f"now {self.now}"
 
@@ -51,12 +54,14 @@ class Lines:
         at, belief = rest.split(" ")
         controller = self.controller_at(at)
         self.needs(lambda: controller is not None, lambda: True, lambda: controller.up)
+        self.spend()
         controller.believe(belief == "on")
         return f"lead {rest}"
 
     def on_consume(self, rest):
         at, where, most = rest.split(" ")
         _, replica = self.replica_at(at, where, lambda replica: replica.consume_due() and 1 <= int(most) < 2**32)
+        self.spend()
         before = replica.state
         replica.consume(most, self.now)
         by = f" by {replica.reason}" if before == "INITIAL_CONSUMING" and replica.state == "HOLDING" else ""
@@ -65,17 +70,20 @@ class Lines:
 
     def on_force(self, rest):
         _, replica = self.replica_at(*rest.split(" "), servers.Replica.force_due)
+        self.spend()
         replica.force()
         return f"forced {rest} {replica.state}"
 
     def on_stop(self, rest):
         _, replica = self.replica_at(*rest.split(" "), lambda replica: replica.state in servers.STOPPABLE)
+        self.spend()
         self.cells["stop", replica.state] += 1
         replica.stop()
         return f"stopped {rest} {replica.state}"
 
     def on_build(self, rest):
         _, replica = self.replica_at(*rest.split(" "), servers.Replica.build_due)
+        self.spend()
         self.cells["build", replica.state] += 1
         replica.build()
         return f"built {rest} rows={len(replica.rows)} {replica.state}"
@@ -100,20 +108,31 @@ class Lines:
         at, to = rest.split(" ")
         request, controller = self.message_at(at, True), self.controller_at(to)
         self.needs(lambda: controller is not None, lambda: request is not None, lambda: controller.up)
-        said = controller.handles(self, request)
+        said = self.delivers(controller, request)
         return f"job {to} j{said}" if isinstance(said, int) else f"reply m{self.answered(request, said)} {said}"
+
+    def delivers(self, controller, request):
+        """A reply's status, or the number of a job that a request starts."""
+        self.spend()
+        return controller.handles(self, request)
+
+    def works(self, controller, number):
+        """A step of a job: its name, its outcome and its reply, or none."""
+        self.spend(stored=controller.jobs[number].sets(self))
+        return controller.works(self, number)
 
     def on_job(self, rest):
         at, number = rest.split(" ")
         controller = self.controller_at(at)
         self.needs(lambda: controller is not None, lambda: int(number[1:]) in controller.jobs, lambda: controller.up)
         request = controller.jobs[int(number[1:])].request
-        step, outcome, status = controller.works(self, int(number[1:]))
+        step, outcome, status = self.works(controller, int(number[1:]))
         return f"step {at} {number} {step} {outcome}" + (f" reply m{self.answered(request, status)} {status}" if status else "")
 
     def on_reply(self, rest):
         reply = self.message_at(rest, False)
         self.needs(lambda: True, lambda: reply is not None, lambda: self.servers[reply.number[0]].up)
+        self.spend()
         state = self.takes(reply)
         return f"ignored {rest}" if state is None else f"took {rest} s{reply.number[0]} {reply.partition}/{reply.sequence} {state}"
 
@@ -123,12 +142,14 @@ class Lines:
     def on_crash(self, rest):
         node = self.node_at(rest)
         self.needs(lambda: node is not None, lambda: True, lambda: node.up)
+        self.spend()
         node.crash()
         return f"down {rest}"
 
     def on_restart(self, rest):
         node = self.node_at(rest)
         self.needs(lambda: node is not None, lambda: True, lambda: True, lambda: not node.up)
+        self.spend()
         if rest[0] == "c":
             node.up = True
             return f"up {rest}"
@@ -146,6 +167,7 @@ class Lines:
         at, where = rest.split(" ")
         server, segment = self.server_at(at), self.segment_at(where)
         self.needs(lambda: server is not None and segment is not None, lambda: True, lambda: server.up, lambda: getattr(server, due)(segment))
+        self.spend()
         return server, segment
 
     def failed(self, step, rest):
@@ -156,6 +178,7 @@ class Lines:
     def on_see(self, rest):
         server = self.server_at(rest)
         self.needs(lambda: server is not None, lambda: True, lambda: server.up)
+        self.spend()
         try:
             version, state = self.store.read(storage.IDEAL)
         except storage.Failed:
@@ -189,7 +212,9 @@ class Lines:
         begins = lambda: controller.leads and (kind is repairs.Repair or self.setup.retention is not None)
         self.needs(lambda: controller is not None and int(partition) < self.setup.partitions, lambda: True, lambda: controller.up,
                    lambda: key in self.walks or begins())
-        walk = self.walks.setdefault(key, kind(int(partition)))
+        walk = self.walks.get(key) or kind(int(partition))
+        self.spend(stored=walk.sets(self))
+        self.walks[key] = walk
         said = walk.step(self)
         if walk.ended:
             del self.walks[key]
@@ -203,11 +228,13 @@ class Lines:
 
     def on_fault(self, rest):
         which, how = rest.split(" ")
+        self.spend()
         (self.store if which == "store" else self.deep).planned.append(how == "kept")
         return f"fault {rest}"
 
     def on_ask(self, rest):
         number = answers.number_of(rest, self.setup)
+        self.spend(queries=number is None)
         if number is not None:
             return f"noquery {number}"
         self.queries.append(answers.Query(rest))
@@ -221,6 +248,7 @@ class Lines:
         at, partition = rest.split(" ")
         query = self.query_at(at)
         self.needs(lambda: int(partition) < self.setup.partitions, lambda: query is not None, lambda: True, lambda: int(partition) not in query.plans)
+        self.spend()
         try:
             query.plans[int(partition)] = answers.plan(self.store.list(int(partition)))
         except storage.Failed:
@@ -235,6 +263,7 @@ class Lines:
         query, segment, server = self.query_at(at), self.segment_at(where), self.server_at(to)
         self.needs(lambda: segment is not None and server is not None, lambda: query is not None, lambda: True,
                    lambda: query.due(self.setup, *segment, server.number))
+        self.spend()
         query.asked.setdefault(segment, []).append(server.number)
         if not server.up:
             self.cells["query", "piece of a server that is down", "nodedown"] += 1
@@ -251,6 +280,7 @@ class Lines:
     def on_answer(self, rest):
         query = self.query_at(rest)
         self.needs(lambda: True, lambda: query is not None, lambda: True, lambda: query.ended(self.setup))
+        self.spend()
         self.queries[int(rest[1:])] = None
         return f"answer {query.answer(self.setup, self.log)}"
 
@@ -261,6 +291,7 @@ class Lines:
             segment = self.segment_at(rest.split(" ")[1])
             self.needs(lambda: segment is not None)
             key = ("meta", *segment)
+        self.spend()
         seen = self.store.look(key)
         name = storage.key_text(key)
         return f"nonode {name}" if seen is None else f"node {name} {seen[0]} {seen[1].text()}"

@@ -1,4 +1,5 @@
 """The lines that stand for several events, and their rounds."""
+import limits
 import lines
 
 
@@ -6,8 +7,12 @@ class Macros(lines.Lines):
     def on_fill(self, rest):
         partition, count = map(int, rest.split(" "))
         self.needs(lambda: partition < self.setup.partitions, lambda: True, lambda: True, lambda: count >= 1)
-        for _ in range(count):
-            self.on_produce(f"{partition} {{\"k\":\"a\",\"v\":{len(self.log[partition])}}}")
+        room = min(count, limits.MOST_EVENTS - self.events)
+        start = len(self.log[partition])
+        self.log[partition] += [f'{{"k":"a","v":{offset}}}' for offset in range(start, start + room)]
+        self.events += room
+        if room < count:
+            raise limits.Passed("events")
         return f"filled {partition} {len(self.log[partition])}"
 
     def on_query(self, rest):
@@ -36,13 +41,14 @@ class Macros(lines.Lines):
     def exchanged(self, server, replica, controller):
         """The numbers of a request and of the reply that was taken."""
         sent, _ = self.sends(server, replica, "request")
-        said = controller.handles(self, self.messages[sent])
+        said = self.delivers(controller, self.messages[sent])
         if isinstance(said, int):
             status = None
             while status is None:
-                _, _, status = controller.works(self, said)
+                _, _, status = self.works(controller, said)
             said = status
         reply = self.answered(self.messages[sent], said)
+        self.spend()
         self.takes(self.messages[reply])
         return sent, reply
 

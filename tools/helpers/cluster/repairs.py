@@ -8,7 +8,7 @@ class Walk:
     """Three steps: the list, the ideal state, one write."""
 
     def __init__(self, partition):
-        self.partition, self.nodes, self.seen, self.ended = partition, None, None, False
+        self.partition, self.nodes, self.seen, self.ended, self.setting = partition, None, None, False, None
 
     def step(self, world):
         before = "list" if self.nodes is None else "idealRead" if self.seen is None else "write"
@@ -26,6 +26,13 @@ class Walk:
     def idealRead(self, world):
         self.seen = world.store.read(storage.IDEAL)
         return "idealRead", "idealRead"
+
+    def sets(self, world):
+        """How many entries the next step would set."""
+        self.setting = None
+        if self.nodes is not None and self.seen is not None:
+            self.decided(world)
+        return self.setting.count() if self.setting else 0
 
     def write(self, world):
         self.ended = True
@@ -84,6 +91,7 @@ class Repair(Walk):
             case, after = "AddToIdeal by consumers", state.add(self.partition, sequence, world.setup.replicas(self.partition))
         if after.same(state):
             return f"{case} that changes nothing", None
+        self.setting = after
         return case, lambda: f"ideal {self.set_ideal(world, after)}"
 
     def abandon(self, world, sequence, version, meta):
@@ -108,10 +116,11 @@ class Retirement(Walk):
             return f"Delete of a node that is {meta.status}", lambda: self.delete(world, sequence, version)
         if not state.modes((self.partition, sequence + 1)):
             return "the next segment has no entries", None
+        self.setting = state.without((self.partition, sequence))
         return f"Remove of a node that is {meta.status}", lambda: self.remove(world, sequence)
 
     def remove(self, world, sequence):
-        version = self.set_ideal(world, self.seen[1].without((self.partition, sequence)))
+        version = self.set_ideal(world, self.setting)
         return f"removed {self.partition}/{sequence} {version}"
 
     def delete(self, world, sequence, version):

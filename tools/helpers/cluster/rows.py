@@ -1,7 +1,12 @@
 """Columns of a schema's text, and the rows that messages have."""
 import json
+import re
 
 import random_queries
+
+# How deep arrays and objects may stand in each other in a text that serde_json reads.
+DEEPEST = 127
+TEXT = re.compile(r'"(?:[^"\\]|\\.)*"', re.DOTALL)
 
 
 class NoRow(Exception):
@@ -15,7 +20,8 @@ def columns_of(schema_text):
 
 def whole(text):
     """A whole number as it stands; one that is none here has another type."""
-    return float(text) if text == "-0" else int(text)
+    found = fraction(text)
+    return found if text == "-0" else int(text)
 
 
 def fraction(text):
@@ -29,8 +35,21 @@ def refused(text):
     raise NoRow
 
 
+def is_too_deep(message):
+    """Whether arrays and objects stand deeper in each other than serde_json reads."""
+    if message.count("[") + message.count("{") <= DEEPEST:
+        return False
+    depth = deepest = 0
+    for letter in TEXT.sub("", message):
+        depth += (letter in "[{") - (letter in "]}")
+        deepest = max(deepest, depth)
+    return deepest > DEEPEST
+
+
 def object_of(message):
     """The object that a message is, or none."""
+    if is_too_deep(message):
+        return None
     try:
         message.encode()
         value = json.loads(message, parse_int=whole, parse_float=fraction, parse_constant=refused)

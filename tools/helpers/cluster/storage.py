@@ -88,9 +88,12 @@ class Store(Faults):
 
     def __init__(self):
         super().__init__()
-        self.values, self.writes = {}, {}
+        # How many entries all ideal states have that were written.
+        self.values, self.writes, self.entries = {}, {}, 0
 
     def put(self, key, node):
+        if key == IDEAL:
+            self.entries += node.count()
         self.writes[key] = self.writes.get(key, 0) + 1
         self.values[key] = node
         return self.writes[key] - 1
@@ -195,6 +198,9 @@ class IdealState:
 
     def without(self, segment):
         return IdealState({at: modes for at, modes in self.entries.items() if at != segment})
+
+    def count(self):
+        return sum(len(modes) for modes in self.entries.values())
 
     def same(self, other):
         return self.entries == other.entries

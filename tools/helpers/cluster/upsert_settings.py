@@ -6,6 +6,11 @@ class Refused(Exception):
     """The number of the first refusal that applies."""
 
 
+WHY = {"1": "upsertConfig has to be an object", "2": "the mode has to be FULL or NONE",
+       "3": "the schema's primaryKeyColumns has to be an array of at least one text", "4": "there is at most one comparison column, a text",
+       "5": "each key and the comparison column has to be a column, and one has to be named", "6": "a comparison column is INT, LONG or TIMESTAMP"}
+
+
 def strings(value):
     return isinstance(value, list) and all(isinstance(each, str) for each in value)
 
@@ -25,7 +30,10 @@ def compare_of(config, segments):
 
 def read(setup):
     """The places of the keys and of the comparison column, or none without a config."""
-    schema, table = json.loads(setup.schema_text), json.loads(setup.table_text)
+    return read_texts(json.loads(setup.schema_text), json.loads(setup.table_text), setup.columns)
+
+
+def read_texts(schema, table, columns):
     config = table.get("upsertConfig")
     if config is None:
         return None
@@ -39,9 +47,9 @@ def read(setup):
     if not strings(keys) or not keys:
         raise Refused(3)
     compare = compare_of(config, table["segmentsConfig"])
-    places = {column.name: place for place, column in enumerate(setup.columns)}
+    places = {column.name: place for place, column in enumerate(columns)}
     if any(name not in places for name in [*keys, compare]):
         raise Refused(5)
-    if setup.columns[places[compare]].kind not in ("INT", "LONG", "TIMESTAMP"):
+    if columns[places[compare]].kind not in ("INT", "LONG", "TIMESTAMP"):
         raise Refused(6)
     return [places[name] for name in keys], places[compare]

@@ -1,75 +1,17 @@
 """A cluster that runs the lines of a script: `World.run` gives a line's report, or ends with its refusal."""
 import collections
 import dataclasses
-import json
-import re
 
 import completion
 import controllers
 import forms
 import further
+import header
+import limits
 import lines
 import replica_reader as reader
-import rows
 import servers
 import storage
-import upsert_settings
-
-MOST_ROWS = 1_000_000
-
-
-@dataclasses.dataclass
-class Setup:
-    servers: int
-    controllers: int
-    partitions: int
-    start: int
-    grace: int
-    retention: int | None
-    version: int
-    replication: int
-    rows: int
-    millis: int
-    indexed: list
-    name: str
-    schema_text: str
-    table_text: str
-
-    def __post_init__(self):
-        self.columns = rows.columns_of(self.schema_text)
-
-    def row_of(self, message):
-        return rows.row_of(self.columns, message)
-
-    def replicas(self, partition):
-        return [(partition * self.replication + k) % self.servers for k in range(self.replication)]
-
-
-def millis_of(text):
-    """A time of the settings: digits, or parts as 1h30m."""
-    if text.isdigit():
-        return int(text)
-    units = {"d": 86_400_000, "h": 3_600_000, "m": 60_000, "s": 1_000}
-    return sum(int(count) * units[unit] for count, unit in re.findall(r"(\d+)([dhms])", text))
-
-
-def setup_of(lines):
-    """The setup of three header lines that are taken."""
-    schema, table, cluster = (line.split(" ", 1)[1] for line in lines)
-    settings = json.loads(table)
-    numbers = dict(part.split("=") for part in cluster.split(" "))
-    index = settings.get("tableIndexConfig") or {}
-    stream = index.get("streamConfigs") or {}
-    segments = settings["segmentsConfig"]
-    replication = segments.get("replicasPerPartition")
-    limit = int(stream.get("realtime.segment.flush.threshold.rows") or 0)
-    millis = stream.get("realtime.segment.flush.threshold.time")
-    return Setup(*(int(numbers[name]) for name in ("servers", "controllers", "partitions", "start", "grace")),
-                 int(numbers["retention"]) if "retention" in numbers else None, int(numbers.get("format", 2)),
-                 int(segments.get("replication") if replication is None else replication), min(limit or MOST_ROWS, MOST_ROWS),
-                 21_600_000 if millis is None else millis_of(str(millis)), index.get("invertedIndexColumns") or [],
-                 settings["tableName"].removesuffix("_REALTIME"), schema, table)
-
 
 @dataclasses.dataclass
 class Request:
@@ -100,6 +42,7 @@ class World(further.Further):
         self.controllers = [controllers.Controller(number) for number in range(setup.controllers)]
         self.servers = [servers.Server(number) for number in range(setup.servers)]
         self.messages, self.queries, self.walks = [], [], {}
+        self.start_limits()
         self.start_further()
         for number in range(setup.servers):
             self.store.put(("boot", number), "-")
@@ -146,6 +89,7 @@ class World(further.Further):
 
     def sends(self, server, replica, kind, millis=0):
         """Draws a replica's request, and what is reported of it."""
+        self.spend(sent=len(replica.file()) if kind == "request" and replica.asked() == "upload" else 0)
         text = replica.extend(millis) if kind == "extend" else replica.request()
         word, offset, *more = text.split(" ")
         kinds = {"consumed": completion.CONSUMED, "commitStart": completion.COMMIT_START, "commitEnd": completion.COMMIT_END,
@@ -183,24 +127,25 @@ class World(further.Further):
         return replica.state
 
 
-def kept_lines(text):
-    """The lines that aren't skipped, with their numbers and without their endings."""
-    found = [(number, line.removesuffix("\r")) for number, line in enumerate(text.split("\n"), 1)]
-    return [(number, line) for number, line in found if line and not line.startswith("#")]
-
-
 def play(text):
-    """The report of a script whose header is taken, the world behind it, and the refusal that ended it, or none."""
-    kept = kept_lines(text)
+    """The report of a script, the world behind it, and what ended it, as standard error tells it, or none."""
     try:
-        world, report = World(setup_of([line for _, line in kept[:3]])), []
-    except upsert_settings.Refused as refused:
-        return [], None, f"line {kept[1][0]}: upsert {refused}"
-    for number, line in kept[3:]:
+        setup, kept = header.read(text)
+    except header.Stopped as stopped:
+        return [], None, str(stopped)
+    world, report = World(setup), []
+    for number, line in kept:
         try:
             if not forms.is_line(line):
                 raise lines.Refused("BadLine")
             report.append(world.run(line))
         except lines.Refused as refused:
             return report, world, f"line {number}: {refused}"
+        except limits.Passed as passed:
+            return report, world, f"limit: {passed}"
     return report, world, None
+
+
+def setup_of(three):
+    """The setup of three header lines that are taken."""
+    return header.read("\n".join(three))[0]

@@ -174,8 +174,13 @@ class Story:
         self.stands(server, segment, words[-1], at)
         spans = self.replicas[server, segment]
         if status == "COMMIT_SUCCESS":
-            self.commits(segment, spans[-1].cur, at)
+            self.commits(segment, self.reached_end(segment) if spans[-1].cur is None else spans[-1].cur, at)
         self.messages[int(words[0][1:])] = Message(status, at, server, None, segment, [(at, int(line[3][1:]))])
+
+    def reached_end(self, segment):
+        """How far any replica was told to have come: the end of a commit whose replica's offset wasn't told since."""
+        node = self.segments.get(segment)
+        return max((cur for _, cur in node.reached), default=node.start) if node else None
 
     def told_repair(self, at, line, words):
         controller, what = int(words[0][1:]), " ".join(words[2:])

@@ -1,0 +1,73 @@
+"""Standard input and output that fail at each call, or give and take little at a time, over stored scripts.
+
+A run whose input comes and whose output goes byte by byte must be the run itself. Where calls give and take at most PIECE bytes, so
+that there are several of each, every one of them fails in turn, alone and with all that follow: a read ends the run with status 4
+before anything is written, and a write with status 5 behind a front of the report. A write that takes nothing counts as one that fails.
+"""
+import itertools
+import tempfile
+
+import refusing
+import running
+import scripts
+
+MOST_LINES = 100
+PIECE = 256
+LITTLE = {"SHORT_READS": "1", "SHORT_WRITES": "1"}
+PIECES = {"SHORT_READS": str(PIECE), "SHORT_WRITES": str(PIECE)}
+KINDS = {"REFUSED_READ": (4, b"read failed\n"), "REFUSED_WRITE": (5, b"write failed\n"), "EMPTY_WRITE": (5, b"write failed\n")}
+HOW = {"alone": {}, "and all that follow": {"FROM_THEN_ON": "1"}}
+# Every fortieth script is tried in a quick run.
+QUICK = 40
+
+
+def names(given):
+    """The scripts of so few lines; a device in the place of a file is no script's."""
+    found = []
+    for name in scripts.names():
+        path = scripts.input_of(name)
+        if path.is_file() and path.read_bytes().count(b"\n") < MOST_LINES and not path.with_suffix(".args").exists():
+            found.append(name)
+    return found[::QUICK] if given.quick else found
+
+
+def wrong(kind, ended, whole, number, calls):
+    """What is wrong with a run whose call of this number fails, or none."""
+    if number > calls:
+        return None if ended == whole else f"nothing failed, but {ended.shown()}"
+    if (ended.status, ended.said) != KINDS[kind]:
+        return ended.shown()
+    if not whole.wrote.startswith(ended.wrote) or (kind == "REFUSED_READ" and ended.wrote):
+        return f"{len(ended.wrote)} bytes that are no front of the report"
+    return None
+
+
+def pieces(count):
+    return -(-count // PIECE)
+
+
+def calls_of(kind, script, report):
+    """How many calls there are: the reads up to the one that finds the end, or the writes."""
+    return pieces(len(script)) + 1 if kind == "REFUSED_READ" else pieces(len(report))
+
+
+def cases(program, library, script):
+    """What is wrong with each case of a script, or none."""
+    whole = running.run(program, script)
+    little = running.run(program, script, LD_PRELOAD=library, **LITTLE)
+    yield "byte by byte", None if little == whole else little.shown()
+    for kind in KINDS:
+        calls = calls_of(kind, script, whole.wrote)
+        for number, (how, more) in itertools.product(range(1, calls + 2), HOW.items()):
+            ended = running.run(program, script, LD_PRELOAD=library, **PIECES, **more, **{kind: str(number)})
+            yield f"{kind} {number} {how}", wrong(kind, ended, whole, number, calls)
+
+
+def run(given):
+    count, listed = running.Count("streams"), names(given)
+    with tempfile.TemporaryDirectory() as folder:
+        library = refusing.compiled(folder)
+        for name in listed:
+            for case, found in cases(given.program, library, scripts.input_of(name).read_bytes()):
+                count.case(f"{name}, {case}", found)
+    return count.tell(f", {len(listed)} scripts")
