@@ -1,0 +1,4 @@
+pub mod Posting
+pub mod Replaying
+pub mod Showing
+pub mod Viewing

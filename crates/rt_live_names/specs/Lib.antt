@@ -1,0 +1,5 @@
+pub mod Names
+pub mod Replays
+pub mod Sending
+pub mod Showed
+pub mod Views
