@@ -71,5 +71,5 @@ def needed(name, given=None):
         return given
     built = found(name)
     if built is None:
-        usage.fail(f"{name}, {why_none(name)}, is needed: `tools/build {name}` builds it unproved in two minutes, and in crates/{name} `../../tools/rt run` proves it")
+        usage.fail(f"{name}, {why_none(name)}, is needed: `tools/build {name}` builds it unproved in about five minutes, and in crates/{name} `../../tools/rt run` proves it")
     return built.path
