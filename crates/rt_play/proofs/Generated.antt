@@ -13,7 +13,7 @@ use Rattle.rt_macros.specs.Doing.{Does}
 use Rattle.rt_model.specs.declared.setup.Setup.{Setup}
 use Rattle.rt_play.proofs.Tellings.{nothing_put, put_in_part}
 use Rattle.rt_play.specs.Generating.{IsGenerated, IsGeneratedBy, RunsGenerated, TellsGenerated, end_texts, generated_setup, report_by, report_texts, setup_read}
-use Rattle.rt_play.specs.Plays.{FailsWithin, Puts}
+use Rattle.rt_writing.specs.Writing.{FailsWithin, Puts}
 use Rattle.rt_play.specs.Report.{fault_at, stopped}
 use Rattle.rt_play.specs.Writing.{WritesText, WritesTexts}
 use Rattle.rt_play.specs.declared.generating.Generated.{Generated}

@@ -11,4 +11,3 @@ pub mod OneReport
 pub mod Rights
 pub mod ScriptRuns
 pub mod Tellings
-pub mod Writes

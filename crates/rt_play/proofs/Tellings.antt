@@ -9,9 +9,10 @@ use Rattle.rt_lines.specs.declared.play_fault.PlayFault.{PlayFault}
 use Rattle.rt_lines.specs.declared.play_fault.PlayFault.TheVariants.{Usage, Refused, ReadFault, WriteFault, Memory, Limit}
 use Rattle.rt_play.specs.declared.play_end.PlayEnd.{PlayEnd}
 use Rattle.rt_play.specs.Going.{Going}
-use Rattle.rt_play.specs.Plays.{Puts, FailsWithin, TellsFrom, TellsAll, TellsSome, PlaysLine, going}
+use Rattle.rt_play.specs.Plays.{TellsFrom, TellsAll, TellsSome, PlaysLine, going}
+use Rattle.rt_writing.specs.Writing.{Puts, FailsWithin}
 use Rattle.rt_play.specs.Report.{FrontRuns, IsReportFrom, RunAll, Runs, Stops, said_at}
-use Rattle.rt_play.proofs.Writes.{added_more}
+use Rattle.rt_writing.proofs.Writes.{added_more}
 use Rattle.rt_world.specs.Kept.{Kept}
 
 concat-append : (xs ys : List (List ℕ)) → concat (xs ++ ys) ≡ concat xs ++ concat ys

@@ -2,12 +2,11 @@
 use Rattle.std.specs.Prelude.{◌≡◌, ℕ, ◌<◌, ◌≤◌, List, ◌++◌, length, false, Option, None, Some, Result, Ok, Err}
 use Rattle.std.specs.List.{concat}
 use Rattle.rt_base.specs.declared.which.Which.TheVariants.{Input, Partitions, Servers, Controllers, Replication, Message, Events, Sent, Queries, Stored, Moment, Rows}
-use Rattle.rt_base.specs.Sink.{SinkMeaning, added}
+use Rattle.rt_base.specs.Sink.{SinkMeaning}
 use Rattle.rt_base.specs.Source.{SourceMeaning, Rises}
 use Rattle.rt_lines.specs.declared.play_fault.PlayFault.{PlayFault}
 use Rattle.rt_lines.specs.declared.play_fault.PlayFault.TheVariants.{Usage, Refused, ReadFault, WriteFault, Memory, Limit}
 use Rattle.rt_play.specs.declared.play_end.PlayEnd.{PlayEnd}
-use Rattle.rt_base.specs.declared.failed.Failed.{Failed}
 use Rattle.rt_desk.specs.declared.desk.Desk.{Desk}
 use Rattle.rt_world.specs.Kept.{Kept}
 use Rattle.rt_lines.specs.Header.{NumberedLine}
@@ -15,20 +14,8 @@ use Rattle.rt_lines.specs.Reading.{ReadsInput, Takes, input_limit}
 use Rattle.rt_play.specs.Going.{Going}
 use Rattle.rt_play.specs.Report.{FrontRuns, IsFrontOfReport, IsReport, IsReportFrom, Report, Runs, Stops}
 use Rattle.rt_script.specs.Line.{line_in}
+use Rattle.rt_writing.specs.Writing.{FailsWithin, Puts}
 use Rattle.rt_script.specs.declared.line.Line.{Line}
-
--- this was written, and nothing else
-pub record Puts (old new : SinkMeaning) (text : List ℕ) : Type 0 where
-  pub taken : new.taken ≡ added old.taken text
-  pub counts : old.faults ≤ new.faults
-
--- a front of a text was written, and the sink failed
-pub record FailsWithin (text : List ℕ) (old new : SinkMeaning) : Type 0 where
-  pub front : List ℕ
-  pub rest : List ℕ
-  pub whole : text ≡ front ++ rest
-  pub taken : new.taken ≡ added old.taken front
-  pub counts : Rises old.faults new.faults
 
 -- the whole report of some input was written, and this is why it stops
 pub record TellsAll (Is : Report → Type 0) (old new : SinkMeaning) (why : Option PlayFault) : Type 0 where
@@ -155,11 +142,6 @@ Meets input (Err (Limit Queries)) = IsAnswer input (Err (Limit Queries))
 Meets input (Err (Limit Stored)) = IsAnswer input (Err (Limit Stored))
 Meets input (Err (Limit Moment)) = IsAnswer input (Err (Limit Moment))
 Meets input (Err (Limit Rows)) = IsAnswer input (Err (Limit Rows))
-
--- a piece was written whole, or up to where the sink failed
-abbrev pub WritesAll : SinkMeaning → SinkMeaning → List ℕ → Result Unit Failed → Type 0
-WritesAll old new piece (Ok done) = Puts old new piece
-WritesAll old new piece (Err failed) = FailsWithin piece old new
 
 -- a world that isn't spent, and the desk beside it
 abbrev pub going : Kept → Desk → Going

@@ -4,7 +4,7 @@ use Rattle.std.specs.List.{concat}
 use Rattle.rt_base.specs.Sink.{SinkMeaning}
 use Rattle.rt_lines.specs.declared.play_fault.PlayFault.{PlayFault}
 use Rattle.rt_lines.specs.declared.play_fault.PlayFault.TheVariants.{Usage, Refused, ReadFault, WriteFault, Memory, Limit}
-use Rattle.rt_play.specs.Plays.{FailsWithin, Puts}
+use Rattle.rt_writing.specs.Writing.{FailsWithin, Puts}
 
 -- a text was written whole, or up to where the sink failed; nothing of it where memory ran out
 abbrev pub WritesText : List ℕ → SinkMeaning → SinkMeaning → Result (Unit {0}) PlayFault → Type 0

@@ -3,11 +3,11 @@ ghost use Rattle.rt_play.specs.Writing.{WritesText, WritesTexts};
 ghost use Rattle.rt_report.specs.MacroTexts.{end_text};
 ghost use Rattle.rt_world.specs.Reading.{end_in};
 
-use crate::writing::write_all;
 use rt_base::{Partition, Sink};
 use rt_lines::PlayFault;
 use rt_report::write_end;
 use rt_world::World;
+use rt_writing::write_all;
 use std::alloc::Global;
 
 /// Writes how far each partition is committed, and the answer.

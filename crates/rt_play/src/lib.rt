@@ -14,7 +14,6 @@ mod play_end;
 mod player;
 mod running;
 mod words;
-mod writing;
 
 pub use laws::a_script_is_a_run;
 pub use one_report::a_script_has_one_report;

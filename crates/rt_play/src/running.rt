@@ -8,13 +8,13 @@ ghost use Rattle.rt_state.specs.IsSafeWorld.{IsSafeWorld};
 
 use crate::PlayEnd;
 use crate::beginning::{Beginning, read_beginning};
-use crate::writing::write_all;
 use rt_base::Sink;
 use rt_desk::{Desk, play_said};
 use rt_lines::{LineReason, Lines, PlayFault};
 use rt_model::Setup;
 use rt_script::read_line;
 use rt_world::{Refusal, World};
+use rt_writing::write_all;
 use std::alloc::Global;
 
 /// Runs a script, and writes its report.

@@ -1,7 +1,7 @@
 use Rattle.std.proofs.Common.{◌≡◌, ℕ, ◌-◌, ◌≤◌, ◌++◌, List}
 use Rattle.std.specs.List.{concat}
 use Rattle.rt_play.specs.Generating.{end_texts}
-use Rattle.rt_play.specs.Plays.{Puts}
+use Rattle.rt_writing.specs.Writing.{Puts}
 use Rattle.rt_play.proofs.generated_report.write_ends.Given as goal
 
 abbrev pub invariant-loop-at : goal.invariant-loop-at

@@ -2,7 +2,7 @@ use Rattle.std.proofs.Common.{◌∷◌, [], subst}
 use Rattle.rt_play.proofs.Generated.{last_stops, texts_stopped}
 use Rattle.rt_play.proofs.Tellings.{put_text}
 use Rattle.rt_play.specs.Generating.{end_texts}
-use Rattle.rt_play.specs.Plays.{FailsWithin, Puts}
+use Rattle.rt_writing.specs.Writing.{FailsWithin, Puts}
 use Rattle.rt_play.proofs.generated_report.write_report.Goals as goal
 
 pub returns-in-Err : goal.returns-in-Err

@@ -3,7 +3,8 @@ use Rattle.std.proofs.lemmas.List.{length-append}
 use Rattle.rt_desk.specs.IsDesk.{IsDesk}
 use Rattle.rt_lines.specs.Header.{NumberedLine}
 use Rattle.rt_model.specs.declared.setup.Setup.{Setup}
-use Rattle.rt_play.specs.Plays.{Puts, going}
+use Rattle.rt_play.specs.Plays.{going}
+use Rattle.rt_writing.specs.Writing.{Puts}
 use Rattle.rt_play.proofs.ScriptRuns.{line_keeps}
 use Rattle.rt_play.proofs.Tellings.{nothing_put, one_more, put_text, run_more, tells_end, tells_fault, tells_stop}
 use Rattle.rt_play.proofs.running.play_lines.Goals as goal

@@ -2,7 +2,8 @@ use Rattle.std.proofs.Common.{◌≡◌, ℕ, ◌+◌, ◌^◌, ◌<◌, ◌++�
 use Rattle.std.specs.List.{concat}
 use Rattle.rt_desk.specs.IsDesk.{IsDesk}
 use Rattle.rt_lines.specs.Header.{NumberedLine}
-use Rattle.rt_play.specs.Plays.{Puts, going}
+use Rattle.rt_play.specs.Plays.{going}
+use Rattle.rt_writing.specs.Writing.{Puts}
 use Rattle.rt_play.specs.Report.{RunAll}
 use Rattle.rt_play.proofs.running.play_lines.Given as goal
 use Rattle.rt_state.specs.IsSafeWorld.{IsSafeWorld}

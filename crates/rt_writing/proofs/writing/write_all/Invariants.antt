@@ -1,6 +1,6 @@
 use Rattle.std.proofs.Common.{◌≡◌, ◌-◌, ◌≤◌, length, take}
 use Rattle.rt_base.specs.Sink.{added}
-use Rattle.rt_play.proofs.writing.write_all.Given as goal
+use Rattle.rt_writing.proofs.writing.write_all.Given as goal
 
 abbrev pub invariant-loop-done : goal.invariant-loop-done
 invariant-loop-done g l =

@@ -1,7 +1,7 @@
 use Rattle.std.proofs.Common.{◌∙◌, ap, take, arith}
 use Rattle.rt_base.specs.Sink.{added, Took}
-use Rattle.rt_play.proofs.Writes.{put_more}
-use Rattle.rt_play.proofs.writing.write_all.Goals as goal
+use Rattle.rt_writing.proofs.Writes.{put_more}
+use Rattle.rt_writing.proofs.writing.write_all.Goals as goal
 
 pub loop-done-preserved : goal.loop-done-preserved
 loop-done-preserved g c =
