@@ -1,0 +1,22 @@
+use rt_lines::PlayFault;
+use std::alloc::{Alloc, Global};
+use std::io::Eprint;
+use std::process::ExitCode;
+
+/// The status with which a program of this usage line ends. A fault is told on standard error.
+pub fn end<T: Drop, R: Eprint + Alloc<A = Global>>(
+    rt: &R,
+    ended: Result<T, PlayFault>,
+    usage: &str,
+) -> ExitCode {
+    match ended {
+        Ok(_) => ExitCode::SUCCESS,
+        Err(fault) => {
+            let _ = match fault.text(rt.alloc(), usage) {
+                Ok(text) => eprintln!(rt; "{text}"),
+                Err(_) => eprintln!(rt; "out of memory"),
+            };
+            ExitCode::from(fault.status())
+        }
+    }
+}
