@@ -1,5 +1,12 @@
+pub mod BrokerPart
+pub mod ControllerPart
+pub mod Fronts
 pub mod Names
+pub mod OtherParts
+pub mod Quiet
 pub mod Replays
 pub mod Sending
+pub mod ServerPart
 pub mod Showed
 pub mod Views
+pub mod Whole

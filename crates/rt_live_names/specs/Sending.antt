@@ -2,6 +2,8 @@
 use Rattle.std.specs.Prelude.{◌≡◌, ℕ, ◌+◌, ◌%◌, ◌≤◌, ◌==◌, Bool, false, List, ◌++◌, replicate, slice_get, slice_set, Option, Some, None, if◌then◌else◌}
 use Rattle.rt_link.specs.Ends.{Sending}
 use Rattle.rt_link.specs.declared.envelope.Envelope.{Envelope}
+use Rattle.rt_lists.specs.Members.{Has}
+use Rattle.rt_live_names.specs.Names.{Names}
 
 pub record PostsNow : Type 0 where
   pub posts : List Sending
@@ -37,3 +39,9 @@ pub record Sends (old new : PostsNow) (to : ℕ) (envelope : Envelope) : Type 0 
   pub made : new.made ≡ old.made + 1
   pub chaos : (new.drop ≡ old.drop) × (new.repeat ≡ old.repeat)
   pub posted : PostedAt old.posts new.posts to (times old.drop old.repeat (old.made + 1)) envelope (slice_get old.posts to)
+
+-- the posts of a node: each is of the link of its receiver, with the node's number, and what it accepted is among what the node
+-- sent
+pub record ArePosts (n : Names) (from : ℕ) (line : ℕ → ℕ) (sent : List Envelope) (posts : List Sending) : Type 0 where
+  pub named : (k : ℕ) (p : Sending) → slice_get posts k ≡ Some p → (p.line ≡ n.lines (line k)) × (p.from ≡ from)
+  pub accepted : (k : ℕ) (p : Sending) (e : Envelope) → slice_get posts k ≡ Some p → Has p.accepted e → Has sent e
