@@ -1,0 +1,4 @@
+pub mod Counted
+pub mod Gathered
+pub mod Linked
+pub mod Rows
