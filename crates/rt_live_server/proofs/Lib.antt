@@ -1,0 +1,11 @@
+pub mod Acts
+pub mod Adding
+pub mod Begins
+pub mod Doing
+pub mod Gathering
+pub mod Gives
+pub mod Growing
+pub mod Needs
+pub mod Seating
+pub mod Showing
+pub mod Stepping

@@ -1,0 +1,4 @@
+pub mod Acting
+pub mod Did
+pub mod Seat
+pub mod Steps
