@@ -1,0 +1,11 @@
+mod Acted
+mod Acts
+mod Grown
+mod Hears
+mod JobSteps
+mod Keeping
+mod Listed
+mod Mends
+mod NewJobs
+mod Seats
+mod Works
