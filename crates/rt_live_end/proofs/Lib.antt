@@ -1,0 +1,14 @@
+pub mod Answering
+pub mod Callers
+pub mod Giving
+pub mod Linking
+pub mod Meeting
+pub mod Members
+pub mod Owns
+pub mod Parts
+pub mod Planning
+pub mod Rightly
+pub mod Sound
+pub mod Streaming
+pub mod Telling
+pub mod Tiling
