@@ -2,6 +2,7 @@
 import os
 import subprocess
 import tempfile
+import time
 
 import speed_program
 
@@ -35,10 +36,10 @@ fn main(rt: HostRuntime) -> io::Result<()> {
 
 
 class Ran:
-    """What a run took: seconds of its own, mebibytes at most, and what it wrote."""
+    """What a run took: seconds of its own, mebibytes at most, what it wrote, and the seconds that passed by the clock."""
 
-    def __init__(self, seconds, mebibytes, output):
-        self.seconds, self.mebibytes, self.output = seconds, mebibytes, output
+    def __init__(self, seconds, mebibytes, output, passed):
+        self.seconds, self.mebibytes, self.output, self.passed = seconds, mebibytes, output, passed
 
 
 def run(words, text=b""):
@@ -46,13 +47,15 @@ def run(words, text=b""):
     with tempfile.TemporaryFile() as source, tempfile.TemporaryFile() as sink:
         source.write(text)
         source.seek(0)
+        begun = time.monotonic()
         ran = subprocess.Popen([str(word) for word in words], stdin=source, stdout=sink)
         _, status, used = os.wait4(ran.pid, 0)
+        passed = time.monotonic() - begun
         ran.returncode = os.waitstatus_to_exitcode(status)
         if ran.returncode != 0:
             raise SystemExit(f"{words[0]} ended with status {ran.returncode}")
         sink.seek(0)
-        return Ran(used.ru_utime + used.ru_stime, used.ru_maxrss / 1024, sink.read())
+        return Ran(used.ru_utime + used.ru_stime, used.ru_maxrss / 1024, sink.read(), passed)
 
 
 def least(words, text=b"", turns=3):

@@ -77,6 +77,15 @@ def refused(kind, number, found):
 
 def read(text):
     """The setup of a script, and its lines behind the header."""
+    return read_with(text, read_upserts)
+
+
+def read_without_upserts(text):
+    """The same of an input whose settings of upserts aren't read."""
+    return read_with(text, lambda *_: None)
+
+
+def read_with(text, further):
     kept = kept_lines(text)
     absent = (behind_last(text), "")
     (at_schema, schema), (at_table, table), (at_cluster, cluster) = (*kept, absent, absent, absent)[:3]
@@ -90,7 +99,7 @@ def read(text):
         read_table = settings.read_table(table, columns)
     except settings.Refused as found:
         raise refused("table", at_table, found) from None
-    read_upserts(schema, table, columns, at_table)
+    further(schema, table, columns, at_table)
     return setup_of(text_behind("cluster", cluster, at_cluster), at_cluster, schema, table, columns, read_table), kept[3:]
 
 

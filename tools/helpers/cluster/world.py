@@ -35,10 +35,12 @@ class Reply:
 
 
 class World(further.Further):
+    new_store = storage.Store
+
     def __init__(self, setup):
         self.setup, self.now, self.cells = setup, setup.start, collections.Counter()
         self.log = [[] for _ in range(setup.partitions)]
-        self.store, self.deep = storage.Store(), storage.DeepStore()
+        self.store, self.deep = self.new_store(), storage.DeepStore()
         self.controllers = [controllers.Controller(number) for number in range(setup.controllers)]
         self.servers = [servers.Server(number) for number in range(setup.servers)]
         self.messages, self.queries, self.walks = [], [], {}
