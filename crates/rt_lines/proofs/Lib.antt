@@ -3,7 +3,8 @@ pub mod ClusterLines
 pub mod Clusters
 pub mod Cuts
 mod Digits
+pub mod HeaderLimits
 pub mod Headers
 pub mod JsonTexts
 pub mod PartsOfLines
-mod Readings
+pub mod Readings

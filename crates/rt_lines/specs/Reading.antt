@@ -1,5 +1,6 @@
 -- What reading a whole input takes from its source.
 use Rattle.std.specs.Prelude.{◌≡◌, ℕ, ◌+◌, ◌<◌, ◌≤◌, List, length, Result, Ok, Err}
+use Rattle.rt_base.specs.Sink.{SinkMeaning}
 use Rattle.rt_base.specs.Source.{SourceMeaning, Rises, IsEnd, put_back}
 use Rattle.rt_base.specs.declared.limits.TheConstants.{MOST_INPUT}
 use Rattle.rt_lines.specs.declared.reading.ReadStop.{ReadStop}
@@ -32,3 +33,17 @@ ReadsAll from to (Ok input) = ReadsInput from to input
 ReadsAll from to (Err stop.Failed) = TakesSome from to × Rises from.faults to.faults
 ReadsAll from to (Err stop.TooLong) = (some : TakesSome from to) × (input_limit < length some.input)
 ReadsAll from to (Err stop.Memory) = TakesSome from to
+
+-- the source failed
+pub record FailsToRead (from to : SourceMeaning) (old new : SinkMeaning) : Type 0 where
+  pub input : List ℕ
+  pub taken : Takes from to input
+  pub counts : Rises from.faults to.faults
+  pub nothing : new ≡ old
+
+-- the source gives more than is taken: one byte more was read, and nothing written
+pub record IsTooLong (from to : SourceMeaning) (old new : SinkMeaning) : Type 0 where
+  pub input : List ℕ
+  pub taken : Takes from to input
+  pub long : input_limit < length input
+  pub nothing : new ≡ old

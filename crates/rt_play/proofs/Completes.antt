@@ -1,34 +1,20 @@
 -- What a run does, by its answer; and what it answers where nothing outside fails.
-use Rattle.std.proofs.Common.{◌≡◌, ℕ, ◌<◌, ◌≤◌, List, [], ◌++◌, length, Option, Some, None, Result, Ok, Err, ap, sym, ◌∙◌, subst, arith}
-use Rattle.std.proofs.lemmas.List.{append-nil, length-append}
+use Rattle.std.proofs.Common.{◌≡◌, ℕ, List, [], length, Some, None, Result, Ok, Err, ap, sym, ◌∙◌, subst, arith}
 use Rattle.rt_base.specs.declared.which.Which.TheVariants.{Input, Partitions, Servers, Controllers, Replication, Message, Events, Sent, Queries, Stored, Moment, Rows}
 use Rattle.rt_base.specs.Sink.{SinkMeaning}
-use Rattle.rt_base.specs.Source.{SourceMeaning, Rises, IsEnd, put_back}
+use Rattle.rt_base.specs.Source.{SourceMeaning, Rises}
 use Rattle.rt_lines.specs.Lines.{script_lines}
+use Rattle.rt_lines.proofs.Readings.{told_input, too_long}
 use Rattle.rt_lines.specs.declared.play_fault.PlayFault.{PlayFault}
 use Rattle.rt_lines.specs.declared.play_fault.PlayFault.TheVariants.{Usage, Refused, ReadFault, WriteFault, Memory, Limit}
 use Rattle.rt_play.specs.declared.play_end.PlayEnd.{PlayEnd}
-use Rattle.rt_lines.specs.Reading.{ReadsInput, TakesSome, input_limit}
-use Rattle.rt_play.specs.Plays.{IsTooLong, PlaysInput, RunsOut, TellsAll, TellsInput, Meets, IsAnswer, answer_by}
+use Rattle.rt_lines.specs.Reading.{IsTooLong, ReadsInput, TakesSome}
+use Rattle.rt_play.specs.Plays.{PlaysInput, RunsOut, TellsAll, TellsInput, Meets, IsAnswer, answer_by}
 use Rattle.rt_play.specs.Report.{IsReport}
 use Rattle.rt_play.proofs.Beginnings.{nothing_behind}
 use Rattle.rt_play.proofs.InputLimits.{report_never}
 use Rattle.rt_play.specs.Beginning.{beginning_of}
 use Rattle.rt_play.proofs.Tellings.{nothing_put}
-
--- what a source told begins with what was read of it
-read_front : (left : Option (List ℕ)) (input told : List ℕ) → Some told ≡ put_back input left → length input ≤ length told
-read_front None input told e = cc
-read_front (Some rest) input told e = let same : told ≡ input ++ rest = cc in omega (arith, ap length same, length-append input rest)
-
--- and is what was read, where that was all
-all_read : (left : Option (List ℕ)) (input told : List ℕ) → Some told ≡ put_back input left → IsEnd left → input ≡ told
-all_read None input told e end = cc
-all_read (Some rest) input told e end = let same : told ≡ input ++ rest = cc in sym (same ∙ ap (λ r. input ++ r) end ∙ append-nil input)
-
--- the whole input was read
-told_input : (from to : SourceMeaning) (input told : List ℕ) → from.left ≡ Some told → ReadsInput from to input → input ≡ told
-told_input from to input told is reads = all_read to.left input told (sym is ∙ reads.taken.left) reads.ended
 
 stop_answers : (fault : PlayFault) (from to : SourceMeaning) (old new : SinkMeaning) (input told : List ℕ) → from.left ≡ Some told → ReadsInput from to input
     → TellsAll (IsReport input) old new (Some fault) → IsAnswer told (Err fault)
@@ -44,9 +30,6 @@ end_answers end from to old new input told is reads all count =
   where
     ended_with : ℕ → Result PlayEnd PlayFault
     ended_with n = Ok (record { lines = n })
-
-too_long : (from to : SourceMeaning) (old new : SinkMeaning) (told : List ℕ) → from.left ≡ Some told → IsTooLong from to old new → input_limit < length told
-too_long from to old new told is long = omega (arith, long.long, read_front to.left long.input told (sym is ∙ long.taken.left))
 
 pub completes : (result : Result PlayEnd PlayFault) (from to : SourceMeaning) (old new : SinkMeaning) (told : List ℕ) → PlaysInput from to old new result → from.left ≡ Some told →
     (Rises from.faults to.faults → ⊥) → (Rises old.faults new.faults → ⊥) → Meets told result

@@ -17,7 +17,7 @@ use Rattle.rt_macros.specs.Settling.{Settles}
 use Rattle.rt_macros.specs.declared.settling.TheConstants.{MOST_ROUNDS}
 use Rattle.rt_model.specs.declared.query.Query.{Query}
 use Rattle.rt_model.specs.declared.setup.Setup.{Setup}
-use Rattle.rt_play.proofs.HeaderLimits.{IsOther, IsWithin, header_within, is_other, read_within, stopped_within}
+use Rattle.rt_lines.proofs.HeaderLimits.{IsOther, IsWithin, header_within, is_other, read_within, stopped_within}
 use Rattle.rt_play.proofs.InputLimits.{limit_refused, no_stop, same_stop, stopped_never}
 use Rattle.rt_play.specs.Generating.{Asks, AsksQuery, IsGenerated, IsGeneratedBy, ProducesRow, ProducesRows, RunsGenerated, TellsGenerated, generated_query, generated_setup, header_text, next_number, query_said, report_by, row_text, setup_read}
 use Rattle.rt_play.specs.Report.{Report, fault_at}

@@ -12,7 +12,8 @@ use Rattle.rt_lines.specs.declared.line_reason.LineReason.{LineReason}
 use Rattle.rt_lines.specs.declared.line_reason.LineReason.TheVariants as reason
 use Rattle.rt_lines.specs.declared.play_fault.PlayFault.{PlayFault}
 use Rattle.rt_lines.specs.declared.play_fault.PlayFault.TheVariants.{Limit, Memory, Refused}
-use Rattle.rt_play.proofs.HeaderLimits.{IsOther, IsWithin, beginning_within, is_other}
+use Rattle.rt_lines.proofs.HeaderLimits.{IsOther, IsWithin, is_other}
+use Rattle.rt_play.proofs.HeaderLimits.{beginning_within}
 use Rattle.rt_play.specs.Beginning.{beginning_of}
 use Rattle.rt_play.specs.Going.{Going}
 use Rattle.rt_play.specs.Report.{IsReport, IsReportBehind, IsStop, Report, Stops, fault_at, said_at, stopped}

@@ -1,21 +1,21 @@
 -- What a run does to its source and its sink, and what it answers.
-use Rattle.std.specs.Prelude.{◌≡◌, ℕ, ◌<◌, ◌≤◌, List, ◌++◌, length, false, Option, None, Some, Result, Ok, Err}
+use Rattle.std.specs.Prelude.{◌≡◌, ℕ, ◌<◌, ◌≤◌, List, length, false, Option, None, Some, Result, Ok, Err}
 use Rattle.std.specs.List.{concat}
 use Rattle.rt_base.specs.declared.which.Which.TheVariants.{Input, Partitions, Servers, Controllers, Replication, Message, Events, Sent, Queries, Stored, Moment, Rows}
 use Rattle.rt_base.specs.Sink.{SinkMeaning}
-use Rattle.rt_base.specs.Source.{SourceMeaning, Rises}
+use Rattle.rt_base.specs.Source.{SourceMeaning}
 use Rattle.rt_lines.specs.declared.play_fault.PlayFault.{PlayFault}
 use Rattle.rt_lines.specs.declared.play_fault.PlayFault.TheVariants.{Usage, Refused, ReadFault, WriteFault, Memory, Limit}
 use Rattle.rt_play.specs.declared.play_end.PlayEnd.{PlayEnd}
 use Rattle.rt_desk.specs.declared.desk.Desk.{Desk}
 use Rattle.rt_world.specs.Kept.{Kept}
 use Rattle.rt_lines.specs.Header.{NumberedLine}
-use Rattle.rt_lines.specs.Reading.{ReadsInput, Takes, input_limit}
+use Rattle.rt_lines.specs.Reading.{FailsToRead, IsTooLong, ReadsInput, Takes, input_limit}
 use Rattle.rt_play.specs.Going.{Going}
 use Rattle.rt_play.specs.Report.{FrontRuns, IsFrontOfReport, IsReport, IsReportFrom, Report, Runs, Stops}
 use Rattle.rt_script.specs.Line.{line_in}
-use Rattle.rt_writing.specs.Writing.{FailsWithin, Puts}
 use Rattle.rt_script.specs.declared.line.Line.{Line}
+use Rattle.rt_writing.specs.Writing.{FailsWithin, Puts}
 
 -- the whole report of some input was written, and this is why it stops
 pub record TellsAll (Is : Report → Type 0) (old new : SinkMeaning) (why : Option PlayFault) : Type 0 where
@@ -57,23 +57,6 @@ pub record PlaysAllBy (All : List ℕ → Report → Type 0) (Front : List ℕ �
   pub input : List ℕ
   pub reads : ReadsInput from to input
   pub tells : Tells (All input) (Front input) old new result
-
-abbrev pub PlaysAll : SourceMeaning → SourceMeaning → SinkMeaning → SinkMeaning → Result PlayEnd PlayFault → Type 0
-PlaysAll from to old new result = PlaysAllBy IsReport IsFrontOfReport from to old new result
-
--- the source failed
-pub record FailsToRead (from to : SourceMeaning) (old new : SinkMeaning) : Type 0 where
-  pub input : List ℕ
-  pub taken : Takes from to input
-  pub counts : Rises from.faults to.faults
-  pub nothing : new ≡ old
-
--- the source gives more than is taken: one byte more was read, and nothing written
-pub record IsTooLong (from to : SourceMeaning) (old new : SinkMeaning) : Type 0 where
-  pub input : List ℕ
-  pub taken : Takes from to input
-  pub long : input_limit < length input
-  pub nothing : new ≡ old
 
 -- memory ran out: nothing was written before the whole input was read, and else the first lines of its report
 pub record RunsOutBy (Front : List ℕ → List (List ℕ) → Type 0) (from to : SourceMeaning) (old new : SinkMeaning) : Type 0 where

@@ -58,7 +58,7 @@ fn write_one<K: Sink>(
 ) -> Result<(), PlayFault>
     ensures { WritesText (end_text partition (end_in world.now.state partition)) (K.meaning sink.old) (K.meaning sink.new) result }
 {
-    let end = world.end(alloc, partition)?;
+    let end = world.end(partition);
     let mut text = String::new(alloc);
     write_end(&mut text, partition, end)?;
     match write_all(sink, text.as_bytes()) {

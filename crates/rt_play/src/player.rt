@@ -1,8 +1,9 @@
 ghost use Rattle.std.specs.Prelude.{◌≡◌, ◌↔◌, ℕ, List, map, Some, None, Err};
 ghost use Rattle.rt_base.specs.Source.{Rises};
+ghost use Rattle.rt_lines.specs.Reading.{IsTooLong};
 ghost use Rattle.rt_play.specs.Generating.{TellsGenerated};
 ghost use Rattle.rt_play.specs.Headline.{PlaysRightly};
-ghost use Rattle.rt_play.specs.Plays.{IsTooLong, Meets, PlaysInput};
+ghost use Rattle.rt_play.specs.Plays.{Meets, PlaysInput};
 ghost use Rattle.rt_play.specs.Words.{asked_of};
 ghost use Rattle.rt_play.specs.declared.generating.Generated.{Generated};
 ghost use Rattle.rt_play.specs.declared.words.Asked.TheVariants as Asked;

@@ -1,3 +1,7 @@
+ghost use Rattle.std.specs.Prelude.{◌≡◌};
+ghost use Rattle.std.specs.Process.{exit_status};
+ghost use Rattle.rt_program.specs.Status.{status_by};
+
 use rt_lines::PlayFault;
 use std::alloc::{Alloc, Global};
 use std::io::Eprint;
@@ -8,7 +12,9 @@ pub fn end<T: Drop, R: Eprint + Alloc<A = Global>>(
     rt: &R,
     ended: Result<T, PlayFault>,
     usage: &str,
-) -> ExitCode {
+) -> ExitCode
+    ensures { exit_status result ≡ status_by ended }
+{
     match ended {
         Ok(_) => ExitCode::SUCCESS,
         Err(fault) => {
