@@ -1,5 +1,6 @@
 pub mod Fetched
 pub mod Keeping
+pub mod Moves
 pub mod Others
 pub mod Plans
 pub mod RightPeers

@@ -1,5 +1,5 @@
 -- The rehearsal of a plan by which the segments of a world would move to a number of servers.
-use Rattle.std.specs.Prelude.{◌≡◌, ◌&&◌, ◌-◌, nat_le, nat_lt, min, ℕ, Bool, true, false, List, length, Option, Some, None, is_none, Result, Ok, Err, unwrap_or, if◌then◌else◌}
+use Rattle.std.specs.Prelude.{◌≡◌, ◌&&◌, ◌-◌, nat_le, nat_lt, min, ℕ, Bool, true, false, not, List, length, Option, Some, None, is_none, Result, Ok, Err, unwrap_or, if◌then◌else◌}
 use Rattle.std.specs.List.{count_by}
 use Rattle.rt_base.specs.declared.limits.TheConstants.{MOST_SERVERS}
 use Rattle.rt_base.specs.declared.numbers.Instance.{Instance}
@@ -13,6 +13,7 @@ use Rattle.rt_model.specs.declared.ideal_state.IdealState.{IdealState}
 use Rattle.rt_rebalance.specs.Planned.{planned}
 use Rattle.rt_rebalance.specs.Refused.{number_of}
 use Rattle.rt_rebalance.specs.Rehearsed.{Rehearsed, entries_in, is_online_at, loaded, start_of, step}
+use Rattle.rt_rebalance.specs.Replicas.{Replica, is_among as is_had}
 use Rattle.rt_rebalance.specs.Target.{target_of}
 use Rattle.rt_rebalance.specs.declared.rebalance_refused.RebalanceRefused.{RebalanceRefused}
 use Rattle.rt_state.specs.Finding.{has_partition}
@@ -49,6 +50,10 @@ comes now e = is_none (mode_of now e.partition e.sequence e.instance)
 
 abbrev pub moves_of : List IdealEntry → List IdealEntry → ℕ
 moves_of now goal = count_by (comes now) goal
+
+-- the same, by the replicas of the entries now
+abbrev pub is_new : List Replica → IdealEntry → Bool
+is_new had e = not (is_had had e.partition e.sequence e.instance)
 
 -- the plan from the present ideal state, or why there is none
 abbrev pub plan_in : State → ℕ → ℕ → Result (List IdealState) RebalanceRefused

@@ -73,7 +73,7 @@ impl Rehearsing {
         let target = target(alloc, current, world.setup().table.replication, servers)?;
         match plan(alloc, current, &target, keep) {
             Ok(states) => {
-                let moves = moves_of(current, target.entries.as_slice());
+                let moves = moves_of(alloc, current, target.entries.as_slice())?;
                 Ok(self.begin(alloc, servers, states, moves))
             }
             Err(refused) => Ok(Planned::Refused(told(refused)?)),

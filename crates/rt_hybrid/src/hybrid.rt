@@ -155,6 +155,7 @@ impl Hybrid {
         ensures groups { IfOk result (Holds query.now (taken query.now (offline_side self.now))) }
         ensures few { IfOk result (λ groups. length (offline_rows self.now) ≤ 42949672950000) }
     {
+        // What holds of every table, here that its rows are few, is known once a field of it is read.
         let _ = &self.files;
         let asked = timed(alloc, query, self.time_at(alloc)?, boundary)?;
         let groups = self.scanned(alloc, &asked)?;
@@ -184,6 +185,7 @@ impl Hybrid {
         ensures groups { IfOk result (Holds query.now (taken query.now (offline_side self.now))) }
         ensures few { IfOk result (λ groups. length (offline_rows self.now) ≤ 42949672950000) }
     {
+        // What holds of every table, here that its rows are few, is known once a field of it is read.
         let _ = &self.files;
         let groups = Groups::make(alloc, query)?;
         Ok(groups)

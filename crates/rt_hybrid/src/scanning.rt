@@ -12,7 +12,7 @@ ghost use Rattle.rt_hybrid.specs.Table.{rows_of_files, time_of};
 
 use crate::times::{is_past, time_of};
 use rt_agg::Groups;
-use rt_filter::matches;
+use rt_filter::passes;
 use rt_model::Query;
 use rt_scan::{scan_as, skips};
 use rt_schema::{Row, Schema};
@@ -49,6 +49,7 @@ fn add_file(
     requires kinds { HasKinds schema.now file.now }
     ensures { OnOk result (AddsRows query.now (taken query.now (rows_as schema.now file.now)) groups.old groups.new) }
 {
+    // That a file is a right one is told with its rows.
     let _ = file.rows();
     if skips(query, file) {
         return Ok(());
@@ -99,15 +100,5 @@ fn add_if(
 fn is_counted(query: &Query, boundary: Option<i64>, place: u32, row: &Row) -> bool
     ensures { result ≡ (is_past boundary (time_of place row.now) && passes query.now.filter row.now) }
 {
-    is_past(boundary, time_of(place, row)) && passes(query, row)
-}
-
-// Whether a query's filter takes a row.
-fn passes(query: &Query, row: &Row) -> bool
-    ensures { result ≡ passes query.now.filter row.now }
-{
-    match &query.filter {
-        Some(predicate) => matches(predicate, row),
-        None => true,
-    }
+    is_past(boundary, time_of(place, row)) && passes(&query.filter, row)
 }

@@ -1,6 +1,7 @@
 pub mod Availability
 pub mod Ends
 pub mod Fewest
+pub mod Gathered
 pub mod Grouping
 pub mod Least
 pub mod Lines

@@ -4,6 +4,7 @@ pub mod Plan
 pub mod Planned
 pub mod Refused
 pub mod Rehearsed
+pub mod Replicas
 pub mod Runs
 pub mod Segments
 pub mod Target

@@ -7,6 +7,7 @@ mod laws;
 mod planning;
 mod rebalance_refused;
 mod rehearsal;
+mod replicas;
 mod segments;
 mod slot;
 mod slots;
@@ -19,4 +20,5 @@ pub use laws::{
 pub use planning::{plan, plan_to};
 pub use rebalance_refused::RebalanceRefused;
 pub use rehearsal::Rehearsal;
+pub use replicas::Replicas;
 pub use targets::target;

@@ -1,10 +1,10 @@
 ghost use Rattle.std.specs.Prelude.{◌≡◌, ◌<◌, ◌≤◌, ◌+◌, length, slice_get, Some, None, IfOk, IfSome, IfNone};
 ghost use Rattle.std.specs.List.{remove};
 ghost use Rattle.rt_model.specs.Ideal.{is_of_instance};
-ghost use Rattle.rt_rebalance.specs.Rehearsed.{Steps, coming, entries_at, has_replica, is_online_at, is_online_mode, loaded, not_loaded, start_of, without};
+ghost use Rattle.rt_rebalance.specs.Rehearsed.{Steps, coming, entries_at, is_online_at, is_online_mode, loaded, not_loaded, start_of, without};
 
-use crate::RebalanceRefused;
 use crate::segments::is_online;
+use crate::{RebalanceRefused, Replicas};
 use rt_base::{Instance, Partition, Sequence};
 use rt_ideal::mode;
 use rt_lists::Items;
@@ -134,25 +134,15 @@ fn coming(
 ) -> Result<Vec<IdealEntry>, AllocError>
     ensures { IfOk result (λ entries. entries.items ≡ coming old.now new.now) }
 {
+    let had = Replicas::of(alloc, old)?;
     let mut coming = Vec::new(alloc);
     for entry in new {
-        if is_online(entry.mode) && !has_replica(old, *entry) {
+        let is_new = !had.has(entry.partition, entry.sequence, entry.instance);
+        if is_online(entry.mode) && is_new {
             coming.push(*entry)?;
         }
     }
     Ok(coming)
-}
-
-// Whether some entry is of the same instance and segment.
-fn has_replica(entries: &[IdealEntry], entry: IdealEntry) -> bool
-    ensures { result ≡ has_replica entries.now entry }
-{
-    for other in entries {
-        if is_of_instance(other, entry.partition, entry.sequence, entry.instance) {
-            return true;
-        }
-    }
-    false
 }
 
 fn is_of_instance(

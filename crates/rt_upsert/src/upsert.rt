@@ -1,7 +1,6 @@
 ghost use Rattle.std.specs.Prelude.{◌≡◌, ◌+◌, ◌<◌, ◌≤◌, map, length, filter, false, IfOk, OnOk, OnErr};
 ghost use Rattle.rt_schema.specs.Value.{kind_of};
 ghost use Rattle.rt_model.specs.Aggregate.{taken};
-ghost use Rattle.rt_model.specs.Match.{passes};
 ghost use Rattle.rt_upsert.specs.Index.{rank_of};
 ghost use Rattle.rt_upsert.specs.Ranked.{TellsLast};
 ghost use Rattle.rt_agg.specs.Grouped.{Holds};
@@ -19,7 +18,7 @@ use crate::{AddRefused, Place};
 use indexmap::IndexSet;
 use rt_agg::Groups;
 use rt_base::Sequence;
-use rt_filter::matches;
+use rt_filter::passes;
 use rt_lists::{Copied, Items, Text};
 use rt_model::Query;
 use rt_schema::{Column, Kind, Row, Schema, Value};
@@ -199,20 +198,10 @@ fn add_if(
 ) -> Result<(), AllocError>
     ensures { OnOk result (AddsIf is_shown query.now row.now groups.old groups.new) }
 {
-    if is_shown && passes(query, row) {
+    if is_shown && passes(&query.filter, row) {
         groups.add_row(alloc, row)?;
     }
     Ok(())
-}
-
-// Whether a query's filter takes a row.
-fn passes(query: &Query, row: &Row) -> bool
-    ensures { result ≡ passes query.now.filter row.now }
-{
-    match &query.filter {
-        Some(predicate) => matches(predicate, row),
-        None => true,
-    }
 }
 
 fn kinds_of(alloc: Global, columns: &[Column]) -> Result<Items<Kind>, AllocError>

@@ -1,4 +1,5 @@
 pub mod Does
+pub mod DoneEnds
 pub mod Ending
 pub mod Few
 pub mod Ideals

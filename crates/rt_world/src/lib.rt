@@ -5,6 +5,7 @@
 #![tactic(auto)]
 
 mod applying;
+mod ends;
 mod leaders;
 mod reading;
 mod world;

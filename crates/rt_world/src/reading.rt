@@ -1,36 +1,14 @@
 //! What is read of a state, list by list.
 ghost use Rattle.std.specs.Prelude.{◌≡◌, ◌<◌, ◌++◌, length, slice_get, IfOk, OnOk, Some};
 ghost use Rattle.rt_model.specs.declared.ideal_state.IdealState.{IdealState as AnIdealState};
-ghost use Rattle.rt_world.specs.Reading.{end_after, ideal_in, is_ready_in, last_end, replicas_seen, seen_at};
+ghost use Rattle.rt_world.specs.Reading.{ideal_in, is_ready_in, replicas_seen, seen_at};
 
-use rt_base::{Instance, Offset, Partition, Sequence};
+use rt_base::{Instance, Partition, Sequence};
 use rt_lists::Items;
-use rt_model::{IdealState, Key, Listed, Node, Piece, Status};
+use rt_model::{IdealState, Key, Node, Piece};
 use rt_pause::ReplicaSeen;
 use rt_state::State;
 use std::alloc::{AllocError, Global};
-
-/// The end of the last Done node, or 0.
-pub(crate) fn end_of_nodes(nodes: &[Listed]) -> Offset
-    ensures { result ≡ last_end (record { 0 = 0 }) nodes.now }
-{
-    let mut end = Offset(0);
-    for node in nodes {
-        end = end_after(end, &node.seen.meta.status);
-    }
-    end
-}
-
-/// The end of a Done node, or what was found before it.
-fn end_after(end: Offset, status: &Status) -> Offset
-    ensures { result ≡ end_after end status.now }
-{
-    match status {
-        Status::Done(commit) => commit.end,
-        Status::InProgress => end,
-        Status::Abandoned => end,
-    }
-}
 
 /// Whether a replica has something to consume, or its time limit has passed.
 pub(crate) fn ready(

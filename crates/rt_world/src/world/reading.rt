@@ -23,8 +23,9 @@ ghost use Rattle.rt_world.specs.Reading.{
 };
 
 use crate::World;
+use crate::ends::end_of;
 use crate::leaders::leader;
-use crate::reading::{copied_pieces, end_of_nodes, ideal, ready, replicas};
+use crate::reading::{copied_pieces, ideal, ready, replicas};
 use rt_base::limits::MOST_EVENTS;
 use rt_base::{ControllerId, Instance, NodeId, Offset, Partition, Sequence};
 use rt_broker::Plan;
@@ -74,12 +75,11 @@ impl World {
         }
     }
 
-    /// The end of the last Done node of a partition, or 0. Fails only where memory is refused.
-    pub fn end(&self, alloc: Global, partition: Partition) -> Result<Offset, AllocError>
-        ensures { IfOk result (λ end. end ≡ end_in self.now.state partition) }
+    /// The end of the last Done node of a partition, or 0. Takes no memory, and looks at every write of the store.
+    pub fn end(&self, partition: Partition) -> Offset
+        ensures { result ≡ end_in self.now.state partition }
     {
-        let nodes = self.state.store.metadata(alloc, partition)?;
-        Ok(end_of_nodes(nodes.as_slice()))
+        end_of(&self.state.store, partition)
     }
 
     /// Whether a replica has a message to take, or its time limit has passed past its start; false without a replica.
