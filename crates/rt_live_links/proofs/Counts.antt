@@ -10,16 +10,16 @@ use Rattle.rt_link.specs.declared.envelope.Envelope.{Envelope}
 use Rattle.rt_live_links.specs.Counted.{HasCounts, IsCounted, queue, queues, queues_from, queues_of}
 use Rattle.rt_live_links.specs.Gathered.{AreEnds, AreGathered}
 use Rattle.rt_live_links.specs.declared.node_links.NodeLinks.{NodeLinks}
-use Rattle.rt_live_links.specs.declared.queue_counts.QueueCounts.{QueueCounts}
+use Rattle.rt_live_output.specs.declared.journal.Queue.{Queue}
 use Rattle.rt_live_links.proofs.Places.{all_found, stands}
 
-pub record AtRow (number : ℕ) (senders receivers : List NodeLinks) (k : ℕ) (row : List QueueCounts) : Type 0 where
+pub record AtRow (number : ℕ) (senders receivers : List NodeLinks) (k : ℕ) (row : List Queue) : Type 0 where
   pub sender : NodeLinks
   pub sends : slice_get senders k ≡ Some sender
   pub is : row ≡ queues_of number sender.posts.items receivers
 
 -- the row of the sender of a number, where the first sender has this one
-at_row : (first : ℕ) (senders receivers : List NodeLinks) (k number : ℕ) (row : List QueueCounts) → first + k ≡ number
+at_row : (first : ℕ) (senders receivers : List NodeLinks) (k number : ℕ) (row : List Queue) → first + k ≡ number
     → slice_get (queues_from first senders receivers) k ≡ Some row
     → AtRow number senders receivers k row
 at_row first [] receivers k number row e at = absurd (none-some row at)
@@ -35,14 +35,14 @@ at_row first (sender ∷ senders) receivers (suc k) number row e at =
     record { sender = rest.sender; sends = rest.sends; is = rest.is }
 
 pub record AtCounts (sender : ℕ) (posts : List Sending) (receivers : List NodeLinks) (k : ℕ)
-    (counts : QueueCounts) : Type 0 where
+    (counts : Queue) : Type 0 where
   pub post : Sending
   pub receiver : NodeLinks
   pub posts_at : slice_get posts k ≡ Some post
   pub receives : slice_get receivers k ≡ Some receiver
   pub is : counts ≡ queue sender post receiver.inbox
 
-at_counts : (sender : ℕ) (posts : List Sending) (receivers : List NodeLinks) (k : ℕ) (counts : QueueCounts)
+at_counts : (sender : ℕ) (posts : List Sending) (receivers : List NodeLinks) (k : ℕ) (counts : Queue)
     → slice_get (queues_of sender posts receivers) k ≡ Some counts
     → AtCounts sender posts receivers k counts
 at_counts sender [] receivers k counts at = absurd (none-some counts at)
@@ -66,13 +66,13 @@ at_counts sender (post ∷ posts) (receiver ∷ receivers) (suc k) counts at =
       is = rest.is;
     }
 
-pub is_counted : (senders receivers : List NodeLinks) (from to : ℕ) (row : List QueueCounts) (counts : QueueCounts)
+pub is_counted : (senders receivers : List NodeLinks) (from to : ℕ) (row : List Queue) (counts : Queue)
     → slice_get (queues senders receivers) from ≡ Some row
     → slice_get row to ≡ Some counts → IsCounted senders receivers from to counts
 is_counted senders receivers from to row counts at there =
     let sends = at_row 0 senders receivers from from row (omega arith) at in
     let gets = at_counts from sends.sender.posts.items receivers to counts
-    (ap (λ (l : List QueueCounts). slice_get l to) (sym sends.is) ∙ there) in
+    (ap (λ (l : List Queue). slice_get l to) (sym sends.is) ∙ there) in
     record {
       sender = sends.sender;
       receiver = gets.receiver;
@@ -80,8 +80,8 @@ is_counted senders receivers from to row counts at there =
       sends = sends.sends;
       receives = gets.receives;
       posts = gets.posts_at;
-      accepted = ap (λ (q : QueueCounts). q.accepted) gets.is;
-      taken = ap (λ (q : QueueCounts). q.taken) gets.is;
+      accepted = ap (λ (q : Queue). q.accepted) gets.is;
+      taken = ap (λ (q : Queue). q.taken) gets.is;
     }
 
 -- ---- as many as there are queues
@@ -104,7 +104,7 @@ pub all_counted : (senders receivers : List NodeLinks) → AreEnds receivers sen
 all_counted senders receivers ends =
     record {
       rows = many_rows 0 senders receivers;
-      each = all_found (λ (row : List QueueCounts). length row ≡ length receivers) (queues senders receivers)
+      each = all_found (λ (row : List Queue). length row ≡ length receivers) (queues senders receivers)
           (λ k row at.
           let sends = at_row 0 senders receivers k k row (omega arith) at in
           ap length sends.is ∙ many_counts k sends.sender.posts.items receivers
@@ -116,8 +116,8 @@ all_counted senders receivers ends =
 front_length : (xs ys : List Envelope) → IsFront xs ys → length xs ≤ length ys
 front_length xs ys front = omega (arith, ap length front.1, length-append xs front.0)
 
-pub no_more : (senders receivers : List NodeLinks) (inboxes : List Taking) (from to : ℕ) (row : List QueueCounts)
-    (counts : QueueCounts) → AreGathered senders receivers inboxes
+pub no_more : (senders receivers : List NodeLinks) (inboxes : List Taking) (from to : ℕ) (row : List Queue)
+    (counts : Queue) → AreGathered senders receivers inboxes
     → slice_get (queues senders receivers) from ≡ Some row → slice_get row to ≡ Some counts
     → counts.taken ≤ counts.accepted
 no_more senders receivers inboxes from to row counts gathered at there =

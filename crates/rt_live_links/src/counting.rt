@@ -2,9 +2,9 @@ ghost use Rattle.std.specs.Prelude.{◌≡◌, ◌<◌, ◌≤◌, ◌^◌, All,
 ghost use Rattle.rt_live_links.specs.Counted.{queue, queues, queues_of};
 
 use crate::node_links::NodeLinks;
-use crate::queue_counts::QueueCounts;
 use rt_link::{Inbox, Post};
 use rt_lists::Items;
+use rt_live_output::Queue;
 use std::alloc::{AllocError, Global};
 
 /// Counts the queues of each of these senders, one to each of these receivers.
@@ -12,7 +12,7 @@ pub(crate) fn count_queues(
     alloc: Global,
     senders: &[NodeLinks],
     receivers: &[NodeLinks],
-) -> Result<Items<Items<QueueCounts>>, AllocError>
+) -> Result<Items<Items<Queue>>, AllocError>
     requires few { length senders.now < 2 ^ 32 }
     requires posts { All (λ sender. length sender.posts.items ≤ length receivers.now) senders.now }
     ensures { IfOk result (λ counts. counts ≡ queues senders.now receivers.now) }
@@ -30,7 +30,7 @@ fn count_queues_of(
     sender: u32,
     posts: &[Post],
     receivers: &[NodeLinks],
-) -> Result<Items<QueueCounts>, AllocError>
+) -> Result<Items<Queue>, AllocError>
     requires { length posts.now ≤ length receivers.now }
     ensures { IfOk result (λ counts. counts ≡ queues_of sender posts.now receivers.now) }
 {
@@ -42,10 +42,10 @@ fn count_queues_of(
 }
 
 // Counts a queue.
-fn counted(sender: u32, post: &Post, inbox: &Inbox) -> QueueCounts
+fn counted(sender: u32, post: &Post, inbox: &Inbox) -> Queue
     ensures { result ≡ queue sender post.now inbox.now }
 {
-    QueueCounts {
+    Queue {
         accepted: post.accepted(),
         taken: inbox.taken(sender),
     }

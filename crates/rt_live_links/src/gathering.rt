@@ -5,9 +5,9 @@ ghost use Rattle.rt_live_links.specs.Rows.{inboxes_of, onto, onto_all, posts_of}
 
 use crate::counting::count_queues;
 use crate::node_links::NodeLinks;
-use crate::queue_counts::QueueCounts;
 use rt_link::{Inbox, Post};
 use rt_lists::Items;
+use rt_live_output::Queue;
 use std::alloc::{AllocError, Global};
 
 /// What stands when all nodes have ended and each post went to the inbox of its receiver.
@@ -18,9 +18,9 @@ pub struct Gathered {
     /// The inbox of each controller, by its number.
     pub controllers: Vec<Inbox>,
     /// The queues of each server, one to each controller.
-    pub to_controllers: Items<Items<QueueCounts>>,
+    pub to_controllers: Items<Items<Queue>>,
     /// The queues of each controller, one to each server.
-    pub to_servers: Items<Items<QueueCounts>>,
+    pub to_servers: Items<Items<Queue>>,
 }
 
 /// Counts each queue, and gives each post to the inbox of its receiver, the senders in the order of their numbers.

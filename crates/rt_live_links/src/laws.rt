@@ -7,7 +7,7 @@ ghost use Rattle.rt_live_links.specs.Gathered.{AreEnds, AreGathered, IsNamedEnd}
 ghost use Rattle.rt_live_links.specs.Linked.{AreLinked, IsNewPost, lines_of};
 ghost use Rattle.rt_live_links.specs.declared.all_links.Links.{Links};
 ghost use Rattle.rt_live_links.specs.declared.node_links.NodeLinks.{NodeLinks};
-ghost use Rattle.rt_live_links.specs.declared.queue_counts.QueueCounts.{QueueCounts};
+ghost use Rattle.rt_live_output.specs.declared.journal.Queue.{Queue};
 
 /// The link of each inbox is found by its node's number: that of a server at this place, that of a controller behind
 /// those of all servers. Each post of a node is of the link that is found for its receiver.
@@ -59,12 +59,12 @@ pub fn each_sender_has_a_queue_to_each_receiver()
 /// the post accepted.
 #[tactic(auto, using(crate::proofs::Counts::is_counted, crate::proofs::Counts::no_more))]
 pub fn a_queue_counts_what_its_ends_did()
-    ensures counts { (senders receivers : List NodeLinks) (from to : ℕ) (row : List QueueCounts)
-        (counts : QueueCounts)
+    ensures counts { (senders receivers : List NodeLinks) (from to : ℕ) (row : List Queue)
+        (counts : Queue)
         → slice_get (queues senders receivers) from ≡ Some row
         → slice_get row to ≡ Some counts → IsCounted senders receivers from to counts }
     ensures no_more { (senders receivers : List NodeLinks) (inboxes : List Taking) (from to : ℕ)
-        (row : List QueueCounts) (counts : QueueCounts)
+        (row : List Queue) (counts : Queue)
         → AreGathered senders receivers inboxes
         → slice_get (queues senders receivers) from ≡ Some row
         → slice_get row to ≡ Some counts → counts.taken ≤ counts.accepted }

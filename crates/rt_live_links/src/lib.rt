@@ -10,7 +10,6 @@ mod gathering;
 mod laws;
 mod linking;
 mod node_links;
-mod queue_counts;
 
 pub use all_links::Links;
 pub use gathering::{Gathered, gather_all};
@@ -20,4 +19,3 @@ pub use laws::{
 };
 pub use linking::links;
 pub use node_links::NodeLinks;
-pub use queue_counts::QueueCounts;

@@ -1,0 +1,4 @@
+pub mod AllMine
+pub mod Lived
+pub mod Rightly
+mod Sames

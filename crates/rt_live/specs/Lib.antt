@@ -1,0 +1,4 @@
+pub mod Lives
+pub mod Printed
+pub mod Run
+pub mod Words

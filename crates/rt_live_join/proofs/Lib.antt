@@ -1,0 +1,11 @@
+pub mod Ends
+pub mod Feeds
+pub mod Ground
+pub mod Joins
+pub mod Linked
+pub mod Meets
+pub mod Parting
+pub mod Places
+pub mod Queues
+pub mod Shows
+pub mod Taken
