@@ -1,7 +1,7 @@
 // Stands before a program's own calls of the C library, and refuses one of them: the allocation, the read of standard input or
 // the write to standard output whose number, from 1, stands in REFUSED_ALLOCATION, REFUSED_READ or REFUSED_WRITE. The write
 // whose number stands in EMPTY_WRITE takes nothing. Where FROM_THEN_ON stands, each later call of that kind is refused too. No
-// read gives and no write takes more bytes than SHORT_READS and SHORT_WRITES say.
+// read gives and no write takes more bytes than SHORT_READS and SHORT_WRITES say. The calls of all threads are counted together.
 #define _GNU_SOURCE
 #include <dlfcn.h>
 #include <errno.h>
@@ -9,21 +9,20 @@
 #include <stdlib.h>
 #include <sys/types.h>
 
-static long numbers[4];
-static long left[4];
+static long asked[4];
+static long made[4];
 
 static int refuses(int kind, const char *name)
 {
-    if (!numbers[kind]) {
+    long number;
+    if (!asked[kind]) {
         const char *text = getenv(name);
-        left[kind] = text ? atol(text) : -1;
-        numbers[kind] = 1;
+        asked[kind] = text && atol(text) > 0 ? atol(text) : -1;
     }
-    if (left[kind] <= 0 || --left[kind] > 0)
+    if (asked[kind] < 0)
         return 0;
-    if (getenv("FROM_THEN_ON"))
-        left[kind] = 1;
-    return 1;
+    number = __atomic_add_fetch(&made[kind], 1, __ATOMIC_RELAXED);
+    return number == asked[kind] || (number > asked[kind] && getenv("FROM_THEN_ON"));
 }
 
 static size_t at_most(size_t size, const char *name)

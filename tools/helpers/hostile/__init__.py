@@ -1,5 +1,5 @@
 """The parts of tools/hostile, and what they share with tools/fuzz.
 
 A part is a module with `run(given)`, which answers how many cases passed and how many failed: fault_table, stream_faults,
-refused_memory, hurtful_inputs with hurtful_texts, damaged_files.
+refused_memory, refused_in_threads, hurtful_inputs with hurtful_texts, damaged_files.
 """
