@@ -1,7 +1,11 @@
 //! The calls of the nodes' parts: what a repair and a retirement decide, a broker's plan, rebalance plans, upsert tables
-//! and their settings, and a replica.
+//! and their settings, a replica, and how a committed segment's file is fetched and loaded.
 #![tactic(auto)]
 
+mod committed;
+mod entries;
+mod fetches;
+mod given_peer;
 mod listed_words;
 mod plans;
 mod rebalances;
@@ -14,6 +18,8 @@ mod upsert_configs;
 mod upsert_table;
 mod upserts;
 
+pub use entries::entry;
+pub use fetches::fetch;
 pub use plans::plan;
 pub use rebalances::rebalance;
 pub use repairs::{decide, retire};

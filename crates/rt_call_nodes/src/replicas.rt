@@ -56,7 +56,8 @@ fn start(alloc: Global, texts: TableTexts, words: &mut Words) -> Result<Driven, 
     Ok(Driven::of(replica, Numbers::make(instance, incarnation)))
 }
 
-fn state_name(state: ReplicaState) -> &'static str {
+/// A replica's state by its name.
+pub(crate) fn state_name(state: ReplicaState) -> &'static str {
     match state {
         ReplicaState::InitialConsuming => "INITIAL_CONSUMING",
         ReplicaState::CatchingUp => "CATCHING_UP",

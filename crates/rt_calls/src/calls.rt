@@ -1,7 +1,9 @@
 //! The calls, by the first word of their lines.
 use crate::session::Session;
 use rt_call_cluster::{TableTexts, ideal, machine, meta, mode, replica, replicas, store};
-use rt_call_nodes::{consumer, decide, plan, rebalance, retire, upsert, upsert_config};
+use rt_call_nodes::{
+    consumer, decide, entry, fetch, plan, rebalance, retire, upsert, upsert_config,
+};
 use rt_call_queries::{merge, query, scan, skips, sql, tree};
 use rt_call_schemas::{Tables, columns, message, row, schema, settings, table};
 use rt_call_segments::{rows, sealed, segment};
@@ -101,6 +103,8 @@ fn call_node(
         "upsert" => upsert(alloc, words, answer),
         "upsert_config" => upsert_config(alloc, texts, words, answer),
         "consumer" => consumer(alloc, &mut session.stream, texts, words, answer),
+        "fetch" => fetch(alloc, &mut session.deep, words, answer),
+        "entry" => entry(alloc, &mut session.deep, &session.tables, words, answer),
         _ => call_tool(alloc, word, words, answer),
     }
 }
