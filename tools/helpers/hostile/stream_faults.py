@@ -13,6 +13,8 @@ import scripts
 
 MOST_LINES = 100
 PIECE = 256
+# No less is buffered before it is written, but for the last of a report.
+BUFFERED = 4096
 LITTLE = {"SHORT_READS": "1", "SHORT_WRITES": "1"}
 PIECES = {"SHORT_READS": str(PIECE), "SHORT_WRITES": str(PIECE)}
 KINDS = {"REFUSED_READ": (4, b"read failed\n"), "REFUSED_WRITE": (5, b"write failed\n"), "EMPTY_WRITE": (5, b"write failed\n")}
@@ -31,10 +33,10 @@ def names(given):
     return found[::QUICK] if given.quick else found
 
 
-def wrong(kind, ended, whole, number, calls):
-    """What is wrong with a run whose call of this number fails, or none."""
-    if number > calls:
-        return None if ended == whole else f"nothing failed, but {ended.shown()}"
+def wrong(kind, ended, whole, fails):
+    """What is wrong with a run one of whose calls fails, as it must or may; or none."""
+    if not fails and ended == whole:
+        return None
     if (ended.status, ended.said) != KINDS[kind]:
         return ended.shown()
     if not whole.wrote.startswith(ended.wrote) or (kind == "REFUSED_READ" and ended.wrote):
@@ -47,8 +49,13 @@ def pieces(count):
 
 
 def calls_of(kind, script, report):
-    """How many calls there are: the reads up to the one that finds the end, or the writes."""
-    return pieces(len(script)) + 1 if kind == "REFUSED_READ" else pieces(len(report))
+    """How many calls there are at least: the reads up to the one that finds the end, or the writes; and how many at most.
+
+    What is buffered is written by itself, so that its last piece may be a short one.
+    """
+    if kind == "REFUSED_READ":
+        return pieces(len(script)) + 1, pieces(len(script)) + 1
+    return pieces(len(report)), pieces(len(report)) + len(report) // BUFFERED
 
 
 def cases(program, library, script):
@@ -57,10 +64,14 @@ def cases(program, library, script):
     little = running.run(program, script, LD_PRELOAD=library, **LITTLE)
     yield "byte by byte", None if little == whole else little.shown()
     for kind in KINDS:
-        calls = calls_of(kind, script, whole.wrote)
-        for number, (how, more) in itertools.product(range(1, calls + 2), HOW.items()):
-            ended = running.run(program, script, LD_PRELOAD=library, **PIECES, **more, **{kind: str(number)})
-            yield f"{kind} {number} {how}", wrong(kind, ended, whole, number, calls)
+        least, most = calls_of(kind, script, whole.wrote)
+        for number in itertools.count(1):
+            for how, more in HOW.items():
+                ended = running.run(program, script, LD_PRELOAD=library, **PIECES, **more, **{kind: str(number)})
+                found = wrong(kind, ended, whole, number <= least)
+                yield f"{kind} {number} {how}", "one call too many" if number > most and ended != whole else found
+            if number > least and ended == whole or number > most:
+                break
 
 
 def run(given):
