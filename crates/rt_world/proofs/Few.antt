@@ -1,5 +1,5 @@
 -- What a world holds stays bounded by the events that it counts.
-use Rattle.std.proofs.Common.{◌≡◌, ℕ, ◌+◌, ◌≤◌, Result, Ok, Err, sym, ap, subst, length, arith}
+use Rattle.std.proofs.Common.{◌≡◌, ℕ, ◌+◌, ◌≤◌, Result, Err, ap, length, arith}
 use Rattle.std.specs.Prelude.{slice_set}
 use Rattle.rt_base.specs.declared.numbers.ControllerId.{ControllerId}
 use Rattle.rt_state.specs.Nodes.{with_controller}
@@ -9,12 +9,9 @@ use Rattle.rt_world.proofs.Places.{at_set}
 use Rattle.rt_broker.specs.IsAsked.{messages_in}
 use Rattle.rt_events.specs.declared.outcome.Outcome.{Outcome}
 use Rattle.rt_events.specs.declared.refusal.Refusal.{Refusal}
-use Rattle.rt_events.specs.declared.refusal.Refusal.TheVariants.{NoSuchMessage, NoSuchNode, NodeDown, NothingToDo, Limit, Memory}
 use Rattle.rt_model.specs.Starting.{starting_contents}
 use Rattle.rt_store.specs.Contents.{starting_of}
-use Rattle.rt_state.specs.Applying.{Next, Applies}
-use Rattle.rt_state.specs.IsSafeWorld.{open_in, HasStarted, IsFew, IsSafeWorld}
-use Rattle.rt_state.specs.Room.{Due}
+use Rattle.rt_state.specs.IsSafeWorld.{open_in, HasStarted, IsFew}
 use Rattle.rt_state.specs.declared.cost.Cost.{Cost}
 use Rattle.rt_state.specs.declared.state.State.{State}
 use Rattle.rt_state.proofs.Possible.{HasRoom}
@@ -80,14 +77,3 @@ few_after old new cost room g f =
 
 abbrev pub refused : Refusal → Result Outcome Refusal
 refused e = Err e
-
-pub applied_is_safe :
-    (old new : State) (due : Due) (goes : Cost → Next → Type 0) (result : Result Outcome Refusal) → (result ≡ refused Memory → ⊥) → IsSafeWorld old
-    → ((cost : Cost) (x : Next) → due ≡ Ok cost → goes cost x → IsSafeWorld x.0) → Applies old due goes new result → IsSafeWorld new
-applied_is_safe old new due goes (Ok outcome) other s keeps (cost, possible, g) = keeps cost (new, outcome) possible g
-applied_is_safe old new due goes (Err Memory) other s keeps a = absurd (other (cc))
-applied_is_safe old new due goes (Err NoSuchMessage) other s keeps (e, same) = subst IsSafeWorld (sym same) s
-applied_is_safe old new due goes (Err NoSuchNode) other s keeps (e, same) = subst IsSafeWorld (sym same) s
-applied_is_safe old new due goes (Err NodeDown) other s keeps (e, same) = subst IsSafeWorld (sym same) s
-applied_is_safe old new due goes (Err NothingToDo) other s keeps (e, same) = subst IsSafeWorld (sym same) s
-applied_is_safe old new due goes (Err (Limit which)) other s keeps (e, same) = subst IsSafeWorld (sym same) s

@@ -1,4 +1,4 @@
--- The clock, who believes that it leads, and the faults to come keep a world safe.
+-- The clock, and what a controller does that calls no store, keep a world safe.
 use Rattle.std.proofs.Common.{◌≡◌, ℕ, Bool, true, false, Ok, Option, Some, None, refl, sym, ◌∙◌, ap, subst, arith, slice_get}
 use Rattle.std.proofs.lemmas.List.{length-set}
 use Rattle.rt_base.specs.declared.numbers.ControllerId.{ControllerId}
@@ -7,8 +7,7 @@ use Rattle.rt_controller.proofs.Lasts.{believes_over}
 use Rattle.rt_events.specs.declared.outcome.Outcome.{Outcome}
 use Rattle.rt_events.specs.declared.outcome.Outcome.TheVariants as told
 use Rattle.rt_state.specs.Applying.{Next, comes}
-use Rattle.rt_state.specs.Clock.{tick_due, ticked, lead_due, node_believing, Believes, fault_due, store_faulted, deep_faulted, pass_due}
-use Rattle.rt_state.specs.Finding.{find_controller}
+use Rattle.rt_state.specs.Clock.{tick_due, ticked, node_believing, pass_due}
 use Rattle.rt_state.specs.IsSafe.{IsSafe, IsControllerAt, past_of}
 use Rattle.rt_state.specs.IsSafeWorld.{IsFew, IsSafeWorld}
 use Rattle.rt_state.specs.Nodes.{with_controller, ControllerDoesAt, ControllerDoes}
@@ -18,7 +17,7 @@ use Rattle.rt_state.specs.declared.cost.Cost.{Cost}
 use Rattle.rt_state.specs.declared.state.State.{State}
 use Rattle.rt_world.proofs.Few.{GrowsFew, few_after, few_put, none_started}
 use Rattle.rt_world.proofs.Places.{at_set}
-use Rattle.rt_state.proofs.Possible.{then_passed, HasRoom, priced_room}
+use Rattle.rt_state.proofs.Possible.{HasRoom, priced_room}
 
 -- an event that costs nothing, and leaves all but the counts
 pub counts_grow : (w : State) (cost : Cost) → IsFew w → no_cost ≡ cost → GrowsFew w (counted w cost) cost
@@ -72,16 +71,11 @@ tick_keeps w millis cost x s possible e =
           f;
     })
 
--- ---- faults to come
+-- ---- no node steps
 
-pub fault_keeps : (w : State) (kept : Bool) (cost : Cost) (x : Next) → IsSafeWorld w → fault_due w ≡ Ok cost → comes (store_faulted w kept cost) x → IsSafeWorld x.0
-fault_keeps w kept cost x s possible e =
-    subst (λ (y : Next). IsSafeWorld y.0) (sym e) (record { safe = s.safe; few = free_keeps w cost s possible })
-
-pub deep_fault_keeps : (w : State) (kept : Bool) (cost : Cost) (x : Next) → IsSafeWorld w → fault_due w ≡ Ok cost → comes (deep_faulted w kept cost) x
-    → IsSafeWorld x.0
-deep_fault_keeps w kept cost x s possible e =
-    subst (λ (y : Next). IsSafeWorld y.0) (sym e) (record { safe = s.safe; few = free_keeps w cost s possible })
+-- an event that comes to a safe world
+pub comes_safe : (y x : Next) → IsSafe y.0 → IsFew y.0 → comes y x → IsSafeWorld x.0
+comes_safe y x safe few e = subst (λ (z : Next). IsSafeWorld z.0) (sym e) (record { safe = safe; few = few })
 
 -- ---- a controller's own step that calls no store
 
@@ -112,10 +106,10 @@ controller_does_keeps w c does o cost x s possible keeps same h = by_node (slice
         subst (λ (y : Next). IsSafeWorld y.0) (sym h)
         (record { safe = controller_put w c (does n) cost s.safe (keeps n (s.safe.controllers c.0 n e)); few = few_put (counted w cost) c (does n) (free_keeps w cost s possible) (omega (arith, same n, s.few.started c.0 n e)) })
 
-pub lead_keeps : (w : State) (c : ControllerId) (on : Bool) (cost : Cost) (x : Next) → IsSafeWorld w → lead_due w c ≡ Ok cost → Believes w c on cost x → IsSafeWorld x.0
-lead_keeps w c on cost x s possible h =
-    let due = then_passed (find_controller w c) (priced w no_cost) cost possible in
-    controller_does_keeps w c (node_believing on) told.Noted cost x s due.1
+pub lead_keeps : (w : State) (c : ControllerId) (on : Bool) (cost : Cost) (x : Next) → IsSafeWorld w → priced w no_cost ≡ Ok cost
+    → ControllerDoes w c (node_believing on) told.Noted cost x → IsSafeWorld x.0
+lead_keeps w c on cost x s room h =
+    controller_does_keeps w c (node_believing on) told.Noted cost x s room
     (λ n k. record { over = believes_over w.setup (past_of w) n.controller on k.over; placed = believing_id n.controller on ∙ k.placed; partitions = k.partitions; upkeep = k.upkeep })
     (λ n. believing_started n.controller on) h
   where

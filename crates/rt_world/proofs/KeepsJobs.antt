@@ -7,7 +7,6 @@ use Rattle.rt_controller.specs.Right.{IsReplied, WorksOver}
 use Rattle.rt_controller.proofs.CallsOver.{works_over}
 use Rattle.rt_deep.specs.Meaning.{Told as ToldDeep}
 use Rattle.rt_deep.specs.Memory.{means as deep_means}
-use Rattle.rt_events.specs.declared.refusal.Refusal.TheVariants.{NoSuchNode, NoSuchMessage, NodeDown}
 use Rattle.rt_model.specs.declared.job_step.JobStep.{JobStep}
 use Rattle.rt_model.specs.declared.reply.Reply.{Reply}
 use Rattle.rt_model.specs.declared.sent.Sent.TheVariants as sent
@@ -15,10 +14,9 @@ use Rattle.rt_past.specs.Past.{Past, with_files, with_history, with_reply as pas
 use Rattle.rt_store.specs.Meaning.{Told}
 use Rattle.rt_store.specs.Memory.{means}
 use Rattle.rt_state.specs.Applying.{Next}
-use Rattle.rt_state.specs.Finding.{has_controller, is_controller_up}
 use Rattle.rt_state.specs.IsSafe.{IsControllerAt, IsSafeOver, IsSafe, past_of}
 use Rattle.rt_state.specs.IsSafeWorld.{IsFew, IsSafeWorld}
-use Rattle.rt_state.specs.Jobs.{has_job, sets_of_job, job_due, noted_set, stepped_by, stepped, JobStepsAt, JobSteps}
+use Rattle.rt_state.specs.Jobs.{sets_of_job, noted_set, stepped_by, stepped, JobStepsAt, JobSteps}
 use Rattle.rt_state.specs.Messages.{after_step}
 use Rattle.rt_state.specs.Room.{set_cost, priced, with_set}
 use Rattle.rt_nodes.specs.declared.controller_node.ControllerNode.{ControllerNode}
@@ -28,7 +26,7 @@ use Rattle.rt_state.specs.declared.state.State.{State}
 use Rattle.rt_world.proofs.JobCounts.{works_started}
 use Rattle.rt_world.proofs.Few.{GrowsFew, few_after, one_started}
 use Rattle.rt_world.proofs.KeepsMessages.{reply_grows, stepped_at}
-use Rattle.rt_state.proofs.Possible.{only_passed, HasRoom, priced_room}
+use Rattle.rt_state.proofs.Possible.{HasRoom, priced_room}
 use Rattle.rt_world.proofs.Sets.{drawn_same, safe_grows, controller_set}
 
 -- ---- what a step sets is counted
@@ -48,12 +46,6 @@ set_counted k cost before now = by_test (nat_lt before now)
     by_test false = record { events = refl; uploads = refl; unanswered = refl; stored = omega arith }
 
 -- ---- a job
-
-job_room : (w : State) (c : ControllerId) (j : ℕ) (cost : Cost) → job_due w c j ≡ Ok cost → priced w (set_cost (sets_of_job w c j)) ≡ Ok cost
-job_room w c j cost possible =
-    let there = only_passed (has_controller w c) NoSuchNode _ cost possible in
-    let job = only_passed (has_job w c j) NoSuchMessage _ cost there.1 in
-    (only_passed (is_controller_up w c) NodeDown (priced w (set_cost (sets_of_job w c j))) cost job.1).1
 
 abbrev after_job : State → ControllerId → ControllerNode → Controlling → Told → ToldDeep → Cost → State
 after_job w c n new store deep cost = noted_set (after_step w c n new store deep) cost (length w.store.writes)
@@ -116,13 +108,14 @@ job_few w c n new store deep cost sets step (Some r) f written is started =
       moment = omega arith;
     }
 
-pub job_keeps : (w : State) (c : ControllerId) (j : ℕ) (cost : Cost) (x : Next) → IsSafeWorld w → job_due w c j ≡ Ok cost → JobSteps w c j cost x → IsSafeWorld x.0
-job_keeps w c j cost x s possible h = by_node (slice_get w.controllers c.0) refl h
+pub job_keeps : (w : State) (c : ControllerId) (j : ℕ) (cost : Cost) (x : Next) → IsSafeWorld w → priced w (set_cost (sets_of_job w c j)) ≡ Ok cost
+    → JobSteps w c j cost x → IsSafeWorld x.0
+job_keeps w c j cost x s priced_so h = by_node (slice_get w.controllers c.0) refl h
   where
     by_node : (o : Option ControllerNode) → slice_get w.controllers c.0 ≡ o → JobStepsAt o w c j cost x → IsSafeWorld x.0
     by_node None there h = absurd h
     by_node (Some n) there (new, step, store, deep, works, is) =
-        let room = priced_room w (set_cost (sets_of_job w c j)) cost (job_room w c j cost possible) in
+        let room = priced_room w (set_cost (sets_of_job w c j)) cost priced_so in
         let node = s.safe.controllers c.0 n there in
         let k = works_over w.setup (past_of w) w.store store w.deep deep n.controller new j w.moment step s.safe.setup s.safe.past refl refl node.over works in
         subst (λ (y : Next). IsSafeWorld y.0) (sym is)

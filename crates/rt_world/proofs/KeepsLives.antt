@@ -7,7 +7,7 @@ use Rattle.rt_entry.specs.declared.refused.ServerRefused.{ServerRefused}
 use Rattle.rt_entry.specs.declared.refused.ServerRefused.TheVariants.{NotDue, BadFile, StoreFault, Memory}
 use Rattle.rt_events.specs.declared.outcome.Outcome.{Outcome}
 use Rattle.rt_events.specs.declared.outcome.Outcome.TheVariants as told
-use Rattle.rt_events.specs.declared.refusal.Refusal.TheVariants.{NoSuchNode, NodeDown, NothingToDo}
+use Rattle.rt_events.specs.declared.refusal.Refusal.TheVariants.{NoSuchNode, NothingToDo}
 use Rattle.rt_model.specs.Lawful.{bump}
 use Rattle.rt_past.specs.Past.{with_history}
 use Rattle.rt_server.specs.Calls.{Restarts}
@@ -19,17 +19,18 @@ use Rattle.rt_server.proofs.LastingNeeds.{restarts_drawn}
 use Rattle.rt_store.specs.Meaning.{Meaning, Told}
 use Rattle.rt_store.specs.Memory.{means}
 use Rattle.rt_state.specs.Applying.{Next}
-use Rattle.rt_state.specs.Finding.{has_server, is_server_up, is_up, has_controller, is_controller_up, find_controller}
+use Rattle.rt_state.specs.Finding.{has_server, is_server_up, is_up}
 use Rattle.rt_state.specs.IsSafe.{past_of}
 use Rattle.rt_state.specs.IsSafeWorld.{IsSafeWorld}
-use Rattle.rt_state.specs.Lives.{crash_server_due, node_crashed, NodeCrashes, ServerCrashes, crash_controller_due, controller_crashed, ControllerCrashes, restart_server_due, NodeRestarts, ServerRestarts, restart_controller_due, controller_restarted, ControllerRestarts}
+use Rattle.rt_state.specs.Lives.{node_crashed, NodeCrashes, controller_crashed, restart_server_due, NodeRestarts, controller_restarted}
+use Rattle.rt_state.specs.Nodes.{ControllerDoes, ServerCalls, ServerDoes}
 use Rattle.rt_state.specs.Room.{no_cost, priced}
 use Rattle.rt_state.specs.declared.cost.Cost.{Cost}
 use Rattle.rt_nodes.specs.declared.server_node.ServerNode.{ServerNode}
 use Rattle.rt_state.specs.declared.state.State.{State}
 use Rattle.rt_world.proofs.Does.{IsServerOf, server_does_keeps, ServerWrites, server_calls_keeps}
 use Rattle.rt_world.proofs.KeepsClock.{controller_does_keeps}
-use Rattle.rt_state.proofs.Possible.{only_passed, then_passed}
+use Rattle.rt_state.proofs.Possible.{only_passed}
 use Rattle.rt_world.proofs.Stores.{wrote_told, writes_called}
 
 -- ---- crashes
@@ -41,30 +42,26 @@ node_crash_keeps w i n k =
       drawn = k.drawn;
     }
 
-pub crash_server_keeps : (w : State) (i : Instance) (cost : Cost) (x : Next) → IsSafeWorld w → crash_server_due w i ≡ Ok cost → ServerCrashes w i cost x → IsSafeWorld x.0
-crash_server_keeps w i cost x s possible h =
-    let there = only_passed (has_server w i) NoSuchNode _ cost possible in
-    let up = only_passed (is_server_up w i) NodeDown (priced w no_cost) cost there.1 in
-    server_does_keeps w i NodeCrashes cost x s up.1
+pub crash_server_keeps : (w : State) (i : Instance) (cost : Cost) (x : Next) → IsSafeWorld w → priced w no_cost ≡ Ok cost → ServerDoes w i NodeCrashes cost x
+    → IsSafeWorld x.0
+crash_server_keeps w i cost x s room h =
+    server_does_keeps w i NodeCrashes cost x s room
     (λ old new o e k step. subst (IsServerOf w (past_of w) i.0) (sym step.0) (node_crash_keeps w i.0 old k))
     h
 
-pub crash_controller_keeps : (w : State) (c : ControllerId) (cost : Cost) (x : Next) → IsSafeWorld w → crash_controller_due w c ≡ Ok cost → ControllerCrashes w c cost x
-    → IsSafeWorld x.0
-crash_controller_keeps w c cost x s possible h =
-    let due = then_passed (find_controller w c) (priced w no_cost) cost possible in
-    controller_does_keeps w c controller_crashed told.Down cost x s due.1
+pub crash_controller_keeps : (w : State) (c : ControllerId) (cost : Cost) (x : Next) → IsSafeWorld w → priced w no_cost ≡ Ok cost
+    → ControllerDoes w c controller_crashed told.Down cost x → IsSafeWorld x.0
+crash_controller_keeps w c cost x s room h =
+    controller_does_keeps w c controller_crashed told.Down cost x s room
     (λ n k. record { over = crashes_over w.setup (past_of w) n.controller k.over; placed = k.placed; partitions = k.partitions; upkeep = k.upkeep })
     (λ n. refl) h
 
 -- ---- restarts
 
-pub restart_controller_keeps : (w : State) (c : ControllerId) (cost : Cost) (x : Next) → IsSafeWorld w → restart_controller_due w c ≡ Ok cost
-    → ControllerRestarts w c cost x → IsSafeWorld x.0
-restart_controller_keeps w c cost x s possible h =
-    let there = only_passed (has_controller w c) NoSuchNode _ cost possible in
-    let down = only_passed (not (is_controller_up w c)) NothingToDo (priced w no_cost) cost there.1 in
-    controller_does_keeps w c controller_restarted (told.Up None) cost x s down.1
+pub restart_controller_keeps : (w : State) (c : ControllerId) (cost : Cost) (x : Next) → IsSafeWorld w → priced w no_cost ≡ Ok cost
+    → ControllerDoes w c controller_restarted (told.Up None) cost x → IsSafeWorld x.0
+restart_controller_keeps w c cost x s room h =
+    controller_does_keeps w c controller_restarted (told.Up None) cost x s room
     (λ n k. record { over = k.over; placed = k.placed; partitions = k.partitions; upkeep = k.upkeep })
     (λ n. refl) h
 
@@ -115,7 +112,7 @@ node_restart_keeps w i old new store o s there down k (answer, restarts, told, u
           };
     }
 
-pub restart_server_keeps : (w : State) (i : Instance) (cost : Cost) (x : Next) → IsSafeWorld w → restart_server_due w i ≡ Ok cost → ServerRestarts w i cost x → IsSafeWorld x.0
+pub restart_server_keeps : (w : State) (i : Instance) (cost : Cost) (x : Next) → IsSafeWorld w → restart_server_due w i ≡ Ok cost → ServerCalls w i NodeRestarts cost x → IsSafeWorld x.0
 restart_server_keeps w i cost x s possible h =
     let there = only_passed (has_server w i) NoSuchNode _ cost possible in
     let down = only_passed (not (is_server_up w i)) NothingToDo (priced w no_cost) cost there.1 in

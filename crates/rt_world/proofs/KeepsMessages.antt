@@ -1,6 +1,6 @@
 -- A message that is taken keeps a world safe, and what is answered is right.
 use Rattle.std.proofs.Common.{◌≡◌, ℕ, ◌+◌, ◌≤◌, List, [], ◌∷◌, Ok, Option, Some, None, refl, sym, ◌∙◌, ap, subst, slice_get, length, arith, length-append}
-use Rattle.std.specs.Prelude.{slice_set, is_some}
+use Rattle.std.specs.Prelude.{slice_set}
 use Rattle.rt_base.specs.declared.numbers.ControllerId.{ControllerId}
 use Rattle.rt_controller.specs.Controller.{Controlling}
 use Rattle.rt_controller.specs.Right.{HandlesOver, IsHandled}
@@ -11,7 +11,6 @@ use Rattle.rt_controller.proofs.CallsOver.{handles_over}
 use Rattle.rt_deep.specs.Meaning.{Told as ToldDeep}
 use Rattle.rt_deep.specs.Memory.{means as deep_means}
 use Rattle.rt_events.specs.declared.outcome.Outcome.{Outcome}
-use Rattle.rt_events.specs.declared.refusal.Refusal.TheVariants.{NoSuchNode, NoSuchMessage, NodeDown}
 use Rattle.rt_lists.specs.Members.{Has}
 use Rattle.rt_lists.proofs.Members.{place-Has}
 use Rattle.rt_model.specs.declared.reply.Reply.{Reply}
@@ -28,10 +27,10 @@ use Rattle.rt_server.proofs.LastingCalls.{replies_over}
 use Rattle.rt_store.specs.Meaning.{Told}
 use Rattle.rt_store.specs.Memory.{means}
 use Rattle.rt_state.specs.Applying.{Next}
-use Rattle.rt_state.specs.Finding.{has_controller, is_controller_up, is_server_up, request_in, request_at, reply_in, reply_at}
+use Rattle.rt_state.specs.Finding.{request_in, request_at, reply_in, reply_at}
 use Rattle.rt_state.specs.IsSafe.{IsControllerAt, IsSafeOver, IsSafe, past_of}
 use Rattle.rt_state.specs.IsSafeWorld.{IsFew, IsSafeWorld}
-use Rattle.rt_state.specs.Messages.{deliver_due, handed, after_step, DeliversAt, Delivers, reply_by, reply_due, node_took, RepliesAt, Replies}
+use Rattle.rt_state.specs.Messages.{handed, after_step, DeliversAt, Delivers, node_took, RepliesAt, Replies}
 use Rattle.rt_state.specs.Room.{no_cost, priced}
 use Rattle.rt_nodes.specs.declared.controller_node.ControllerNode.{ControllerNode}
 use Rattle.rt_state.specs.declared.cost.Cost.{Cost}
@@ -41,7 +40,7 @@ use Rattle.rt_world.proofs.Does.{IsServerOf, server_does_keeps}
 use Rattle.rt_state.proofs.Bounds.{few_writes}
 use Rattle.rt_world.proofs.JobCounts.{handles_started}
 use Rattle.rt_world.proofs.Few.{GrowsFew, few_after, one_started}
-use Rattle.rt_state.proofs.Possible.{only_passed, HasRoom, priced_room}
+use Rattle.rt_state.proofs.Possible.{HasRoom, priced_room}
 use Rattle.rt_world.proofs.Sets.{drawn_same, drawn_replied, safe_grows, controller_set}
 use Rattle.rt_world.proofs.Topics.{controller_at_grows}
 
@@ -73,12 +72,6 @@ reply_grows w a cs r s right =
     safe_grows w.setup a (past_with_reply a r) w.servers cs w.queries s g.0 g.1 (drawn_replied a r w.servers s.drawn)
 
 -- ---- deliver
-
-deliver_room : (w : State) (m : ℕ) (c : ControllerId) (cost : Cost) → deliver_due w m c ≡ Ok cost → priced w no_cost ≡ Ok cost
-deliver_room w m c cost possible =
-    let there = only_passed (has_controller w c) NoSuchNode _ cost possible in
-    let message = only_passed (is_some (request_at w m)) NoSuchMessage _ cost there.1 in
-    (only_passed (is_controller_up w c) NodeDown (priced w no_cost) cost message.1).1
 
 -- a controller with what is under way, after a step over what there is now
 pub stepped_at : (w : State) (a b : Past) (c : ℕ) (n : ControllerNode) (new : Controlling) → Grows a b → IsControllerAt w.setup a c n → IsControllerOver w.setup b new
@@ -143,15 +136,15 @@ deliver_few w c n new store deep cost (handled.Job j) f written free started =
       moment = omega arith;
     }
 
-pub deliver_keeps : (w : State) (m : ℕ) (c : ControllerId) (cost : Cost) (x : Next) → IsSafeWorld w → deliver_due w m c ≡ Ok cost → Delivers w m c cost x → IsSafeWorld x.0
-deliver_keeps w m c cost x s possible h = by_found (request_at w m) refl (slice_get w.controllers c.0) refl h
+pub deliver_keeps : (w : State) (m : ℕ) (c : ControllerId) (cost : Cost) (x : Next) → IsSafeWorld w → priced w no_cost ≡ Ok cost → Delivers w m c cost x → IsSafeWorld x.0
+deliver_keeps w m c cost x s free h = by_found (request_at w m) refl (slice_get w.controllers c.0) refl h
   where
     by_found : (o : Option Request) → request_at w m ≡ o → (n : Option ControllerNode) → slice_get w.controllers c.0 ≡ n → DeliversAt o n w c cost x → IsSafeWorld x.0
     by_found None at n there h = absurd h
     by_found (Some q) at None there h = absurd h
     by_found (Some q) at (Some n) there (new, what, store, deep, handles, is) =
         let a = past_of w in
-        let room = priced_room w no_cost cost (deliver_room w m c cost possible) in
+        let room = priced_room w no_cost cost free in
         let node = s.safe.controllers c.0 n there in
         let k = handles_over w.setup a w.store store w.deep deep n.controller new q w.moment what s.safe.setup s.safe.past (few_writes w s) refl refl
         (request_sent w m q at) node.over handles in
@@ -183,14 +176,13 @@ node_took_keeps w r n s has k =
     still_empty : IsEmpty n.server → IsEmpty (node_took n r).1.server
     still_empty e = ap (λ t. (replied_in t r).1) e
 
-pub reply_keeps : (w : State) (m : ℕ) (cost : Cost) (x : Next) → IsSafeWorld w → reply_due w m ≡ Ok cost → Replies w m cost x → IsSafeWorld x.0
-reply_keeps w m cost x s possible h = by_found (reply_at w m) refl possible h
+pub reply_keeps : (w : State) (m : ℕ) (cost : Cost) (x : Next) → IsSafeWorld w → priced w no_cost ≡ Ok cost → Replies w m cost x → IsSafeWorld x.0
+reply_keeps w m cost x s room h = by_found (reply_at w m) refl h
   where
-    by_found : (o : Option Reply) → reply_at w m ≡ o → reply_by w o ≡ Ok cost → RepliesAt o w cost x → IsSafeWorld x.0
-    by_found None at due h = absurd h
-    by_found (Some r) at due h =
-        let up = only_passed (is_server_up w r.number.instance) NodeDown (priced w no_cost) cost due in
-        server_does_keeps w r.number.instance (λ old new outcome. (outcome, new) ≡ node_took old r) cost x s up.1
+    by_found : (o : Option Reply) → reply_at w m ≡ o → RepliesAt o w cost x → IsSafeWorld x.0
+    by_found None at h = absurd h
+    by_found (Some r) at h =
+        server_does_keeps w r.number.instance (λ old new outcome. (outcome, new) ≡ node_took old r) cost x s room
         (λ old new o e k step.
         subst (IsServerOf w (past_of w) r.number.instance.0) (sym (ap (λ (y : Outcome × ServerNode). y.1) step))
         (node_took_keeps w r old s.safe (reply_sent w m r at) k))

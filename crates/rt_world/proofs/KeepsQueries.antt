@@ -1,5 +1,5 @@
 -- What is asked, routed, served and answered of a query keeps a world safe.
-use Rattle.std.proofs.Common.{◌≡◌, ℕ, ◌+◌, List, [], ◌∷◌, ◌++◌, Result, Ok, Err, Option, Some, None, refl, sym, ◌∙◌, ap, subst, slice_get, not, arith, length-append, ◌&&◌}
+use Rattle.std.proofs.Common.{◌≡◌, ℕ, ◌+◌, List, [], ◌∷◌, ◌++◌, Result, Ok, Err, Option, Some, None, refl, sym, ◌∙◌, ap, subst, slice_get, arith, length-append}
 use Rattle.std.specs.Prelude.{slice_set, is_some}
 use Rattle.std.proofs.lemmas.List.{length-set}
 use Rattle.std.proofs.lemmas.Option.{none-some}
@@ -8,12 +8,11 @@ use Rattle.rt_base.specs.declared.numbers.Partition.{Partition}
 use Rattle.rt_base.specs.declared.numbers.Sequence.{Sequence}
 use Rattle.rt_broker.specs.declared.refused.BrokerRefused.{BrokerRefused}
 use Rattle.rt_broker.specs.declared.refused.BrokerRefused.TheVariants as broker
-use Rattle.rt_broker.specs.Asking.{Asking, asking, piece_at, is_tried, is_piece_due, is_answer_due}
+use Rattle.rt_broker.specs.Asking.{Asking, asking, piece_at}
 use Rattle.rt_broker.specs.Routing.{Routes as broker_routes}
 use Rattle.rt_broker.proofs.Lasting.{asked_begins, route_kept, note_kept}
 use Rattle.rt_controller.proofs.Paired.{one_if, count_push, count_set}
 use Rattle.rt_events.specs.declared.outcome.Outcome.{Outcome}
-use Rattle.rt_events.specs.declared.refusal.Refusal.TheVariants.{NoSuchNode, NothingToDo}
 use Rattle.rt_model.specs.Checked.{IsQuery}
 use Rattle.rt_model.specs.declared.node.Seen.{Seen}
 use Rattle.rt_model.specs.declared.piece.Piece.{Piece}
@@ -24,17 +23,17 @@ use Rattle.rt_past.specs.Past.{with_history}
 use Rattle.rt_store.specs.Meaning.{Meaning, Told}
 use Rattle.rt_store.specs.Memory.{means}
 use Rattle.rt_state.specs.Applying.{Next, comes}
-use Rattle.rt_state.specs.Finding.{has_server, has_partition, query_in, query_at}
+use Rattle.rt_state.specs.Finding.{query_in, query_at}
 use Rattle.rt_state.specs.IsSafe.{IsQueryAsked, IsSafeOver, IsSafe, past_of}
 use Rattle.rt_state.specs.IsSafeWorld.{open_in, IsFewOver, IsFew, IsSafeWorld}
-use Rattle.rt_state.specs.Queries.{ask_due, asked, route_by, route_due, routed_by, RoutesAt, Routes, piece_by, piece_due, PiecesOf, PiecesAt, Pieces, answer_by, answer_due, closed, AnswersAt, Answers}
+use Rattle.rt_state.specs.Queries.{asked, routed_by, RoutesAt, Routes, PiecesOf, PiecesAt, Pieces, closed, AnswersAt, Answers}
 use Rattle.rt_state.specs.Room.{no_cost, query_cost, priced, spent, counted}
 use Rattle.rt_state.specs.declared.cost.Cost.{Cost}
 use Rattle.rt_nodes.specs.declared.server_node.ServerNode.{ServerNode}
 use Rattle.rt_state.specs.declared.state.State.{State}
 use Rattle.rt_world.proofs.Few.{GrowsFew, few_after, none_started}
 use Rattle.rt_state.proofs.Pieces.{given_right, open_closed, piece_order}
-use Rattle.rt_state.proofs.Possible.{only_passed, HasRoom, priced_room}
+use Rattle.rt_state.proofs.Possible.{HasRoom, priced_room}
 use Rattle.rt_world.proofs.Sets.{query_set, query_added}
 use Rattle.rt_world.proofs.Stores.{read_told}
 
@@ -60,7 +59,7 @@ asked_there w q a s e = s.queries q (Some a) (query_there w q a e)
 
 -- ---- ask
 
-pub ask_keeps : (w : State) (query : Query) (cost : Cost) (x : Next) → IsSafeWorld w → IsQuery w.setup.schema query → ask_due w ≡ Ok cost → comes (asked w query cost) x
+pub ask_keeps : (w : State) (query : Query) (cost : Cost) (x : Next) → IsSafeWorld w → IsQuery w.setup.schema query → priced w query_cost ≡ Ok cost → comes (asked w query cost) x
     → IsSafeWorld x.0
 ask_keeps w query cost x s checked possible e =
     let room = priced_room w query_cost cost possible in
@@ -137,14 +136,13 @@ routed_query old new a b p (Err broker.NotDue) r = ap (λ (x : Asking). x.query)
 routed_query old new a b p (Err broker.StoreFault) r = ap (λ (x : Asking). x.query) r.2
 routed_query old new a b p (Err broker.Memory) r = ap (λ (x : Asking). x.query) r.1
 
-pub route_keeps : (w : State) (q : ℕ) (p : Partition) (cost : Cost) (x : Next) → IsSafeWorld w → route_due w q p ≡ Ok cost → Routes w q p cost x → IsSafeWorld x.0
-route_keeps w q p cost x s possible h = by_query (query_at w q) refl (only_passed (has_partition w p) NoSuchNode (route_by w p (query_at w q)) cost possible).1 h
+pub route_keeps : (w : State) (q : ℕ) (p : Partition) (cost : Cost) (x : Next) → IsSafeWorld w → priced w no_cost ≡ Ok cost → Routes w q p cost x → IsSafeWorld x.0
+route_keeps w q p cost x s free h = by_query (query_at w q) refl h
   where
-    by_query : (o : Option Asking) → query_at w q ≡ o → route_by w p o ≡ Ok cost → RoutesAt o w q p cost x → IsSafeWorld x.0
-    by_query None at due h = absurd h
-    by_query (Some a) at due (b, store, answer, routes, told, is) =
+    by_query : (o : Option Asking) → query_at w q ≡ o → RoutesAt o w q p cost x → IsSafeWorld x.0
+    by_query None at h = absurd h
+    by_query (Some a) at (b, store, answer, routes, told, is) =
         let past = past_of w in
-        let free = (only_passed (not (is_tried a p)) NothingToDo (priced w no_cost) cost due).1 in
         let k = asked_there w q a s.safe at in
         let same : store.writes ≡ w.store.writes = routed_reads w store a b p answer x.1 routes told in
         let front : IsFront store.writes past.history = subst (λ (h : List Seen). IsFront h past.history) (sym same) (front_same past.history) in
@@ -159,16 +157,15 @@ route_keeps w q p cost x s possible h = by_query (query_at w q) refl (only_passe
 
 -- ---- piece
 
-pub piece_keeps : (w : State) (q : ℕ) (p : Partition) (s : Sequence) (i : Instance) (cost : Cost) (x : Next) → IsSafeWorld w → piece_due w q p s i ≡ Ok cost
+pub piece_keeps : (w : State) (q : ℕ) (p : Partition) (s : Sequence) (i : Instance) (cost : Cost) (x : Next) → IsSafeWorld w → priced w no_cost ≡ Ok cost
     → Pieces w q p s i cost x → IsSafeWorld x.0
-piece_keeps w q p s i cost x safe possible h =
-    by_query (query_at w q) refl (only_passed (has_server w i && has_partition w p) NoSuchNode (piece_by w p s i (query_at w q)) cost possible).1 h
+piece_keeps w q p s i cost x safe free h = by_query (query_at w q) refl h
   where
-    by_piece : (a : Asking) → query_at w q ≡ Some a → priced w no_cost ≡ Ok cost → (o : Option Piece) → piece_at a p s ≡ o
+    by_piece : (a : Asking) → query_at w q ≡ Some a → (o : Option Piece) → piece_at a p s ≡ o
         → (n : Option ServerNode) → slice_get w.servers i.0 ≡ n → PiecesOf o n a w q i cost x → IsSafeWorld x.0
-    by_piece a at free None found n there h = absurd h
-    by_piece a at free (Some piece) found None there h = absurd h
-    by_piece a at free (Some piece) found (Some n) there (b, what, gives, notes, is) =
+    by_piece a at None found n there h = absurd h
+    by_piece a at (Some piece) found None there h = absurd h
+    by_piece a at (Some piece) found (Some n) there (b, what, gives, notes, is) =
         let past = past_of w in
         let k = asked_there w q a safe.safe at in
         let order = piece_order w.setup past a p s piece safe.safe.past k.over found in
@@ -177,10 +174,9 @@ piece_keeps w q p s i cost x safe possible h =
         let query = subst (IsQuery w.setup.schema) (sym (ap (λ (y : Asking). y.query) notes.1)) k.query in
         subst (λ (y : Next). IsSafeWorld y.0) (sym is) (query_put w q a b cost safe at free (record { query = query; over = over }))
 
-    by_query : (o : Option Asking) → query_at w q ≡ o → piece_by w p s i o ≡ Ok cost → PiecesAt o w q p s i cost x → IsSafeWorld x.0
-    by_query None at due h = absurd h
-    by_query (Some a) at due h =
-        by_piece a at (only_passed (is_piece_due a p s i) NothingToDo (priced w no_cost) cost due).1 (piece_at a p s) refl (slice_get w.servers i.0) refl h
+    by_query : (o : Option Asking) → query_at w q ≡ o → PiecesAt o w q p s i cost x → IsSafeWorld x.0
+    by_query None at h = absurd h
+    by_query (Some a) at h = by_piece a at (piece_at a p s) refl (slice_get w.servers i.0) refl h
 
 -- ---- answer
 
@@ -201,13 +197,12 @@ closed_few w q a cost f at free =
       moment = omega arith;
     }
 
-pub answer_keeps : (w : State) (q : ℕ) (cost : Cost) (x : Next) → IsSafeWorld w → answer_due w q ≡ Ok cost → Answers w q cost x → IsSafeWorld x.0
-answer_keeps w q cost x s possible h = by_query (query_at w q) refl possible h
+pub answer_keeps : (w : State) (q : ℕ) (cost : Cost) (x : Next) → IsSafeWorld w → priced w no_cost ≡ Ok cost → Answers w q cost x → IsSafeWorld x.0
+answer_keeps w q cost x s free h = by_query (query_at w q) refl h
   where
-    by_query : (o : Option Asking) → query_at w q ≡ o → answer_by w o ≡ Ok cost → AnswersAt o w q cost x → IsSafeWorld x.0
-    by_query None at due h = absurd h
-    by_query (Some a) at due (answer, right, is) =
-        let free = (only_passed (is_answer_due a) NothingToDo (priced w no_cost) cost due).1 in
+    by_query : (o : Option Asking) → query_at w q ≡ o → AnswersAt o w q cost x → IsSafeWorld x.0
+    by_query None at h = absurd h
+    by_query (Some a) at (answer, right, is) =
         let room = priced_room w no_cost cost free in
         subst (λ (y : Next). IsSafeWorld y.0) (sym is)
         (record {

@@ -1,11 +1,11 @@
 -- A step of a repair, and one of a retirement, keeps a world safe.
 use Rattle.std.proofs.Common.{◌≡◌, ℕ, ◌+◌, ◌<◌, ◌≤◌, Bool, true, false, cond, Ok, Option, Some, None, refl, sym, ◌∙◌, ap, subst, slice_get, length, arith, ◌&&◌}
-use Rattle.std.specs.Prelude.{slice_set, IfSome, IsNone, IsSome, is_some}
+use Rattle.std.specs.Prelude.{slice_set, IfSome, IsNone, IsSome}
 use Rattle.std.proofs.lemmas.Bool.{ltb-true, and_parts, true≢false}
 use Rattle.std.proofs.lemmas.List.{length-set}
 use Rattle.rt_base.specs.declared.numbers.ControllerId.{ControllerId}
 use Rattle.rt_base.specs.declared.numbers.Partition.{Partition}
-use Rattle.rt_events.specs.declared.refusal.Refusal.TheVariants.{NoSuchNode, NothingToDo}
+use Rattle.rt_events.specs.declared.refusal.Refusal.TheVariants.{NoSuchNode}
 use Rattle.rt_model.specs.declared.setup.Setup.{Setup}
 use Rattle.rt_past.specs.IsPast.{IsPast, GrowsRight}
 use Rattle.rt_past.specs.Past.{Past, Grows, with_history}
@@ -18,8 +18,8 @@ use Rattle.rt_repair.specs.declared.retiring.RetireStep.{RetireStep}
 use Rattle.rt_repair.specs.Lasting.{IsRepairOver, IsRetireOver}
 use Rattle.rt_repair.specs.RepairSteps as of_repair
 use Rattle.rt_repair.specs.RetireSteps as of_retire
-use Rattle.rt_repair.specs.Repairing.{Repairing, is_ended, IsUnended as IsUnendedRepair, set_entries}
-use Rattle.rt_repair.specs.Retirement.{Retirement, is_ended as retire_is_ended, IsUnended as IsUnendedRetirement, set_entries as retire_sets}
+use Rattle.rt_repair.specs.Repairing.{Repairing, is_ended, IsUnended as IsUnendedRepair}
+use Rattle.rt_repair.specs.Retirement.{Retirement, is_ended as retire_is_ended, IsUnended as IsUnendedRetirement}
 use Rattle.rt_repair.proofs.Growing.{repair_lasts, retire_lasts, repair_begins_over, retire_begins_over}
 use Rattle.rt_repair.proofs.RightRepair.{repair_past, repair_kept}
 use Rattle.rt_repair.proofs.RightRetire.{retire_past, retire_kept}
@@ -30,8 +30,8 @@ use Rattle.rt_state.specs.Finding.{has_controller, has_partition}
 use Rattle.rt_state.specs.IsSafe.{IsUpkeepAt, IsSafe, past_of}
 use Rattle.rt_state.specs.IsSafeWorld.{IsSafeWorld}
 use Rattle.rt_state.proofs.NeedsNodes.{retain_keeps as retention_needed, retention_kept}
-use Rattle.rt_state.specs.Repairs.{upkeep_in, upkeep_at, believes_at, find_upkeep, after_upkeep, repair_by, repair_in, repair_due, begun, going_on, UpkeepRepairs, RepairsAt, Repairs, retain_by, retirement_in, retain_due, retiring, retiring_on, UpkeepRetires, RetiresAt, Retires}
-use Rattle.rt_state.specs.Room.{set_cost, no_cost, priced}
+use Rattle.rt_state.specs.Repairs.{upkeep_in, upkeep_at, find_upkeep, after_upkeep, repair_by, repair_in, repair_due, begun, going_on, UpkeepRepairs, RepairsAt, Repairs, retain_by, retirement_in, retain_due, retiring, retiring_on, UpkeepRetires, RetiresAt, Retires}
+use Rattle.rt_state.specs.Room.{set_cost, priced}
 use Rattle.rt_nodes.specs.declared.controller_node.ControllerNode.{ControllerNode}
 use Rattle.rt_state.specs.declared.cost.Cost.{Cost}
 use Rattle.rt_state.specs.declared.state.State.{State}
@@ -43,6 +43,7 @@ use Rattle.rt_state.proofs.Possible.{came, only_passed, then_passed, HasRoom, pr
 use Rattle.rt_world.proofs.Sets.{drawn_same, safe_grows, controller_set}
 use Rattle.rt_world.proofs.Topics.{if_some, controller_at_grows}
 use Rattle.rt_world.proofs.WritesOnce.{repair_few, retire_few}
+use Rattle.rt_world.specs.Step.{set_by_repair, set_by_retirement}
 
 -- ---- what is under way is put back
 
@@ -129,10 +130,6 @@ going_unended r = by_test (is_ended r.stage) refl
     by_test true e = tt
     by_test false e = unended r.stage e
 
-repair_room : (w : State) (c : ControllerId) (o : Option Repairing) (cost : Cost) → repair_by w c o ≡ Ok cost → (sets : Option ℕ) × (priced w (set_cost sets) ≡ Ok cost)
-repair_room w c None cost e = (None, (only_passed (believes_at w c) NothingToDo (priced w no_cost) cost e).1)
-repair_room w c (Some r) cost e = (set_entries r w.moment, e)
-
 pub repair_writes : (w : State) (p : Partition) (old new : Upkeep) (store : Told) (did : RepairStep) → IsSafe w → p.0 < w.setup.partitions
     → IsUpkeepAt w.setup (past_of w) p.0 old → UpkeepRepairs w.setup p w.moment w.store store old new did → UpkeepWrites w new store
 repair_writes w p old new store did s within k (after, steps, is) =
@@ -163,17 +160,17 @@ repair_writes w p old new store did s within k (after, steps, is) =
           });
     }
 
-pub repair_keeps : (w : State) (c : ControllerId) (p : Partition) (cost : Cost) (x : Next) → IsSafeWorld w → repair_due w c p ≡ Ok cost → Repairs w c p cost x → IsSafeWorld x.0
-repair_keeps w c p cost x s possible h = by_found (slice_get w.controllers c.0) refl (upkeep_at w c p) refl h
+pub repair_keeps : (w : State) (c : ControllerId) (p : Partition) (cost : Cost) (x : Next) → IsSafeWorld w → repair_due w c p ≡ Ok cost
+    → priced w (set_cost (set_by_repair (repair_in (upkeep_at w c p)) w.moment)) ≡ Ok cost → Repairs w c p cost x → IsSafeWorld x.0
+repair_keeps w c p cost x s possible room h = by_found (slice_get w.controllers c.0) refl (upkeep_at w c p) refl h
   where
     by_found : (o : Option ControllerNode) → slice_get w.controllers c.0 ≡ o → (u : Option Upkeep) → upkeep_at w c p ≡ u → RepairsAt o u w c p cost x → IsSafeWorld x.0
     by_found None there u at h = absurd h
     by_found (Some n) there None at h = absurd h
     by_found (Some n) there (Some old) at (new, store, did, steps, is) =
         let due = then_passed (find_upkeep w c p) (repair_by w c (repair_in (upkeep_at w c p))) cost possible in
-        let room = repair_room w c (repair_in (upkeep_at w c p)) cost due.1 in
         subst (λ (y : Next). IsSafeWorld y.0) (sym is)
-        (upkeep_put w c p n new store room.0 cost s there room.1
+        (upkeep_put w c p n new store (set_by_repair (repair_in (upkeep_at w c p)) w.moment) cost s there room
         (repair_writes w p old new store did s.safe (found_within w c p due.0) (upkeep_there w c p n old s.safe there at) steps))
 
 -- ---- a retirement
@@ -210,10 +207,6 @@ retention_set w c p old cost at due none =
     retention_needed w c (retirement_in (upkeep_at w c p)) cost due
     (subst (λ o. IsNone (retirement_in o)) (sym at) none)
 
-retain_room : (w : State) (c : ControllerId) (o : Option Retirement) (cost : Cost) → retain_by w c o ≡ Ok cost → (sets : Option ℕ) × (priced w (set_cost sets) ≡ Ok cost)
-retain_room w c None cost e = (None, (only_passed (is_some w.setup.retention && believes_at w c) NothingToDo (priced w no_cost) cost e).1)
-retain_room w c (Some r) cost e = (retire_sets r w.moment, e)
-
 pub retire_writes : (w : State) (p : Partition) (old new : Upkeep) (store : Told) (did : RetireStep) → IsSafe w → p.0 < w.setup.partitions
     → (IsNone old.retirement → IsSome w.setup.retention) → IsUpkeepAt w.setup (past_of w) p.0 old → UpkeepRetires w.setup p w.store store w.moment old new did → UpkeepWrites w new store
 retire_writes w p old new store did s within set k (after, steps, is) =
@@ -244,16 +237,16 @@ retire_writes w p old new store did s within set k (after, steps, is) =
           });
     }
 
-pub retain_keeps : (w : State) (c : ControllerId) (p : Partition) (cost : Cost) (x : Next) → IsSafeWorld w → retain_due w c p ≡ Ok cost → Retires w c p cost x → IsSafeWorld x.0
-retain_keeps w c p cost x s possible h = by_found (slice_get w.controllers c.0) refl (upkeep_at w c p) refl h
+pub retain_keeps : (w : State) (c : ControllerId) (p : Partition) (cost : Cost) (x : Next) → IsSafeWorld w → retain_due w c p ≡ Ok cost
+    → priced w (set_cost (set_by_retirement (retirement_in (upkeep_at w c p)) w.moment)) ≡ Ok cost → Retires w c p cost x → IsSafeWorld x.0
+retain_keeps w c p cost x s possible room h = by_found (slice_get w.controllers c.0) refl (upkeep_at w c p) refl h
   where
     by_found : (o : Option ControllerNode) → slice_get w.controllers c.0 ≡ o → (u : Option Upkeep) → upkeep_at w c p ≡ u → RetiresAt o u w c p cost x → IsSafeWorld x.0
     by_found None there u at h = absurd h
     by_found (Some n) there None at h = absurd h
     by_found (Some n) there (Some old) at (new, store, did, steps, is) =
         let due = then_passed (find_upkeep w c p) (retain_by w c (retirement_in (upkeep_at w c p))) cost possible in
-        let room = retain_room w c (retirement_in (upkeep_at w c p)) cost due.1 in
         subst (λ (y : Next). IsSafeWorld y.0) (sym is)
-        (upkeep_put w c p n new store room.0 cost s there room.1
+        (upkeep_put w c p n new store (set_by_retirement (retirement_in (upkeep_at w c p)) w.moment) cost s there room
         (retire_writes w p old new store did s.safe (found_within w c p due.0) (retention_set w c p old cost at due.1)
         (upkeep_there w c p n old s.safe there at) steps))

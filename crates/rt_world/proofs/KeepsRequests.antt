@@ -5,14 +5,11 @@ use Rattle.std.proofs.lemmas.List.{length-append, length-set}
 use Rattle.rt_base.specs.declared.numbers.Instance.{Instance}
 use Rattle.rt_base.specs.declared.numbers.Partition.{Partition}
 use Rattle.rt_base.specs.declared.numbers.Sequence.{Sequence}
-use Rattle.rt_events.specs.declared.refusal.Refusal.TheVariants.{NothingToDo}
 use Rattle.rt_model.specs.declared.request.Request.{Request}
 use Rattle.rt_model.specs.declared.request.RequestNumber.{RequestNumber}
 use Rattle.rt_model.specs.declared.sent.Sent.TheVariants as sent
 use Rattle.rt_past.proofs.Numbers.{drawn_other}
 use Rattle.rt_past.specs.Past.{with_request}
-use Rattle.rt_consumer.specs.Requests.{size_in}
-use Rattle.rt_consumer.specs.declared.consumer.Consumer.{Consumer}
 use Rattle.rt_server.proofs.LastingTold.{asks_for_right, asks_right}
 use Rattle.rt_server.specs.Lasting.{SendsRight}
 use Rattle.rt_state.proofs.Bounds.{few_sent}
@@ -20,7 +17,7 @@ use Rattle.rt_state.proofs.Dues.{replica_due_is, server_there}
 use Rattle.rt_world.proofs.Few.{few_after, none_started}
 use Rattle.rt_world.proofs.KeepsServers.{not_down, up_there}
 use Rattle.rt_world.proofs.Places.{at_set}
-use Rattle.rt_state.proofs.Possible.{HasRoom, only_passed, priced_room, then_passed}
+use Rattle.rt_state.proofs.Possible.{HasRoom, priced_room, then_passed}
 use Rattle.rt_world.proofs.Topics.{controllers_grow, queries_grow, servers_grow}
 use Rattle.rt_state.specs.Applying.{Next}
 use Rattle.rt_state.specs.Finding.{find_server, is_server_up, replica_at}
@@ -28,7 +25,7 @@ use Rattle.rt_state.specs.IsSafe.{HasDrawn, IsSafe, IsServerAt, past_of}
 use Rattle.rt_state.specs.IsSafeWorld.{IsSafeWorld}
 use Rattle.rt_state.specs.Nodes.{with_server}
 use Rattle.rt_state.specs.Places.{AreAt}
-use Rattle.rt_state.specs.Requests.{AskStep, Extends, NodeAsks, NodeAsksFor, Reports, SendsAt, asks_due, extend_due, extends_now, report_by, report_due, sends}
+use Rattle.rt_state.specs.Requests.{AskStep, NodeAsks, NodeAsksFor, SendsAt, SendsRequest, extend_due, extends_now, report_by, report_due, sends}
 use Rattle.rt_state.specs.Room.{counted, priced, upload_cost}
 use Rattle.rt_state.specs.declared.cost.Cost.{Cost}
 use Rattle.rt_nodes.specs.declared.server_node.ServerNode.{ServerNode}
@@ -129,23 +126,17 @@ module _ (w : State) (i : Instance) (p : Partition) (q : Sequence) (cost : Cost)
       (sent_keeps w i new request cost bytes s possible
       (asked_safe w i p q n new request s.safe found (up_there w i n up found) r.0 r.1 cost))
 
-  -- what a report costs is its upload
-  reports_by : (o : Option Consumer) → report_by w o ≡ Ok cost → (bytes : ℕ) × (priced w (upload_cost bytes) ≡ Ok cost)
-  reports_by None h = absurd (cc)
-  reports_by (Some r) h = (size_in r.phase, (only_passed (asks_due r) NothingToDo (priced w (upload_cost (size_in r.phase))) cost h).1)
-
-  pub report_keeps : report_due w i p q ≡ Ok cost → Reports w i p q cost x → IsSafeWorld x.0
-  report_keeps due h =
+  pub report_keeps : (bytes : ℕ) → report_due w i p q ≡ Ok cost → priced w (upload_cost bytes) ≡ Ok cost → SendsRequest w i (NodeAsks p q) cost x → IsSafeWorld x.0
+  report_keeps bytes due room h =
       let there = then_passed (find_server w i p) (report_by w (replica_at w i p q)) cost due in
-      let room = reports_by (replica_at w i p q) there.1 in
-      sends_keep (NodeAsks p q) room.0 (server_there w i p there.0).up room.1
+      sends_keep (NodeAsks p q) bytes (server_there w i p there.0).up room
       (λ n new request found does. (
         does.2,
         asks_right w.setup (past_of w) n.server new.server p q request s.safe.past (s.safe.servers i.0 n found).over (s.safe.drawn i.0 n found) (few_sent w s) does.1 does.0,
       ))
       (slice_get w.servers i.0) refl h
 
-  pub extend_keeps : (millis : ℕ) → extend_due w i p q ≡ Ok cost → Extends w i p q millis cost x → IsSafeWorld x.0
+  pub extend_keeps : (millis : ℕ) → extend_due w i p q ≡ Ok cost → SendsRequest w i (NodeAsksFor p q millis) cost x → IsSafeWorld x.0
   extend_keeps millis due h =
       let d = replica_due_is w i p q extends_now cost due in
       sends_keep (NodeAsksFor p q millis) 0 d.there.up d.priced

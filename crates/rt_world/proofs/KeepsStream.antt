@@ -1,8 +1,7 @@
--- A message that comes to the end of a partition keeps a world safe, and so does a look at a node.
+-- A message that comes to the end of a partition keeps a world safe.
 use Rattle.std.proofs.Common.{◌≡◌, ℕ, zero, suc, ◌+◌, ◌<◌, ◌≤◌, List, [], ◌∷◌, Ok, refl, sym, ap, subst, length, arith, length-append}
 use Rattle.std.proofs.lemmas.Bool.{ltb-true}
 use Rattle.rt_base.specs.declared.numbers.Partition.{Partition}
-use Rattle.rt_base.specs.declared.numbers.Sequence.{Sequence}
 use Rattle.rt_broker.specs.IsAsked.{messages_in}
 use Rattle.rt_events.specs.declared.refusal.Refusal.TheVariants.{NoSuchNode}
 use Rattle.rt_past.specs.Past.{with_log}
@@ -13,13 +12,11 @@ use Rattle.rt_state.specs.Applying.{Next, comes}
 use Rattle.rt_state.specs.Finding.{has_partition}
 use Rattle.rt_state.specs.IsSafe.{past_of}
 use Rattle.rt_state.specs.IsSafeWorld.{IsSafeWorld}
-use Rattle.rt_state.specs.Room.{no_cost, message_cost, priced}
-use Rattle.rt_state.specs.Shows.{show_meta_due, meta_shown, show_ideal_due, ideal_shown}
+use Rattle.rt_state.specs.Room.{message_cost, priced}
 use Rattle.rt_state.specs.Stream.{produce_due, produced}
 use Rattle.rt_state.specs.declared.cost.Cost.{Cost}
 use Rattle.rt_state.specs.declared.state.State.{State}
 use Rattle.rt_world.proofs.Few.{few_after, none_started}
-use Rattle.rt_world.proofs.KeepsClock.{free_keeps}
 use Rattle.rt_state.proofs.Possible.{only_passed, HasRoom, priced_room}
 use Rattle.rt_world.proofs.Sets.{safe_grows}
 
@@ -60,15 +57,3 @@ produce_keeps w p message cost x s possible e =
           })
           s.few;
     })
-
--- ---- a look at a node
-
-pub show_meta_keeps : (w : State) (p : Partition) (q : Sequence) (cost : Cost) (x : Next) → IsSafeWorld w → show_meta_due w p ≡ Ok cost → comes (meta_shown w p q cost) x
-    → IsSafeWorld x.0
-show_meta_keeps w p q cost x s possible e =
-    let there = only_passed (has_partition w p) NoSuchNode (priced w no_cost) cost possible in
-    subst (λ (y : Next). IsSafeWorld y.0) (sym e) (record { safe = s.safe; few = free_keeps w cost s there.1 })
-
-pub show_ideal_keeps : (w : State) (cost : Cost) (x : Next) → IsSafeWorld w → show_ideal_due w ≡ Ok cost → comes (ideal_shown w cost) x → IsSafeWorld x.0
-show_ideal_keeps w cost x s possible e =
-    subst (λ (y : Next). IsSafeWorld y.0) (sym e) (record { safe = s.safe; few = free_keeps w cost s possible })

@@ -1,3 +1,4 @@
+pub mod Costs
 pub mod Does
 pub mod DoneEnds
 pub mod Ending

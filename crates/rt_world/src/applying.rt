@@ -4,6 +4,7 @@ ghost use Rattle.rt_events.specs.Fits.{Fits};
 ghost use Rattle.rt_world.specs.Step.{due_of, Steps};
 ghost use Rattle.rt_state.specs.IsSafeWorld.{IsSafeWorld};
 
+use crate::steps;
 use rt_events::{Event, Outcome, Refusal};
 use rt_state::State;
 use std::alloc::Global;
@@ -104,87 +105,85 @@ pub(crate) fn apply(state: &mut State, alloc: Global, event: &Event) -> Result<O
     ensures { Steps state.old event.now state.new result }
 {
     match event {
-        Event::Produce { partition, message } => rt_steps::produce(
-            state, alloc, *partition, message,
-        ),
-        Event::Tick { millis } => rt_steps::tick(state, *millis),
-        Event::Lead { controller, on } => rt_steps::lead(state, *controller, *on),
+        Event::Produce { partition, message } => steps::produce(state, alloc, *partition, message),
+        Event::Tick { millis } => steps::tick(state, *millis),
+        Event::Lead { controller, on } => steps::lead(state, *controller, *on),
         Event::Consume {
             instance,
             partition,
             sequence,
             max,
-        } => rt_steps::consume(state, alloc, *instance, *partition, *sequence, *max),
+        } => steps::consume(state, alloc, *instance, *partition, *sequence, *max),
         Event::Force {
             instance,
             partition,
             sequence,
-        } => rt_steps::force(state, *instance, *partition, *sequence),
+        } => steps::force(state, *instance, *partition, *sequence),
         Event::Stop {
             instance,
             partition,
             sequence,
-        } => rt_steps::stop(state, *instance, *partition, *sequence),
+        } => steps::stop(state, *instance, *partition, *sequence),
         Event::Build {
             instance,
             partition,
             sequence,
-        } => rt_steps::build(state, alloc, *instance, *partition, *sequence),
+        } => steps::build(state, alloc, *instance, *partition, *sequence),
         Event::Report {
             instance,
             partition,
             sequence,
-        } => rt_steps::report(state, alloc, *instance, *partition, *sequence),
+        } => steps::report(state, alloc, *instance, *partition, *sequence),
         Event::Extend {
             instance,
             partition,
             sequence,
             millis,
-        } => rt_steps::extend(state, alloc, *instance, *partition, *sequence, *millis),
+        } => steps::extend(state, alloc, *instance, *partition, *sequence, *millis),
         Event::Deliver {
             message,
             controller,
-        } => rt_steps::deliver(state, alloc, *message, *controller),
-        Event::Job { controller, job } => rt_steps::job(state, alloc, *controller, *job),
-        Event::Reply { message } => rt_steps::reply(state, alloc, *message),
-        Event::CrashServer { instance } => rt_steps::crash_server(state, *instance),
-        Event::CrashController { controller } => rt_steps::crash_controller(state, *controller),
-        Event::RestartServer { instance } => rt_steps::restart_server(state, alloc, *instance),
-        Event::RestartController { controller } => rt_steps::restart_controller(state, *controller),
-        Event::See { instance } => rt_steps::see(state, alloc, *instance),
+        } => steps::deliver(state, alloc, *message, *controller),
+        Event::Job { controller, job } => steps::job(state, alloc, *controller, *job),
+        Event::Reply { message } => steps::reply(state, alloc, *message),
+        Event::CrashServer { instance } => steps::crash_server(state, *instance),
+        Event::CrashController { controller } => steps::crash_controller(state, *controller),
+        Event::RestartServer { instance } => steps::restart_server(state, alloc, *instance),
+        Event::RestartController { controller } => steps::restart_controller(state, *controller),
+        Event::See { instance } => steps::see(state, alloc, *instance),
         Event::Transit {
             instance,
             partition,
             sequence,
-        } => rt_steps::transit(state, alloc, *instance, *partition, *sequence),
+        } => steps::transit(state, alloc, *instance, *partition, *sequence),
         Event::Download {
             instance,
             partition,
             sequence,
-        } => rt_steps::download(state, alloc, *instance, *partition, *sequence),
+        } => steps::download(state, alloc, *instance, *partition, *sequence),
         Event::Repair {
             controller,
             partition,
-        } => rt_steps::repair(state, alloc, *controller, *partition),
+        } => steps::repair(state, alloc, *controller, *partition),
         Event::Retain {
             controller,
             partition,
-        } => rt_steps::retain(state, alloc, *controller, *partition),
-        Event::FaultStore { kept } => rt_steps::fault_store(state, *kept),
-        Event::FaultDeep { kept } => rt_steps::fault_deep(state, *kept),
-        Event::Ask { query } => rt_steps::ask(state, alloc, query),
-        Event::Route { query, partition } => rt_steps::route(state, alloc, *query, *partition),
+        } => steps::retain(state, alloc, *controller, *partition),
+        Event::FaultStore { kept } => steps::fault_store(state, *kept),
+        Event::FaultDeep { kept } => steps::fault_deep(state, *kept),
+        Event::Ask { query } => steps::ask(state, alloc, query),
+        Event::Route { query, partition } => steps::route(state, alloc, *query, *partition),
         Event::Piece {
             query,
             partition,
             sequence,
             instance,
-        } => rt_steps::piece(state, alloc, *query, *partition, *sequence, *instance),
-        Event::Answer { query } => rt_steps::answer(state, alloc, *query),
+        } => steps::piece(state, alloc, *query, *partition, *sequence, *instance),
+        Event::Answer { query } => steps::answer(state, alloc, *query),
         Event::ShowMeta {
             partition,
             sequence,
-        } => rt_steps::show_meta(state, alloc, *partition, *sequence),
-        Event::ShowIdeal => rt_steps::show_ideal(state, alloc),
+        } => steps::show_meta(state, alloc, *partition, *sequence),
+        Event::ShowIdeal => steps::show_ideal(state, alloc),
     }
 }

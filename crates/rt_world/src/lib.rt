@@ -8,6 +8,7 @@ mod applying;
 mod ends;
 mod leaders;
 mod reading;
+mod steps;
 mod world;
 
 pub use rt_events::{Event, Outcome, Refusal};

@@ -10,6 +10,7 @@ ghost use Rattle.rt_world.specs.Step.{due_of, PassesKept, StepsKept};
 mod reading;
 
 use crate::applying::{apply, due};
+use crate::steps;
 use rt_base::{Offset, Partition};
 use rt_events::{Event, Outcome, Refusal};
 use rt_lists::Bytes;
@@ -82,7 +83,7 @@ impl World {
         if self.spent {
             return Err(Refusal::Memory);
         }
-        rt_steps::pass(&mut self.state)
+        steps::pass(&mut self.state)
     }
 
     /// Has an event happen, and says what came of it. A refused event changes nothing; after want of memory the world is
@@ -115,7 +116,7 @@ impl World {
         if self.spent {
             return Err(Refusal::Memory);
         }
-        let came = rt_steps::append(&mut self.state, alloc, partition, message);
+        let came = steps::append(&mut self.state, alloc, partition, message);
         if ran_out(&came) {
             self.spent = true;
         }
