@@ -36,6 +36,7 @@ answer_of w q a answer s there k =
     record {
       asked = a;
       there = there;
+      over = over;
       right =
           answer_right a (given answer) k.ranges k.missing k.rows w.setup.schema w.log
           (asked_served w.setup (past_of w) a over s.safe.past (few_messages w s));

@@ -1,28 +1,42 @@
--- Along events that happen a commit job goes on, until it ends as a commit ends.
+-- Along the turns of a run a commit job goes on, until it ends as a commit ends.
 use Rattle.std.proofs.Common.{◌≡◌, ◌⊎◌, inl, inr, ℕ, ◌+◌, ◌≤◌, ◌==◌, ◌&&◌, Bool, true, false, List, [], ◌∷◌, Ok, Option, Some, None, refl, sym, ◌∙◌, ap, subst, slice_get, length, arith, ⊎_elim}
 use Rattle.std.proofs.lemmas.Bool.{and_parts, cases_eq, eq-eqb, eqb-true, false≢true}
 use Rattle.std.proofs.lemmas.Option.{same_Some}
 use Rattle.rt_base.specs.declared.numbers.ControllerId.{ControllerId}
+use Rattle.rt_base.specs.declared.numbers.Offset.{Offset}
 use Rattle.rt_commit.specs.declared.job.Job.{Job}
 use Rattle.rt_commit.specs.Job.{commits}
+use Rattle.rt_commit.specs.Lasting.{commit_end}
 use Rattle.rt_commit.specs.Laws.{steps_left}
 use Rattle.rt_commit.specs.Right.{EndsSo, MetFault, StatusSo}
 use Rattle.rt_controller.specs.Right.{LeavesJob, WorksOver, job_of}
 use Rattle.rt_controller.proofs.CallsOver.{works_over}
 use Rattle.rt_commit.proofs.CommitEnds.{end_commits}
 use Rattle.rt_controller.proofs.Paired.{one_if}
-use Rattle.rt_commit.proofs.CommitEnds.{commits_to}
 use Rattle.rt_events.specs.declared.event.Event.{Event}
 use Rattle.rt_events.specs.declared.event.Event.TheVariants as event
 use Rattle.rt_events.specs.declared.outcome.Outcome.{Outcome}
 use Rattle.rt_events.specs.declared.outcome.Outcome.TheVariants as told
 use Rattle.rt_model.specs.declared.asked.Asked.{Asked}
 use Rattle.rt_model.specs.declared.job_step.JobStep.{JobStep}
+use Rattle.rt_model.specs.Metadata.{IsDoneStatus}
+use Rattle.rt_model.specs.declared.job_step.StepName.{StepName}
+use Rattle.rt_model.specs.declared.node.Seen.{Seen}
 use Rattle.rt_model.specs.declared.reply.Reply.{Reply}
+use Rattle.rt_model.specs.declared.reply.ReplyStatus.{ReplyStatus}
+use Rattle.rt_model.specs.declared.reply.ReplyStatus.TheVariants as status
+use Rattle.rt_model.specs.declared.seg_meta.SeenMeta.{SeenMeta}
+use Rattle.rt_base.specs.declared.numbers.Partition.{Partition}
+use Rattle.rt_base.specs.declared.numbers.Sequence.{Sequence}
+use Rattle.rt_controller.specs.Steps.{Works}
+use Rattle.rt_deep.specs.Memory.{means as deep_means}
+use Rattle.rt_store.specs.Memory.{means}
+use Rattle.rt_safety.proofs.SuccessEnds.{success_ends}
 use Rattle.rt_deep.specs.Meaning.{Told as ToldDeep}
 use Rattle.rt_store.specs.Meaning.{Told}
 use Rattle.rt_controller.specs.Controller.{Controlling}
 use Rattle.rt_state.specs.Applying.{Next}
+use Rattle.rt_safety.specs.Runs.{Turn, happens, passes, TurnsTo}
 use Rattle.rt_safety.specs.CommitRun.{EndsIn, GoesSo, IsOpen, GoesWithoutCrash, is_crash, job_in, open_job, steps_in}
 use Rattle.rt_state.specs.IsSafe.{past_of}
 use Rattle.rt_state.specs.IsSafeWorld.{IsSafeWorld}
@@ -35,23 +49,32 @@ use Rattle.rt_nodes.specs.declared.controller_node.ControllerNode.{ControllerNod
 use Rattle.rt_state.specs.declared.cost.Cost.{Cost}
 use Rattle.rt_state.specs.declared.state.State.{State}
 use Rattle.rt_safety.proofs.JobsOn.{Stays, answers_same, believing_stays, controller_does_stays, controllers_stay, delivers_stay, own_slot, pieces_same, repairs_stay, replies_same, retires_stay, routes_same, sends_same, server_calls_same, server_does_same, server_fetches_same, server_gets_same, slot_stays}
-use Rattle.rt_world.proofs.SafeSteps.{steps_keep}
+use Rattle.rt_safety.proofs.Runs.{leads_safe}
 
 -- ---- what an event leaves of the job
 
-abbrev GoesOn : State → ControllerId → ℕ → Asked → ℕ → Event → State → Outcome → Type 0
-GoesOn w c n a left e y outcome = EndsIn w c n a e y outcome ⊎ ((k : ℕ) × (k + steps_in c n e ≤ left) × IsOpen y c n a k)
+abbrev GoesOn : State → ControllerId → ℕ → Asked → Offset → ℕ → Turn → State → Type 0
+GoesOn w c n a end left turn y = EndsIn w c n a end turn y ⊎ ((k : ℕ) × (k + steps_in c n turn ≤ left) × IsOpen y c n a end k)
 
-still_open : (w y : State) (c : ControllerId) (n : ℕ) (a : Asked) (left : ℕ) (o : IsOpen w c n a left) → Stays w y c n o.job → IsOpen y c n a left
-still_open w y c n a left o stays =
-    record { job = o.job; there = stays o.there; asked = o.asked; commits_it = o.commits_it; few = o.few }
+abbrev GoesBy : State → ControllerId → ℕ → Asked → Offset → ℕ → Event → State → Outcome → Type 0
+GoesBy w c n a end left e y outcome = GoesOn w c n a end left (happens e outcome) y
 
--- an event that isn't a step of the job
-goes_on : (w y : State) (c : ControllerId) (n : ℕ) (a : Asked) (left : ℕ) (e : Event) (outcome : Outcome) (o : IsOpen w c n a left) → steps_in c n e ≡ 0
-    → Stays w y c n o.job → GoesOn w c n a left e y outcome
-goes_on w y c n a left e outcome o none stays = inr (left, omega (arith, none), still_open w y c n a left o stays)
+still_open : (w y : State) (c : ControllerId) (n : ℕ) (a : Asked) (end : Offset) (left : ℕ) (o : IsOpen w c n a end left) → Stays w y c n o.job
+    → IsOpen y c n a end left
+still_open w y c n a end left o stays =
+    record { job = o.job; there = stays o.there; asked = o.asked; ends_at = o.ends_at; few = o.few }
+
+-- a turn that isn't a step of the job
+goes_on : (w y : State) (c : ControllerId) (n : ℕ) (a : Asked) (end : Offset) (left : ℕ) (turn : Turn) (o : IsOpen w c n a end left) → steps_in c n turn ≡ 0
+    → Stays w y c n o.job → GoesOn w c n a end left turn y
+goes_on w y c n a end left turn o none stays = inr (left, omega (arith, none), still_open w y c n a end left o stays)
 
 -- ---- a step of a job
+
+-- a Done write is told of a commit that succeeds
+done_so : (h : List Seen) (p : Partition) (q : Sequence) (rose : Type 0) (b : Bool) (n : StepName) (r : ReplyStatus) (seen : SeenMeta) → r ≡ status.CommitSuccess seen
+    → StatusSo h p q rose b n r → IsDoneStatus seen.meta.status
+done_so h p q rose b n r seen is so = let success = subst (λ x. StatusSo h p q rose b n x) is so in success.1.1
 
 stepped_controllers : (w : State) (cost : Cost) (step : JobStep) (o : Option Reply) → (stepped_by w cost step o).0.controllers ≡ w.controllers
 stepped_controllers w cost step None = refl
@@ -63,31 +86,35 @@ after_job w d node new store deep cost = noted_set (after_step w d node new stor
 same_controller : (c d : ControllerId) → c.0 ≡ d.0 → c ≡ d
 same_controller c d e = let id : ℕ → ControllerId = λ n. record { 0 = n } in ap id e
 
-step_counts : (c d : ControllerId) (n m : ℕ) → ((c.0 ≡ d.0) → (n ≡ m) → ⊥) → steps_in c n (event.Job d m) ≡ 0
-step_counts c d n m other = by_test ((d.0 == c.0) && (m == n)) refl
+step_counts : (c d : ControllerId) (n m : ℕ) (outcome : Outcome) → ((c.0 ≡ d.0) → (n ≡ m) → ⊥) → steps_in c n (happens (event.Job d m) outcome) ≡ 0
+step_counts c d n m outcome other = by_test ((d.0 == c.0) && (m == n)) refl
   where
     by_test : (b : Bool) → ((d.0 == c.0) && (m == n)) ≡ b → one_if b ≡ 0
     by_test true e = let parts = and_parts (d.0 == c.0) (m == n) e in absurd (other (sym (eqb-true d.0 c.0 parts.0)) (sym (eqb-true m n parts.1)))
     by_test false e = refl
 
-one_step : (c : ControllerId) (n : ℕ) → steps_in c n (event.Job c n) ≤ 1
-one_step c n = by_test ((c.0 == c.0) && (n == n))
+one_step : (c : ControllerId) (n : ℕ) (outcome : Outcome) → steps_in c n (happens (event.Job c n) outcome) ≤ 1
+one_step c n outcome = by_test ((c.0 == c.0) && (n == n))
   where
     by_test : (b : Bool) → one_if b ≤ 1
     by_test true = omega arith
     by_test false = omega arith
 
-module _ (w : State) (c : ControllerId) (n : ℕ) (a : Asked) (left : ℕ) (s : IsSafeWorld w) (o : IsOpen w c n a left) where
+module _ (w : State) (c : ControllerId) (n : ℕ) (a : Asked) (end : Offset) (left : ℕ) (s : IsSafeWorld w) (o : IsOpen w c n a end left) where
   module _ (node : ControllerNode) (at : slice_get w.controllers c.0 ≡ Some node) (new : Controlling) (step : JobStep) (store : Told) (deep : ToldDeep) (cost : Cost)
-      (k : WorksOver w.setup (past_of w) w.store store w.deep deep node.controller new n step) where
+      (k : WorksOver w.setup (past_of w) w.store store w.deep deep node.controller new n step)
+      (works : Works (means w.store) (means store) (deep_means w.deep) (deep_means deep) node.controller n w.moment new (Ok step)) where
     its_job : k.job ≡ o.job
     its_job = same_Some k.job o.job (sym k.open_job ∙ sym (ap (λ (x : Option ControllerNode). job_in x n) at) ∙ o.there)
 
     asked_is : k.job.asked ≡ a
     asked_is = ap (λ (x : Job). x.asked) its_job ∙ o.asked
 
+    end_is : commit_end k.job.stage ≡ Some end
+    end_is = ap (λ (x : Job). commit_end x.stage) its_job ∙ o.ends_at
+
     commits_is : commits k.job.stage ≡ true
-    commits_is = ap (λ (x : Job). commits x.stage) its_job ∙ o.commits_it
+    commits_is = end_commits k.job.stage end end_is
 
     few_left : steps_left k.job.stage ≤ left
     few_left = subst (λ (x : Job). steps_left x.stage ≤ left) (sym its_job) o.few
@@ -100,29 +127,28 @@ module _ (w : State) (c : ControllerId) (n : ℕ) (a : Asked) (left : ℕ) (s : 
         ap (λ (l : List ControllerNode). job_in (slice_get l c.0) n) (stepped_controllers (after_job w c node new store deep cost) cost step r)
         ∙ ap (λ (x : Option ControllerNode). job_in x n) (own_slot w.controllers c.0 node (record node { controller = new }) at)
 
-    by_reply : (r : Option Reply) → LeavesJob k.job r (job_of new n)
+    by_reply : (r : Option Reply) → step.reply ≡ r → LeavesJob k.job r (job_of new n)
         → EndsSo store.writes k.job.asked.partition k.job.asked.sequence (MetFault w.store store w.deep deep) (commits k.job.stage) step.step r
-        → GoesOn w c n a left (event.Job c n) (y r) (stepped_by (after_job w c node new store deep cost) cost step r).1
-    by_reply None (next, there, number, asked, end, less) so =
-        let to = commits_to k.job.stage commits_is in
+        → GoesBy w c n a end left (event.Job c n) (y r) (stepped_by (after_job w c node new store deep cost) cost step r).1
+    by_reply None e (next, there, number, asked, same_end, less) so =
         inr (
           steps_left next.stage,
-          omega (arith, less, few_left, one_step c n),
+          omega (arith, less, few_left, one_step c n (stepped_by (after_job w c node new store deep cost) cost step None).1),
           record {
             job = next;
             there = opened None ∙ there;
             asked = asked ∙ asked_is;
-            commits_it = end_commits next.stage to.0 (end ∙ to.1);
+            ends_at = same_end ∙ end_is;
             few = omega arith;
           },
         )
-    by_reply (Some reply) (gone, number, partition, sequence) so =
+    by_reply (Some reply) e (gone, number, partition, sequence) so =
         inl
         (record {
           step = step;
           reply = reply;
           own = refl;
-          told_so = refl;
+          told_so = e;
           was_sent = refl;
           number = number ∙ ap (λ (x : Asked). x.number) asked_is;
           partition = partition ∙ ap (λ (x : Asked). x.partition) asked_is;
@@ -130,54 +156,62 @@ module _ (w : State) (c : ControllerId) (n : ℕ) (a : Asked) (left : ℕ) (s : 
           so =
               subst (λ (b : Bool). StatusSo store.writes a.partition a.sequence (MetFault w.store store w.deep deep) b step.step reply.status) commits_is
               (subst (λ (x : Asked). StatusSo store.writes x.partition x.sequence (MetFault w.store store w.deep deep) (commits k.job.stage) step.step reply.status) asked_is so);
+          success =
+              λ seen is. success_ends w.setup (past_of w) (means w.store) (means store) (deep_means w.deep) (deep_means deep) node.controller n w.moment
+              (record { controller = new; step = step }) o.job end reply seen (s.safe.controllers c.0 node at).over works
+              (sym (ap (λ (x : Option ControllerNode). job_in x n) at) ∙ o.there) o.ends_at e is
+              (done_so store.writes k.job.asked.partition k.job.asked.sequence (MetFault w.store store w.deep deep) (commits k.job.stage) step.step reply.status seen is so);
+          gone = opened (Some reply) ∙ gone;
         })
 
-    own_goes : GoesOn w c n a left (event.Job c n) (y step.reply) (stepped (after_job w c node new store deep cost) cost step).1
-    own_goes = by_reply step.reply k.leaves k.ends
+    own_goes : GoesBy w c n a end left (event.Job c n) (y step.reply) (stepped (after_job w c node new store deep cost) cost step).1
+    own_goes = by_reply step.reply refl k.leaves k.ends
 
   own_at : (d : ControllerId) (m : ℕ) (node : ControllerNode) → slice_get w.controllers d.0 ≡ Some node → (new : Controlling) (step : JobStep) (store : Told)
-      (deep : ToldDeep) (cost : Cost) → WorksOver w.setup (past_of w) w.store store w.deep deep node.controller new m step → c.0 ≡ d.0 → n ≡ m
-      → GoesOn w c n a left (event.Job d m) (stepped (after_job w d node new store deep cost) cost step).0 (stepped (after_job w d node new store deep cost) cost step).1
-  own_at d m node at new step store deep cost k i f =
+      (deep : ToldDeep) (cost : Cost) → WorksOver w.setup (past_of w) w.store store w.deep deep node.controller new m step
+      → Works (means w.store) (means store) (deep_means w.deep) (deep_means deep) node.controller m w.moment new (Ok step) → c.0 ≡ d.0 → n ≡ m
+      → GoesBy w c n a end left (event.Job d m) (stepped (after_job w d node new store deep cost) cost step).0 (stepped (after_job w d node new store deep cost) cost step).1
+  own_at d m node at new step store deep cost k works i f =
       let Q : ControllerId → ℕ → Type 0 = λ d m. slice_get w.controllers d.0 ≡ Some node
       → WorksOver w.setup (past_of w) w.store store w.deep deep node.controller new m step
-      → GoesOn w c n a left (event.Job d m) (stepped (after_job w d node new store deep cost) cost step).0 (stepped (after_job w d node new store deep cost) cost step).1 in
+      → Works (means w.store) (means store) (deep_means w.deep) (deep_means deep) node.controller m w.moment new (Ok step)
+      → GoesBy w c n a end left (event.Job d m) (stepped (after_job w d node new store deep cost) cost step).0 (stepped (after_job w d node new store deep cost) cost step).1 in
       subst (λ (b : ControllerId). Q b m) (same_controller c d i)
-      (subst (λ (b : ℕ). Q c b) f (λ at k. own_goes node at new step store deep cost k)) at k
+      (subst (λ (b : ℕ). Q c b) f (λ at k works. own_goes node at new step store deep cost k works)) at k works
 
   -- the step of any job
-  pub job_goes : (d : ControllerId) (m : ℕ) (cost : Cost) (x : Next) → JobSteps w d m cost x → GoesOn w c n a left (event.Job d m) x.0 x.1
+  pub job_goes : (d : ControllerId) (m : ℕ) (cost : Cost) (x : Next) → JobSteps w d m cost x → GoesBy w c n a end left (event.Job d m) x.0 x.1
   job_goes d m cost x h = by_node (slice_get w.controllers d.0) refl h
     where
-      by_node : (p : Option ControllerNode) → slice_get w.controllers d.0 ≡ p → JobStepsAt p w d m cost x → GoesOn w c n a left (event.Job d m) x.0 x.1
+      by_node : (p : Option ControllerNode) → slice_get w.controllers d.0 ≡ p → JobStepsAt p w d m cost x → GoesBy w c n a end left (event.Job d m) x.0 x.1
       by_node None at h = absurd h
       by_node (Some node) at (new, step, store, deep, works, is) =
           let k = works_over w.setup (past_of w) w.store store w.deep deep node.controller new m w.moment step s.safe.setup s.safe.past refl refl
           (s.safe.controllers d.0 node at).over works in
           let z = stepped (after_job w d node new store deep cost) cost step in
-          let G : Next → Type 0 = λ v. GoesOn w c n a left (event.Job d m) v.0 v.1 in
+          let G : Next → Type 0 = λ v. GoesBy w c n a end left (event.Job d m) v.0 v.1 in
           let same = stepped_controllers (after_job w d node new store deep cost) cost step step.reply in
           let other : ((c.0 ≡ d.0) → (n ≡ m) → ⊥) → G z = λ apart.
-          goes_on w z.0 c n a left (event.Job d m) z.1 o (step_counts c d n m apart)
+          goes_on w z.0 c n a end left (happens (event.Job d m) z.1) o (step_counts c d n m z.1 apart)
           (slot_stays w z.0 c d n o.job node (record node { controller = new }) at same (λ i e. k.stay n o.job (λ f. apart i f) e)) in
           subst G (sym is)
           (⊎_elim
-          (λ i. ⊎_elim (λ f. own_at d m node at new step store deep cost k i f) (λ ne. other (λ i f. ne f)) (cases_eq n m))
+          (λ i. ⊎_elim (λ f. own_at d m node at new step store deep cost k works i f) (λ ne. other (λ i f. ne f)) (cases_eq n m))
           (λ ne. other (λ i f. ne i)) (cases_eq c.0 d.0))
 
 -- ---- an event
 
-module _ (w : State) (c : ControllerId) (n : ℕ) (a : Asked) (left : ℕ) (s : IsSafeWorld w) (o : IsOpen w c n a left) where
-  stays : (e : Event) (x : Next) → steps_in c n e ≡ 0 → Stays w x.0 c n o.job → GoesOn w c n a left e x.0 x.1
-  stays e x none k = goes_on w x.0 c n a left e x.1 o none k
+module _ (w : State) (c : ControllerId) (n : ℕ) (a : Asked) (end : Offset) (left : ℕ) (s : IsSafeWorld w) (o : IsOpen w c n a end left) where
+  stays : (e : Event) (x : Next) → steps_in c n (happens e x.1) ≡ 0 → Stays w x.0 c n o.job → GoesBy w c n a end left e x.0 x.1
+  stays e x none k = goes_on w x.0 c n a end left (happens e x.1) o none k
 
-  same : (e : Event) (x : Next) → steps_in c n e ≡ 0 → x.0.controllers ≡ w.controllers → GoesOn w c n a left e x.0 x.1
+  same : (e : Event) (x : Next) → steps_in c n (happens e x.1) ≡ 0 → x.0.controllers ≡ w.controllers → GoesBy w c n a end left e x.0 x.1
   same e x none k = stays e x none (controllers_stay w x.0 c n o.job k)
 
-  by : (e : Event) (x z : Next) → steps_in c n e ≡ 0 → x ≡ z → z.0.controllers ≡ w.controllers → GoesOn w c n a left e x.0 x.1
+  by : (e : Event) (x z : Next) → steps_in c n (happens e x.1) ≡ 0 → x ≡ z → z.0.controllers ≡ w.controllers → GoesBy w c n a end left e x.0 x.1
   by e x z none is k = same e x none (ap (λ (v : Next). v.0.controllers) is ∙ k)
 
-  pub event_goes : (e : Event) (y : State) (outcome : Outcome) → is_crash c e ≡ false → Steps w e y (Ok outcome) → GoesOn w c n a left e y outcome
+  pub event_goes : (e : Event) (y : State) (outcome : Outcome) → is_crash c (happens e outcome) ≡ false → Steps w e y (Ok outcome) → GoesBy w c n a end left e y outcome
   event_goes (event.Produce p message) y outcome calm h = by (event.Produce p message) (y, outcome) _ refl h.2 refl
   event_goes (event.Tick millis) y outcome calm h = by (event.Tick millis) (y, outcome) _ refl h.2 refl
   event_goes (event.Lead d on) y outcome calm h =
@@ -191,7 +225,7 @@ module _ (w : State) (c : ControllerId) (n : ℕ) (a : Asked) (left : ℕ) (s : 
   event_goes (event.Extend i p q millis) y outcome calm h = same (event.Extend i p q millis) (y, outcome) refl (sends_same w i _ h.0 (y, outcome) h.2)
   event_goes (event.Deliver m d) y outcome calm h =
       stays (event.Deliver m d) (y, outcome) refl (delivers_stay w c d m n o.job h.0 (y, outcome) s h.2)
-  event_goes (event.Job d m) y outcome calm h = job_goes w c n a left s o d m h.0 (y, outcome) h.2
+  event_goes (event.Job d m) y outcome calm h = job_goes w c n a end left s o d m h.0 (y, outcome) h.2
   event_goes (event.Reply m) y outcome calm h = same (event.Reply m) (y, outcome) refl (replies_same w m h.0 (y, outcome) h.2)
   event_goes (event.CrashServer i) y outcome calm h = same (event.CrashServer i) (y, outcome) refl (server_does_same w i _ h.0 (y, outcome) h.2)
   event_goes (event.CrashController d) y outcome calm h =
@@ -216,12 +250,17 @@ module _ (w : State) (c : ControllerId) (n : ℕ) (a : Asked) (left : ℕ) (s : 
   event_goes (event.ShowMeta p q) y outcome calm h = by (event.ShowMeta p q) (y, outcome) _ refl h.2 refl
   event_goes event.ShowIdeal y outcome calm h = by event.ShowIdeal (y, outcome) _ refl h.2 refl
 
--- ---- events, one after the other
+  pub turn_goes : (turn : Turn) (y : State) → is_crash c turn ≡ false → TurnsTo w turn y → GoesOn w c n a end left turn y
+  turn_goes (happens e outcome) y calm (fits, steps) = event_goes e y outcome calm steps
+  turn_goes passes y calm (cost, due, is) =
+      goes_on w y c n a end left passes o refl (controllers_stay w y c n o.job (ap (λ (z : State). z.controllers) is))
 
-pub commit_runs : (c : ControllerId) (n : ℕ) (a : Asked) (left : ℕ) (w : State) (es : List Event) (x : State) (r : GoesWithoutCrash c w es x) → IsSafeWorld w
-    → IsOpen w c n a left → GoesSo c n a left w es x r
-commit_runs c n a left w [] x r s o = o
-commit_runs c n a left w (e ∷ es) x (y, outcome, fits, calm, h, rest) s o =
+-- ---- turns, one after the other
+
+pub commit_runs : (c : ControllerId) (n : ℕ) (a : Asked) (end : Offset) (left : ℕ) (w : State) (turns : List Turn) (x : State) (r : GoesWithoutCrash c w turns x)
+    → IsSafeWorld w → IsOpen w c n a end left → GoesSo c n a end left w turns x r
+commit_runs c n a end left w [] x r s o = o
+commit_runs c n a end left w (turn ∷ turns) x (y, t, calm, rest) s o =
     ⊎_elim (λ ends. inl ends)
-    (λ g. inr (g.0, g.1, commit_runs c n a g.0 y es x rest (steps_keep w e y (Ok outcome) (λ f. cc) fits s h) g.2))
-    (event_goes w c n a left s o e y outcome calm h)
+    (λ g. inr (g.0, g.1, commit_runs c n a end g.0 y turns x rest (leads_safe w (turn ∷ []) y s (y, t, refl)) g.2))
+    (turn_goes w c n a end left s o turn y calm t)

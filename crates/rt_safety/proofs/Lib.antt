@@ -12,6 +12,8 @@ pub mod JobsOn
 pub mod Later
 pub mod Marks
 pub mod OwnLimits
+pub mod Produced
 pub mod Runs
+pub mod SuccessEnds
 pub mod Unretired
 pub mod Worlds

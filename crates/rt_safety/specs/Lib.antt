@@ -5,5 +5,6 @@ pub mod IsAnswered
 pub mod IsRightReplica
 pub mod Later
 pub mod Limits
+pub mod Produced
 pub mod Runs
 pub mod Unretired

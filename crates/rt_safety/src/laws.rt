@@ -1,12 +1,14 @@
 //! The laws of a cluster. Each stands on a function that does nothing: its clause is the law.
 ghost use Rattle.std.specs.Prelude.{◌≡◌, ℕ, List, Some, Result, Ok, Err, slice_get};
 ghost use Rattle.rt_base.specs.declared.numbers.ControllerId.{ControllerId};
+ghost use Rattle.rt_base.specs.declared.numbers.Offset.{Offset};
 ghost use Rattle.rt_controller.specs.Right.{IsTimely};
 ghost use Rattle.rt_controller.specs.declared.segment_machine.SegmentMachine.{SegmentMachine};
 ghost use Rattle.rt_model.specs.Messages.{asked_of};
 ghost use Rattle.rt_model.specs.declared.asked.Asked.{Asked};
 ghost use Rattle.rt_model.specs.declared.request.Request.{Request};
-ghost use Rattle.rt_safety.specs.CommitRun.{GoesSo, IsOpen, GoesWithoutCrash};
+ghost use Rattle.rt_safety.specs.CommitRun.{GoesSo, GoesWithoutCrash, IsOpen, Opens};
+ghost use Rattle.rt_safety.specs.Runs.{Turn};
 ghost use Rattle.rt_events.specs.declared.event.Event.{Event};
 ghost use Rattle.rt_events.specs.declared.event.Event.TheVariants as event;
 ghost use Rattle.rt_events.specs.declared.outcome.Outcome.{Outcome};
@@ -36,19 +38,20 @@ pub fn the_first_world_is_safe()
 {}
 
 /// A COMMIT_END that is delivered in time to a controller that believes it leads, from the machine's winner, opens the commit job of its
-/// segment, with 23 steps left at most.
+/// segment, up to its own offset, with 23 steps left at most; and the number that is told is the job's.
 pub fn a_commit_end_in_time_opens_its_commit()
     ensures { (w : State) (m : ℕ) (c : ControllerId) (q : Request) (node : ControllerNode) (path : List ℕ) (place : ℕ) (g : SegmentMachine)
         (y : State) (outcome : Outcome) → IsSafeWorld w → request_at w m ≡ Some q → slice_get w.controllers c.0 ≡ Some node
         → IsTimely node.controller q w.moment path place g → Steps w (event.Deliver m c) y (Ok outcome)
-        → IsOpen y c node.controller.started (asked_of q) 23 }
+        → Opens y c node.controller.started (asked_of q) q.offset outcome }
 {}
 
-/// A commit job that is open goes on along any events without a crash of its controller, with one step less left at each of its own steps,
-/// until it ends in one of them: with COMMIT_SUCCESS, or for a node that is gone or has another version, ten versions of the ideal state
-/// each found in place of the one just read, or a fault that was met in that step; and its reply is sent.
+/// A commit job that is open goes on along any turns without a crash of its controller, lines that are no events among them, with one step
+/// less left at each of its own steps, until it ends in one of them: with COMMIT_SUCCESS, or for a node that is gone or has another version,
+/// ten versions of the ideal state each found in place of the one just read, or a fault that was met in that step. Its reply is the one that
+/// is told of that step; it is sent, and the job is gone.
 #[tactic(auto, using(crate::proofs::CommitRuns::commit_runs))]
 pub fn an_open_commit_goes_on_until_it_ends()
-    ensures { (c : ControllerId) (n : ℕ) (a : Asked) (left : ℕ) (w : State) (events : List Event) (x : State) (r : GoesWithoutCrash c w events x)
-        → IsSafeWorld w → IsOpen w c n a left → GoesSo c n a left w events x r }
+    ensures { (c : ControllerId) (n : ℕ) (a : Asked) (end : Offset) (left : ℕ) (w : State) (turns : List Turn) (x : State)
+        (r : GoesWithoutCrash c w turns x) → IsSafeWorld w → IsOpen w c n a end left → GoesSo c n a end left w turns x r }
 {}

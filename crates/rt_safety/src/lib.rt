@@ -17,7 +17,8 @@ pub use laws_of_absence::{
 };
 pub use laws_of_limits::each_event_has_its_own_limits;
 pub use laws_of_runs::{
-    a_run_only_adds, every_world_of_every_run_is_safe, no_upload_is_bad_and_no_sender_a_stranger,
+    a_run_appends_what_is_produced, a_run_only_adds, every_world_of_every_run_is_safe,
+    no_upload_is_bad_and_no_sender_a_stranger,
 };
 pub use laws_of_worlds::{
     every_answer_is_right, files_and_messages_are_right, no_download_meets_a_bad_file,
