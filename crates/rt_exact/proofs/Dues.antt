@@ -11,7 +11,7 @@ use Rattle.rt_events.specs.declared.refusal.Refusal.TheVariants.{NoSuchNode, Not
 use Rattle.rt_state.specs.Finding.{has_partition, has_server, query_at, query_in}
 use Rattle.rt_state.specs.Queries.{answer_by, answer_due, piece_by, piece_due, route_by, route_due}
 use Rattle.rt_state.specs.Room.{dropped, no_cost, only_if, priced}
-use Rattle.rt_world.specs.Step.{due_of}
+use Rattle.rt_world.specs.Step.{due_at, due_of}
 use Rattle.rt_state.specs.declared.state.State.{State}
 use Rattle.rt_exact.specs.Shown.{query_shown, shown}
 use Rattle.rt_exact.proofs.Queries.{answer_due_shown, piece_due_shown, tried_shown}
@@ -29,7 +29,7 @@ route_by_shown : (w : State) (p : Partition) (o : Option Asking) → route_by w 
 route_by_shown w p None = refl
 route_by_shown w p (Some a) = ap (λ b. only_if (not b) NothingToDo (priced w no_cost)) (tried_shown a p)
 
-pub route_due_shown : (w : State) (q : ℕ) (p : Partition) → route_due (shown w) q p ≡ route_due w q p
+route_due_shown : (w : State) (q : ℕ) (p : Partition) → route_due (shown w) q p ≡ route_due w q p
 route_due_shown w q p =
     ap (λ due. only_if (has_partition w p) NoSuchNode due) (ap (λ o. route_by w p o) (query_at_shown w q) ∙ route_by_shown w p (query_at w q))
 
@@ -37,7 +37,7 @@ piece_by_shown : (w : State) (p : Partition) (s : Sequence) (i : Instance) (o : 
 piece_by_shown w p s i None = refl
 piece_by_shown w p s i (Some a) = ap (λ b. only_if b NothingToDo (priced w no_cost)) (piece_due_shown a p s i)
 
-pub piece_due_at : (w : State) (q : ℕ) (p : Partition) (s : Sequence) (i : Instance) → piece_due (shown w) q p s i ≡ piece_due w q p s i
+piece_due_at : (w : State) (q : ℕ) (p : Partition) (s : Sequence) (i : Instance) → piece_due (shown w) q p s i ≡ piece_due w q p s i
 piece_due_at w q p s i =
     ap (λ due. only_if (has_server w i && has_partition w p) NoSuchNode due)
     (ap (λ o. piece_by w p s i o) (query_at_shown w q) ∙ piece_by_shown w p s i (query_at w q))
@@ -46,16 +46,16 @@ answer_by_shown : (w : State) (o : Option Asking) → answer_by w (query_shown o
 answer_by_shown w None = refl
 answer_by_shown w (Some a) = ap (λ b. only_if b NothingToDo (priced w no_cost)) (answer_due_shown a)
 
-pub answer_due_at : (w : State) (q : ℕ) → answer_due (shown w) q ≡ answer_due w q
+answer_due_at : (w : State) (q : ℕ) → answer_due (shown w) q ≡ answer_due w q
 answer_due_at w q = ap (λ o. answer_by w o) (query_at_shown w q) ∙ answer_by_shown w (query_at w q)
 
 -- ---- any event
 
-pub due_shown : (w : State) (e : Event) → due_of (shown w) e ≡ due_of w e
-due_shown w (event.Route q p) = ap (λ due. dropped due) (route_due_shown w q p)
-due_shown w (event.Piece q p s i) = ap (λ due. dropped due) (piece_due_at w q p s i)
-due_shown w (event.Answer q) = ap (λ due. dropped due) (answer_due_at w q)
-due_shown w e = refl
+pub due_at_shown : (w : State) (e : Event) → due_at (shown w) e ≡ due_at w e
+due_at_shown w (event.Route q p) = route_due_shown w q p
+due_at_shown w (event.Piece q p s i) = piece_due_at w q p s i
+due_at_shown w (event.Answer q) = answer_due_at w q
+due_at_shown w e = refl
 
 pub due_alike : (w v : State) (e : Event) → shown w ≡ shown v → due_of w e ≡ due_of v e
-due_alike w v e same = sym (due_shown w e) ∙ ap (λ u. due_of u e) same ∙ due_shown v e
+due_alike w v e same = ap (λ due. dropped due) (sym (due_at_shown w e) ∙ ap (λ u. due_at u e) same ∙ due_at_shown v e)

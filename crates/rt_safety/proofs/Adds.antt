@@ -1,10 +1,7 @@
 -- What one step of a node adds to a world: all that was there stays, and of replies it sends a possible one at most.
 use Rattle.std.proofs.Common.{◌≡◌, ◌⊎◌, inl, inr, List, [], ◌∷◌, ◌++◌, Option, Some, None, refl, sym, subst, slice_get}
-use Rattle.std.specs.Prelude.{slice_set}
 use Rattle.rt_base.specs.declared.numbers.ControllerId.{ControllerId}
-use Rattle.rt_base.specs.declared.numbers.Instance.{Instance}
 use Rattle.rt_controller.specs.Right.{IsPossibleStatus}
-use Rattle.rt_deep.specs.Meaning.{Told as ToldDeep}
 use Rattle.rt_deep.specs.declared.deep_put.DeepPut.{DeepPut}
 use Rattle.rt_events.specs.declared.outcome.Outcome.{Outcome}
 use Rattle.rt_lists.specs.Members.{Has, IsFront}
@@ -17,17 +14,14 @@ use Rattle.rt_model.specs.declared.sent.Sent.TheVariants as sent
 use Rattle.rt_past.specs.Past.{Past, Grows, with_history, with_files, with_log, with_sent}
 use Rattle.rt_past.proofs.Growth.{grows_same}
 use Rattle.rt_past.proofs.Ways.{no_reply, one_reply}
-use Rattle.rt_store.specs.Meaning.{Told}
 use Rattle.rt_stream.specs.Log.{Log}
 use Rattle.rt_state.specs.Applying.{Next}
 use Rattle.rt_safety.specs.GoesOn.{GoesOn}
 use Rattle.rt_state.specs.IsSafe.{past_of}
-use Rattle.rt_state.specs.Nodes.{with_server, with_controller, ServerStep, ServerDoesAt, ServerDoes, ServerCallsAt, ServerCalls, ServerGetsAt, ServerGets, ServerFetchesAt, ServerFetches, ControllerDoesAt, ControllerDoes}
-use Rattle.rt_state.specs.Requests.{AskStep, SendsAt, SendsRequest, sends}
+use Rattle.rt_state.specs.Nodes.{with_controller, ControllerDoesAt, ControllerDoes}
 use Rattle.rt_state.specs.Room.{counted}
 use Rattle.rt_nodes.specs.declared.controller_node.ControllerNode.{ControllerNode}
 use Rattle.rt_state.specs.declared.cost.Cost.{Cost}
-use Rattle.rt_nodes.specs.declared.server_node.ServerNode.{ServerNode}
 use Rattle.rt_state.specs.declared.state.State.{State}
 
 -- a world goes on to another one, and each reply that was sent meanwhile has a possible status
@@ -43,10 +37,10 @@ grows_history a h front = record { log = (grows_same a).log; history = front; fi
 pub grows_sent : (a : Past) (m : Sent) → Grows a (with_sent a m)
 grows_sent a m = record { log = (grows_same a).log; history = front_same a.history; files = front_same a.files; sent = front_push a.sent m }
 
-same_files : (a : Past) (files : List DeepPut) → files ≡ a.files → Grows a (with_files a files)
+pub same_files : (a : Past) (files : List DeepPut) → files ≡ a.files → Grows a (with_files a files)
 same_files a files e = subst (λ (fs : List DeepPut). Grows a (with_files a fs)) (sym e) (grows_same a)
 
-same_log : (a : Past) (log : Log) → log ≡ a.log → Grows a (with_log a log)
+pub same_log : (a : Past) (log : Log) → log ≡ a.log → Grows a (with_log a log)
 same_log a log e = subst (λ (l : Log). Grows a (with_log a l)) (sym e) (grows_same a)
 
 -- ---- nothing is sent
@@ -80,61 +74,6 @@ adds_reply old new y setup more past possible =
     by_place : (r : Reply) → Has old.sent (sent.Reply r) ⊎ (sent.Reply y ≡ sent.Reply r) → Has old.sent (sent.Reply r) ⊎ IsPossibleStatus r.status
     by_place r (inl has) = inl has
     by_place r (inr same) = inr (subst (λ (z : Reply). IsPossibleStatus z.status) (one_reply y r same) possible)
-
--- ---- a server's step
-
-pub server_does_adds : (w : State) (i : Instance) (does : ServerStep) (cost : Cost) (x : Next) → ServerDoes w i does cost x → Adds w x.0
-server_does_adds w i does cost x h = by_node (slice_get w.servers i.0) h
-  where
-    by_node : (n : Option ServerNode) → ServerDoesAt n w i does cost x → Adds w x.0
-    by_node None h = absurd h
-    by_node (Some old) (new, step, is) =
-        subst (Adds w) (sym is) (adds_quietly w (counted (with_server w i new) cost) refl refl (grows_same (past_of w)))
-
-pub server_calls_adds : (w : State) (i : Instance) (does : Told → Told → ServerStep) (cost : Cost) (x : Next)
-    → ((old new : ServerNode) (store : Told) (o : Outcome) → does w.store store old new o → IsFront w.store.writes store.writes)
-    → ServerCalls w i does cost x → Adds w x.0
-server_calls_adds w i does cost x front h = by_node (slice_get w.servers i.0) h
-  where
-    by_node : (n : Option ServerNode) → ServerCallsAt n w i does cost x → Adds w x.0
-    by_node None h = absurd h
-    by_node (Some old) (new, store, step, is) =
-        subst (Adds w) (sym is)
-        (adds_quietly w (counted (record w { servers = slice_set w.servers i.0 new; store = store }) cost) refl refl
-        (grows_history (past_of w) store.writes (front old new store x.1 step)))
-
-pub server_gets_adds : (w : State) (i : Instance) (does : ToldDeep → ToldDeep → ServerStep) (cost : Cost) (x : Next)
-    → ((old new : ServerNode) (deep : ToldDeep) (o : Outcome) → does w.deep deep old new o → deep.files ≡ w.deep.files)
-    → ServerGets w i does cost x → Adds w x.0
-server_gets_adds w i does cost x same h = by_node (slice_get w.servers i.0) h
-  where
-    by_node : (n : Option ServerNode) → ServerGetsAt n w i does cost x → Adds w x.0
-    by_node None h = absurd h
-    by_node (Some old) (new, deep, step, is) =
-        subst (Adds w) (sym is)
-        (adds_quietly w (counted (record w { servers = slice_set w.servers i.0 new; deep = deep }) cost) refl refl
-        (same_files (past_of w) deep.files (same old new deep x.1 step)))
-
-pub server_fetches_adds : (w : State) (i : Instance) (does : Log → Log → ServerStep) (cost : Cost) (x : Next)
-    → ((old new : ServerNode) (log : Log) (o : Outcome) → does w.log log old new o → log ≡ w.log)
-    → ServerFetches w i does cost x → Adds w x.0
-server_fetches_adds w i does cost x same h = by_node (slice_get w.servers i.0) h
-  where
-    by_node : (n : Option ServerNode) → ServerFetchesAt n w i does cost x → Adds w x.0
-    by_node None h = absurd h
-    by_node (Some old) (new, log, step, is) =
-        subst (Adds w) (sym is)
-        (adds_quietly w (counted (record w { servers = slice_set w.servers i.0 new; log = log }) cost) refl refl
-        (same_log (past_of w) log (same old new log x.1 step)))
-
-pub server_sends_adds : (w : State) (i : Instance) (asks : AskStep) (cost : Cost) (x : Next) → SendsRequest w i asks cost x → Adds w x.0
-server_sends_adds w i asks cost x h = by_node (slice_get w.servers i.0) h
-  where
-    by_node : (n : Option ServerNode) → SendsAt n w i asks cost x → Adds w x.0
-    by_node None h = absurd h
-    by_node (Some old) (new, request, step, is) =
-        subst (λ (y : Next). Adds w y.0) (sym is)
-        (adds_request w (counted (sends (with_server w i new) request).0 cost) request refl refl (grows_sent (past_of w) (sent.Request request)))
 
 -- ---- a controller's own step
 

@@ -1,11 +1,8 @@
--- What each event adds to a safe world, and what turns add to it.
-use Rattle.std.proofs.Common.{◌≡◌, ℕ, Bool, List, Ok, Option, Some, None, refl, sym, subst, slice_get, length}
-use Rattle.std.specs.Prelude.{slice_set}
+-- What a controller's step that calls the stores adds to a safe world.
+use Rattle.std.proofs.Common.{◌≡◌, ◌<◌, ℕ, Bool, List, Option, Some, None, refl, sym, subst, slice_get, length}
 use Rattle.rt_base.specs.declared.numbers.ControllerId.{ControllerId}
-use Rattle.rt_base.specs.declared.numbers.Instance.{Instance}
 use Rattle.rt_base.specs.declared.numbers.Partition.{Partition}
 use Rattle.rt_base.specs.declared.numbers.Sequence.{Sequence}
-use Rattle.rt_broker.specs.Asking.{Asking, piece_at}
 use Rattle.rt_controller.specs.Controller.{Controlling}
 use Rattle.rt_commit.specs.Job.{commits}
 use Rattle.rt_commit.specs.Right.{EndsSo, FailsSo, MetFault, StatusSo}
@@ -15,12 +12,9 @@ use Rattle.rt_controller.specs.declared.handled.Handled.TheVariants as handled
 use Rattle.rt_controller.proofs.CallsOver.{handles_over, works_over}
 use Rattle.rt_deep.specs.Meaning.{Told as ToldDeep}
 use Rattle.rt_deep.specs.declared.deep_put.DeepPut.{DeepPut}
-use Rattle.rt_lists.specs.Members.{IsFront}
-use Rattle.rt_lists.proofs.Members.{front_same}
 use Rattle.rt_model.specs.declared.job_step.JobStep.{JobStep}
 use Rattle.rt_model.specs.declared.job_step.StepName.{StepName}
 use Rattle.rt_model.specs.declared.node.Seen.{Seen}
-use Rattle.rt_model.specs.declared.piece.Piece.{Piece}
 use Rattle.rt_model.specs.declared.reply.FailCause.{FailCause}
 use Rattle.rt_model.specs.declared.reply.FailCause.TheVariants as cause
 use Rattle.rt_model.specs.declared.reply.Reply.{Reply}
@@ -29,28 +23,25 @@ use Rattle.rt_model.specs.declared.reply.ReplyStatus.TheVariants as status
 use Rattle.rt_model.specs.declared.request.Request.{Request}
 use Rattle.rt_model.specs.declared.sent.Sent.TheVariants as sent
 use Rattle.rt_past.specs.Past.{Past, Grows, with_history, with_files, with_sent}
-use Rattle.rt_past.proofs.Growth.{grows_same, grows_then}
+use Rattle.rt_past.proofs.Growth.{grows_then}
 use Rattle.rt_store.specs.Meaning.{Told}
 use Rattle.rt_state.specs.Applying.{Next}
 use Rattle.rt_state.specs.IsSafe.{past_of}
 use Rattle.rt_state.specs.IsSafeWorld.{IsSafeWorld}
-use Rattle.rt_state.specs.Finding.{request_at, query_at}
+use Rattle.rt_state.specs.Finding.{request_at}
 use Rattle.rt_state.specs.Jobs.{JobSteps, JobStepsAt, noted_set, stepped_by}
 use Rattle.rt_state.specs.Messages.{DeliversAt, Delivers, after_step, handed, with_reply}
-use Rattle.rt_state.specs.Queries.{RoutesAt, Routes, PiecesOf, PiecesAt, Pieces, AnswersAt, Answers, closed, with_query}
-use Rattle.rt_state.specs.Repairs.{RepairsAt, Repairs, RetiresAt, Retires, after_upkeep, find_upkeep, repair_by, repair_in, repair_due, retain_by, retirement_in, retain_due, upkeep_at}
+use Rattle.rt_state.specs.Repairs.{RepairsAt, Repairs, RetiresAt, Retires, after_upkeep, upkeep_at}
 use Rattle.rt_state.specs.Room.{counted}
 use Rattle.rt_nodes.specs.declared.controller_node.ControllerNode.{ControllerNode}
 use Rattle.rt_state.specs.declared.cost.Cost.{Cost}
-use Rattle.rt_nodes.specs.declared.server_node.ServerNode.{ServerNode}
 use Rattle.rt_state.specs.declared.state.State.{State}
 use Rattle.rt_nodes.specs.declared.upkeep.Upkeep.{Upkeep}
-use Rattle.rt_safety.proofs.Adds.{Adds, adds_quietly, adds_reply, grows_history, grows_sent}
+use Rattle.rt_safety.proofs.Adds.{Adds, adds_quietly, adds_reply, grows_sent}
+use Rattle.rt_safety.proofs.Ways.{BeginsRetained}
 use Rattle.rt_state.proofs.Bounds.{few_writes}
 use Rattle.rt_world.proofs.KeepsMessages.{request_sent}
-use Rattle.rt_world.proofs.KeepsQueries.{routed_reads}
-use Rattle.rt_world.proofs.KeepsRepairs.{found_within, upkeep_there, repair_writes, retention_set, retire_writes}
-use Rattle.rt_state.proofs.Possible.{then_passed}
+use Rattle.rt_world.proofs.KeepsRepairs.{upkeep_there, repair_writes, retire_writes}
 
 -- ---- possible replies
 
@@ -139,58 +130,23 @@ job_adds w c j cost x s h = by_node (slice_get w.controllers c.0) refl h
 
 -- ---- repairs and retirements
 
-pub repair_adds : (w : State) (c : ControllerId) (p : Partition) (cost : Cost) (x : Next) → IsSafeWorld w → repair_due w c p ≡ Ok cost → Repairs w c p cost x → Adds w x.0
-repair_adds w c p cost x s possible h = by_found (slice_get w.controllers c.0) refl (upkeep_at w c p) refl h
+pub repair_adds : (w : State) (c : ControllerId) (p : Partition) (cost : Cost) (x : Next) → IsSafeWorld w → p.0 < w.setup.partitions → Repairs w c p cost x → Adds w x.0
+repair_adds w c p cost x s within h = by_found (slice_get w.controllers c.0) refl (upkeep_at w c p) refl h
   where
     by_found : (o : Option ControllerNode) → slice_get w.controllers c.0 ≡ o → (u : Option Upkeep) → upkeep_at w c p ≡ u → RepairsAt o u w c p cost x → Adds w x.0
     by_found None there u at h = absurd h
     by_found (Some n) there None at h = absurd h
     by_found (Some n) there (Some old) at (new, store, did, steps, is) =
-        let due = then_passed (find_upkeep w c p) (repair_by w c (repair_in (upkeep_at w c p))) cost possible in
-        let k = repair_writes w p old new store did s.safe (found_within w c p due.0) (upkeep_there w c p n old s.safe there at) steps in
+        let k = repair_writes w p old new store did s.safe within (upkeep_there w c p n old s.safe there at) steps in
         subst (λ (y : Next). Adds w y.0) (sym is) (adds_quietly w (after_upkeep w c p n new store cost) refl refl k.grows)
 
-pub retain_adds : (w : State) (c : ControllerId) (p : Partition) (cost : Cost) (x : Next) → IsSafeWorld w → retain_due w c p ≡ Ok cost → Retires w c p cost x → Adds w x.0
-retain_adds w c p cost x s possible h = by_found (slice_get w.controllers c.0) refl (upkeep_at w c p) refl h
+pub retain_adds : (w : State) (c : ControllerId) (p : Partition) (cost : Cost) (x : Next) → IsSafeWorld w → (p.0 < w.setup.partitions) × BeginsRetained w c p
+    → Retires w c p cost x → Adds w x.0
+retain_adds w c p cost x s left h = by_found (slice_get w.controllers c.0) refl (upkeep_at w c p) refl h
   where
     by_found : (o : Option ControllerNode) → slice_get w.controllers c.0 ≡ o → (u : Option Upkeep) → upkeep_at w c p ≡ u → RetiresAt o u w c p cost x → Adds w x.0
     by_found None there u at h = absurd h
     by_found (Some n) there None at h = absurd h
     by_found (Some n) there (Some old) at (new, store, did, steps, is) =
-        let due = then_passed (find_upkeep w c p) (retain_by w c (retirement_in (upkeep_at w c p))) cost possible in
-        let set = retention_set w c p old cost at due.1 in
-        let k = retire_writes w p old new store did s.safe (found_within w c p due.0) set (upkeep_there w c p n old s.safe there at) steps in
+        let k = retire_writes w p old new store did s.safe left.0 (left.1 old at) (upkeep_there w c p n old s.safe there at) steps in
         subst (λ (y : Next). Adds w y.0) (sym is) (adds_quietly w (after_upkeep w c p n new store cost) refl refl k.grows)
-
--- ---- queries
-
-pub route_adds : (w : State) (q : ℕ) (p : Partition) (cost : Cost) (x : Next) → Routes w q p cost x → Adds w x.0
-route_adds w q p cost x h = by_query (query_at w q) h
-  where
-    by_query : (o : Option Asking) → RoutesAt o w q p cost x → Adds w x.0
-    by_query None h = absurd h
-    by_query (Some a) (b, store, answer, routes, told, is) =
-        let same : store.writes ≡ w.store.writes = routed_reads w store a b p answer x.1 routes told in
-        subst (Adds w) (sym is)
-        (adds_quietly w (counted (record w { queries = slice_set w.queries q (Some b); store = store }) cost) refl refl
-        (grows_history (past_of w) store.writes (subst (IsFront w.store.writes) (sym same) (front_same w.store.writes))))
-
-pub piece_adds : (w : State) (q : ℕ) (p : Partition) (s : Sequence) (i : Instance) (cost : Cost) (x : Next) → Pieces w q p s i cost x → Adds w x.0
-piece_adds w q p s i cost x h = by_query (query_at w q) h
-  where
-    by_piece : (a : Asking) (o : Option Piece) (n : Option ServerNode) → PiecesOf o n a w q i cost x → Adds w x.0
-    by_piece a None n h = absurd h
-    by_piece a (Some piece) None h = absurd h
-    by_piece a (Some piece) (Some n) (b, what, gives, notes, is) =
-        subst (λ (y : Next). Adds w y.0) (sym is) (adds_quietly w (counted (with_query w q (Some b)) cost) refl refl (grows_same (past_of w)))
-
-    by_query : (o : Option Asking) → PiecesAt o w q p s i cost x → Adds w x.0
-    by_query None h = absurd h
-    by_query (Some a) h = by_piece a (piece_at a p s) (slice_get w.servers i.0) h
-
-pub answer_adds : (w : State) (q : ℕ) (cost : Cost) (x : Next) → Answers w q cost x → Adds w x.0
-answer_adds w q cost x h = by_query (query_at w q) h
-  where
-    by_query : (o : Option Asking) → AnswersAt o w q cost x → Adds w x.0
-    by_query None h = absurd h
-    by_query (Some a) (answer, right, is) = subst (λ (y : Next). Adds w y.0) (sym is) (adds_quietly w (closed w q cost) refl refl (grows_same (past_of w)))

@@ -16,7 +16,6 @@ use Rattle.rt_controller.proofs.Paired.{one_if}
 use Rattle.rt_events.specs.declared.event.Event.{Event}
 use Rattle.rt_events.specs.declared.event.Event.TheVariants as event
 use Rattle.rt_events.specs.declared.outcome.Outcome.{Outcome}
-use Rattle.rt_events.specs.declared.outcome.Outcome.TheVariants as told
 use Rattle.rt_model.specs.declared.asked.Asked.{Asked}
 use Rattle.rt_model.specs.declared.job_step.JobStep.{JobStep}
 use Rattle.rt_model.specs.Metadata.{IsDoneStatus}
@@ -41,15 +40,14 @@ use Rattle.rt_safety.specs.CommitRun.{EndsIn, GoesSo, IsOpen, GoesWithoutCrash, 
 use Rattle.rt_state.specs.IsSafe.{past_of}
 use Rattle.rt_state.specs.IsSafeWorld.{IsSafeWorld}
 use Rattle.rt_state.specs.Jobs.{JobSteps, JobStepsAt, noted_set, stepped, stepped_by}
-use Rattle.rt_state.specs.Lives.{controller_crashed, controller_restarted}
-use Rattle.rt_state.specs.Clock.{node_believing}
 use Rattle.rt_state.specs.Messages.{after_step}
-use Rattle.rt_world.specs.Step.{Steps}
+use Rattle.rt_world.specs.Step.{Steps, way_of}
 use Rattle.rt_nodes.specs.declared.controller_node.ControllerNode.{ControllerNode}
 use Rattle.rt_state.specs.declared.cost.Cost.{Cost}
 use Rattle.rt_state.specs.declared.state.State.{State}
-use Rattle.rt_safety.proofs.JobsOn.{Stays, answers_same, believing_stays, controller_does_stays, controllers_stay, delivers_stay, own_slot, pieces_same, repairs_stay, replies_same, retires_stay, routes_same, sends_same, server_calls_same, server_does_same, server_fetches_same, server_gets_same, slot_stays}
+use Rattle.rt_safety.proofs.JobsOn.{KeepsJob, Stays, believing_stays, controllers_stay, goes_stays, own_slot, slot_stays}
 use Rattle.rt_safety.proofs.Runs.{leads_safe}
+use Rattle.rt_safety.proofs.Ways.{is_free, leaving}
 
 -- ---- what an event leaves of the job
 
@@ -202,53 +200,19 @@ module _ (w : State) (c : ControllerId) (n : ℕ) (a : Asked) (end : Offset) (le
 -- ---- an event
 
 module _ (w : State) (c : ControllerId) (n : ℕ) (a : Asked) (end : Offset) (left : ℕ) (s : IsSafeWorld w) (o : IsOpen w c n a end left) where
-  stays : (e : Event) (x : Next) → steps_in c n (happens e x.1) ≡ 0 → Stays w x.0 c n o.job → GoesBy w c n a end left e x.0 x.1
-  stays e x none k = goes_on w x.0 c n a end left (happens e x.1) o none k
-
-  same : (e : Event) (x : Next) → steps_in c n (happens e x.1) ≡ 0 → x.0.controllers ≡ w.controllers → GoesBy w c n a end left e x.0 x.1
-  same e x none k = stays e x none (controllers_stay w x.0 c n o.job k)
-
-  by : (e : Event) (x z : Next) → steps_in c n (happens e x.1) ≡ 0 → x ≡ z → z.0.controllers ≡ w.controllers → GoesBy w c n a end left e x.0 x.1
-  by e x z none is k = same e x none (ap (λ (v : Next). v.0.controllers) is ∙ k)
+  -- one that is no step of the job
+  other_goes : (e : Event) (y : State) (outcome : Outcome) → steps_in c n (happens e outcome) ≡ 0 → KeepsJob (way_of w e) c n o.job → Steps w e y (Ok outcome)
+      → GoesBy w c n a end left e y outcome
+  other_goes e y outcome none keeps (cost, due, h) =
+      goes_on w y c n a end left (happens e outcome) o none (goes_stays w (way_of w e) c n o.job cost (y, outcome) s keeps (is_free w e cost due) (leaving w e cost due) h)
 
   pub event_goes : (e : Event) (y : State) (outcome : Outcome) → is_crash c (happens e outcome) ≡ false → Steps w e y (Ok outcome) → GoesBy w c n a end left e y outcome
-  event_goes (event.Produce p message) y outcome calm h = by (event.Produce p message) (y, outcome) _ refl h.2 refl
-  event_goes (event.Tick millis) y outcome calm h = by (event.Tick millis) (y, outcome) _ refl h.2 refl
-  event_goes (event.Lead d on) y outcome calm h =
-      stays (event.Lead d on) (y, outcome) refl
-      (controller_does_stays w c d n o.job (node_believing on) told.Noted h.0 (y, outcome) (λ old i. believing_stays old on n o.job) h.2)
-  event_goes (event.Consume i p q max) y outcome calm h = same (event.Consume i p q max) (y, outcome) refl (server_fetches_same w i _ h.0 (y, outcome) h.2)
-  event_goes (event.Force i p q) y outcome calm h = same (event.Force i p q) (y, outcome) refl (server_does_same w i _ h.0 (y, outcome) h.2)
-  event_goes (event.Stop i p q) y outcome calm h = same (event.Stop i p q) (y, outcome) refl (server_does_same w i _ h.0 (y, outcome) h.2)
-  event_goes (event.Build i p q) y outcome calm h = same (event.Build i p q) (y, outcome) refl (server_does_same w i _ h.0 (y, outcome) h.2)
-  event_goes (event.Report i p q) y outcome calm h = same (event.Report i p q) (y, outcome) refl (sends_same w i _ h.0 (y, outcome) h.2)
-  event_goes (event.Extend i p q millis) y outcome calm h = same (event.Extend i p q millis) (y, outcome) refl (sends_same w i _ h.0 (y, outcome) h.2)
-  event_goes (event.Deliver m d) y outcome calm h =
-      stays (event.Deliver m d) (y, outcome) refl (delivers_stay w c d m n o.job h.0 (y, outcome) s h.2)
   event_goes (event.Job d m) y outcome calm h = job_goes w c n a end left s o d m h.0 (y, outcome) h.2
-  event_goes (event.Reply m) y outcome calm h = same (event.Reply m) (y, outcome) refl (replies_same w m h.0 (y, outcome) h.2)
-  event_goes (event.CrashServer i) y outcome calm h = same (event.CrashServer i) (y, outcome) refl (server_does_same w i _ h.0 (y, outcome) h.2)
+  event_goes (event.Lead d on) y outcome calm h = other_goes (event.Lead d on) y outcome refl (λ old i. believing_stays old on n o.job) h
   event_goes (event.CrashController d) y outcome calm h =
-      stays (event.CrashController d) (y, outcome) refl
-      (controller_does_stays w c d n o.job controller_crashed told.Down h.0 (y, outcome)
-      (λ old i. absurd (false≢true (sym calm ∙ eq-eqb d.0 c.0 (sym i)))) h.2)
-  event_goes (event.RestartServer i) y outcome calm h = same (event.RestartServer i) (y, outcome) refl (server_calls_same w i _ h.0 (y, outcome) h.2)
-  event_goes (event.RestartController d) y outcome calm h =
-      stays (event.RestartController d) (y, outcome) refl
-      (controller_does_stays w c d n o.job controller_restarted (told.Up None) h.0 (y, outcome) (λ old i e. e) h.2)
-  event_goes (event.See i) y outcome calm h = same (event.See i) (y, outcome) refl (server_calls_same w i _ h.0 (y, outcome) h.2)
-  event_goes (event.Transit i p q) y outcome calm h = same (event.Transit i p q) (y, outcome) refl (server_calls_same w i _ h.0 (y, outcome) h.2)
-  event_goes (event.Download i p q) y outcome calm h = same (event.Download i p q) (y, outcome) refl (server_gets_same w i _ h.0 (y, outcome) h.2)
-  event_goes (event.Repair d p) y outcome calm h = stays (event.Repair d p) (y, outcome) refl (repairs_stay w c d p n o.job h.0 (y, outcome) h.2)
-  event_goes (event.Retain d p) y outcome calm h = stays (event.Retain d p) (y, outcome) refl (retires_stay w c d p n o.job h.0 (y, outcome) h.2)
-  event_goes (event.FaultStore kept) y outcome calm h = by (event.FaultStore kept) (y, outcome) _ refl h.2 refl
-  event_goes (event.FaultDeep kept) y outcome calm h = by (event.FaultDeep kept) (y, outcome) _ refl h.2 refl
-  event_goes (event.Ask query) y outcome calm h = by (event.Ask query) (y, outcome) _ refl h.2 refl
-  event_goes (event.Route q p) y outcome calm h = same (event.Route q p) (y, outcome) refl (routes_same w q p h.0 (y, outcome) h.2)
-  event_goes (event.Piece q p t i) y outcome calm h = same (event.Piece q p t i) (y, outcome) refl (pieces_same w q p t i h.0 (y, outcome) h.2)
-  event_goes (event.Answer q) y outcome calm h = same (event.Answer q) (y, outcome) refl (answers_same w q h.0 (y, outcome) h.2)
-  event_goes (event.ShowMeta p q) y outcome calm h = by (event.ShowMeta p q) (y, outcome) _ refl h.2 refl
-  event_goes event.ShowIdeal y outcome calm h = by event.ShowIdeal (y, outcome) _ refl h.2 refl
+      other_goes (event.CrashController d) y outcome refl (λ old i. absurd (false≢true (sym calm ∙ eq-eqb d.0 c.0 (sym i)))) h
+  event_goes (event.RestartController d) y outcome calm h = other_goes (event.RestartController d) y outcome refl (λ old i e. e) h
+  event_goes e y outcome calm h = other_goes e y outcome refl tt h
 
   pub turn_goes : (turn : Turn) (y : State) → is_crash c turn ≡ false → TurnsTo w turn y → GoesOn w c n a end left turn y
   turn_goes (happens e outcome) y calm (fits, steps) = event_goes e y outcome calm steps

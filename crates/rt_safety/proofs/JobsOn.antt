@@ -5,13 +5,8 @@ use Rattle.std.proofs.lemmas.Bool.{cases_eq}
 use Rattle.std.proofs.lemmas.List.{get_or-set_same, get_or-set_other, length-set}
 use Rattle.std.proofs.lemmas.Option.{get_or_from_slice_get, none-some, same_Some, slice_get-get_or, slice_get_within}
 use Rattle.rt_base.specs.declared.numbers.ControllerId.{ControllerId}
-use Rattle.rt_base.specs.declared.numbers.Instance.{Instance}
 use Rattle.rt_base.specs.declared.numbers.Partition.{Partition}
-use Rattle.rt_base.specs.declared.numbers.Sequence.{Sequence}
-use Rattle.rt_broker.specs.Asking.{Asking, piece_at}
 use Rattle.rt_events.specs.declared.outcome.Outcome.{Outcome}
-use Rattle.rt_model.specs.declared.piece.Piece.{Piece}
-use Rattle.rt_stream.specs.Log.{Log}
 use Rattle.rt_controller.specs.declared.handled.Handled.{Handled}
 use Rattle.rt_controller.specs.declared.handled.Handled.TheVariants as handled
 use Rattle.rt_commit.specs.declared.job.Job.{Job}
@@ -20,25 +15,24 @@ use Rattle.rt_controller.specs.Right.{job_of}
 use Rattle.rt_controller.proofs.CallsOver.{handles_over}
 use Rattle.rt_model.specs.declared.reply.Reply.{Reply}
 use Rattle.rt_model.specs.declared.request.Request.{Request}
-use Rattle.rt_deep.specs.Meaning.{Told as ToldDeep}
-use Rattle.rt_store.specs.Meaning.{Told}
 use Rattle.rt_state.specs.Applying.{Next}
 use Rattle.rt_safety.specs.CommitRun.{job_in, open_job}
-use Rattle.rt_state.specs.Finding.{query_at, reply_at, request_at}
+use Rattle.rt_state.specs.Finding.{request_at}
 use Rattle.rt_state.specs.IsSafe.{past_of}
 use Rattle.rt_state.specs.IsSafeWorld.{IsSafeWorld}
-use Rattle.rt_state.specs.Messages.{Delivers, DeliversAt, Replies, RepliesAt, handed}
-use Rattle.rt_state.specs.Nodes.{ControllerDoes, ControllerDoesAt, ServerCalls, ServerCallsAt, ServerDoes, ServerDoesAt, ServerFetches, ServerFetchesAt, ServerGets, ServerGetsAt, ServerStep}
-use Rattle.rt_state.specs.Queries.{Answers, AnswersAt, Pieces, PiecesAt, PiecesOf, Routes, RoutesAt}
+use Rattle.rt_state.specs.Messages.{Delivers, DeliversAt, handed}
+use Rattle.rt_state.specs.Nodes.{ControllerDoes, ControllerDoesAt}
 use Rattle.rt_state.specs.Repairs.{Repairs, RepairsAt, Retires, RetiresAt, upkeep_at}
-use Rattle.rt_state.specs.Requests.{AskStep, SendsAt, SendsRequest}
 use Rattle.rt_nodes.specs.declared.controller_node.ControllerNode.{ControllerNode}
 use Rattle.rt_state.specs.declared.cost.Cost.{Cost}
-use Rattle.rt_nodes.specs.declared.server_node.ServerNode.{ServerNode}
 use Rattle.rt_state.specs.declared.state.State.{State}
 use Rattle.rt_nodes.specs.declared.upkeep.Upkeep.{Upkeep}
 use Rattle.rt_state.proofs.Bounds.{few_writes}
 use Rattle.rt_world.proofs.KeepsMessages.{request_sent}
+use Rattle.rt_safety.proofs.Spares.{spares}
+use Rattle.rt_safety.proofs.Ways.{IsFree, Leaving}
+use Rattle.rt_world.specs.Way.{Goes, Way}
+use Rattle.rt_world.specs.Way as way
 
 -- ---- slots of a list
 
@@ -81,81 +75,7 @@ slot_stays w y c d n j old new found same keeps e = by_slot (slice_get w.control
         ∙ ⊎_elim (here node at f)
         (λ apart. ap (λ (o : Option ControllerNode). job_in o n) (other_slot w.controllers d.0 c.0 new node apart at) ∙ f) (cases_eq c.0 d.0)
 
--- ---- events of servers, messages and queries
-
-pub server_does_same : (w : State) (i : Instance) (does : ServerStep) (cost : Cost) (x : Next) → ServerDoes w i does cost x → x.0.controllers ≡ w.controllers
-server_does_same w i does cost x h = by_node (slice_get w.servers i.0) h
-  where
-    by_node : (o : Option ServerNode) → ServerDoesAt o w i does cost x → x.0.controllers ≡ w.controllers
-    by_node None h = absurd h
-    by_node (Some old) (new, step, is) = ap (λ (z : State). z.controllers) is
-
-pub server_calls_same : (w : State) (i : Instance) (does : Told → Told → ServerStep) (cost : Cost) (x : Next) → ServerCalls w i does cost x
-    → x.0.controllers ≡ w.controllers
-server_calls_same w i does cost x h = by_node (slice_get w.servers i.0) h
-  where
-    by_node : (o : Option ServerNode) → ServerCallsAt o w i does cost x → x.0.controllers ≡ w.controllers
-    by_node None h = absurd h
-    by_node (Some old) (new, store, step, is) = ap (λ (z : State). z.controllers) is
-
-pub server_gets_same : (w : State) (i : Instance) (does : ToldDeep → ToldDeep → ServerStep) (cost : Cost) (x : Next) → ServerGets w i does cost x
-    → x.0.controllers ≡ w.controllers
-server_gets_same w i does cost x h = by_node (slice_get w.servers i.0) h
-  where
-    by_node : (o : Option ServerNode) → ServerGetsAt o w i does cost x → x.0.controllers ≡ w.controllers
-    by_node None h = absurd h
-    by_node (Some old) (new, deep, step, is) = ap (λ (z : State). z.controllers) is
-
-pub server_fetches_same : (w : State) (i : Instance) (does : Log → Log → ServerStep) (cost : Cost) (x : Next) → ServerFetches w i does cost x
-    → x.0.controllers ≡ w.controllers
-server_fetches_same w i does cost x h = by_node (slice_get w.servers i.0) h
-  where
-    by_node : (o : Option ServerNode) → ServerFetchesAt o w i does cost x → x.0.controllers ≡ w.controllers
-    by_node None h = absurd h
-    by_node (Some old) (new, log, step, is) = ap (λ (z : State). z.controllers) is
-
-pub sends_same : (w : State) (i : Instance) (asks : AskStep) (cost : Cost) (x : Next) → SendsRequest w i asks cost x → x.0.controllers ≡ w.controllers
-sends_same w i asks cost x h = by_node (slice_get w.servers i.0) h
-  where
-    by_node : (o : Option ServerNode) → SendsAt o w i asks cost x → x.0.controllers ≡ w.controllers
-    by_node None h = absurd h
-    by_node (Some old) (new, request, step, is) = ap (λ (z : Next). z.0.controllers) is
-
-pub replies_same : (w : State) (m : ℕ) (cost : Cost) (x : Next) → Replies w m cost x → x.0.controllers ≡ w.controllers
-replies_same w m cost x h = by_reply (reply_at w m) h
-  where
-    by_reply : (o : Option Reply) → RepliesAt o w cost x → x.0.controllers ≡ w.controllers
-    by_reply None h = absurd h
-    by_reply (Some r) h = server_does_same w r.number.instance _ cost x h
-
-pub routes_same : (w : State) (q : ℕ) (p : Partition) (cost : Cost) (x : Next) → Routes w q p cost x → x.0.controllers ≡ w.controllers
-routes_same w q p cost x h = by_query (query_at w q) h
-  where
-    by_query : (o : Option Asking) → RoutesAt o w q p cost x → x.0.controllers ≡ w.controllers
-    by_query None h = absurd h
-    by_query (Some a) (new, store, answer, routes, routed, is) = ap (λ (z : State). z.controllers) is
-
-pub pieces_same : (w : State) (q : ℕ) (p : Partition) (s : Sequence) (i : Instance) (cost : Cost) (x : Next) → Pieces w q p s i cost x
-    → x.0.controllers ≡ w.controllers
-pieces_same w q p s i cost x h = by_query (query_at w q) h
-  where
-    by_piece : (a : Asking) (piece : Option Piece) (node : Option ServerNode) → PiecesOf piece node a w q i cost x → x.0.controllers ≡ w.controllers
-    by_piece a None held h = absurd h
-    by_piece a (Some piece) None h = absurd h
-    by_piece a (Some piece) (Some node) (new, what, gives, notes, is) = ap (λ (z : Next). z.0.controllers) is
-
-    by_query : (o : Option Asking) → PiecesAt o w q p s i cost x → x.0.controllers ≡ w.controllers
-    by_query None h = absurd h
-    by_query (Some a) h = by_piece a (piece_at a p s) (slice_get w.servers i.0) h
-
-pub answers_same : (w : State) (q : ℕ) (cost : Cost) (x : Next) → Answers w q cost x → x.0.controllers ≡ w.controllers
-answers_same w q cost x h = by_query (query_at w q) h
-  where
-    by_query : (o : Option Asking) → AnswersAt o w q cost x → x.0.controllers ≡ w.controllers
-    by_query None h = absurd h
-    by_query (Some a) (answer, of, is) = ap (λ (z : Next). z.0.controllers) is
-
--- ---- events of controllers
+-- ---- ways of controllers
 
 abbrev node_stays : ℕ → Job → ControllerNode → ControllerNode → Type 0
 node_stays n j old new = job_of old.controller n ≡ Some j → job_of new.controller n ≡ Some j
@@ -203,3 +123,20 @@ delivers_stay w c d m n j cost x s h = by_node (request_at w m) (slice_get w.con
         (request_sent w m q asks) (s.safe.controllers d.0 node at).over handles in
         slot_stays w x.0 c d n j node (record node { controller = new }) at
         (ap (λ (z : Next). z.0.controllers) is ∙ handed_same _ cost what) (λ i e. k.stay n j e)
+
+-- ---- any way but a step of a job
+
+-- what a way owes to the job of a number at a controller, that it stays there
+abbrev pub KeepsJob : Way → ControllerId → ℕ → Job → Type 0
+KeepsJob (way.turns d does told) c n j = (old : ControllerNode) → c.0 ≡ d.0 → node_stays n j old (does old)
+KeepsJob (way.works d m) c n j = ⊥
+KeepsJob other c n j = Unit {0}
+
+pub goes_stays : (w : State) (y : Way) (c : ControllerId) (n : ℕ) (j : Job) (cost : Cost) (x : Next) → IsSafeWorld w → KeepsJob y c n j → IsFree cost y → Leaving w cost y → Goes w y cost x
+    → Stays w x.0 c n j
+goes_stays w (way.turns d does told) c n j cost x s keeps free left h = controller_does_stays w c d n j does told cost x keeps h
+goes_stays w (way.handles m d) c n j cost x s keeps free left h = delivers_stay w c d m n j cost x s h
+goes_stays w (way.works d m) c n j cost x s keeps free left h = absurd keeps
+goes_stays w (way.mends d p) c n j cost x s keeps free left h = repairs_stay w c d p n j cost x h
+goes_stays w (way.drops d p) c n j cost x s keeps free left h = retires_stay w c d p n j cost x h
+goes_stays w y c n j cost x s keeps free left h = controllers_stay w x.0 c n j (spares w cost x y tt free left h).controllers

@@ -1,6 +1,6 @@
 -- Without a retention no turn of a run retires anything.
-use Rattle.std.proofs.Common.{◌≡◌, ℕ, zero, suc, ◌⊎◌, inl, inr, Bool, true, false, cond, List, [], ◌∷◌, Option, Some, None, Result, Ok, refl, sym, ◌∙◌, ap, subst, slice_get, is_some, ◌&&◌, length}
-use Rattle.std.specs.Prelude.{slice_set}
+use Rattle.std.proofs.Common.{◌≡◌, ℕ, zero, suc, ◌⊎◌, inl, inr, Bool, true, false, cond, List, [], ◌∷◌, Option, Some, None, Result, Ok, refl, sym, ◌∙◌, ap, subst, slice_get, length}
+use Rattle.std.specs.Prelude.{IsNone, IsSome, slice_set}
 use Rattle.std.proofs.lemmas.Option.{none-some, same_Some}
 use Rattle.rt_base.specs.declared.numbers.ControllerId.{ControllerId}
 use Rattle.rt_base.specs.declared.numbers.Instance.{Instance}
@@ -8,7 +8,6 @@ use Rattle.rt_base.specs.declared.numbers.Moment.{Moment}
 use Rattle.rt_base.specs.declared.numbers.Offset.{Offset}
 use Rattle.rt_base.specs.declared.numbers.Partition.{Partition}
 use Rattle.rt_base.specs.declared.numbers.Sequence.{Sequence}
-use Rattle.rt_broker.specs.Asking.{Asking, piece_at}
 use Rattle.rt_commit.specs.Assignment.{Assigned}
 use Rattle.rt_commit.specs.Calls.{Call, calls_nothing, puts, gets, reads, sets, creates}
 use Rattle.rt_controller.specs.Answers.{Handling}
@@ -25,10 +24,8 @@ use Rattle.rt_commit.specs.declared.job.JobStage.TheVariants as stage
 use Rattle.rt_controller.proofs.Telling.{told_request, told_work}
 use Rattle.rt_deep.specs.Meaning.{Told as ToldDeep}
 use Rattle.rt_events.specs.declared.event.Event.{Event}
-use Rattle.rt_events.specs.declared.event.Event.TheVariants as event
 use Rattle.rt_events.specs.declared.outcome.Outcome.{Outcome}
 use Rattle.rt_events.specs.declared.outcome.Outcome.TheVariants as told
-use Rattle.rt_events.specs.declared.refusal.Refusal.TheVariants.{NothingToDo}
 use Rattle.rt_lists.specs.Members.{Has}
 use Rattle.rt_lists.proofs.Members.{Has-push_cases}
 use Rattle.rt_model.proofs.Starts.{start_there}
@@ -42,13 +39,11 @@ use Rattle.rt_model.specs.declared.job_step.JobStep.{JobStep}
 use Rattle.rt_model.specs.declared.node.Node.{Node}
 use Rattle.rt_model.specs.declared.node.Node.TheVariants as node
 use Rattle.rt_model.specs.declared.node.Seen.{Seen}
-use Rattle.rt_model.specs.declared.piece.Piece.{Piece}
 use Rattle.rt_model.specs.declared.reply.Reply.{Reply}
 use Rattle.rt_model.specs.declared.request.Request.{Request}
 use Rattle.rt_model.specs.declared.setup.Setup.{Setup}
 use Rattle.rt_repair.specs.RepairSteps as of_repair
 use Rattle.rt_repair.specs.Repairing.{Repairing, added_entries, abandon_by, abandon_write, create_write, decision_at, ideal_write}
-use Rattle.rt_repair.specs.Retirement.{Retirement}
 use Rattle.rt_repair.specs.Told.{repair_at, repair_done, repair_set}
 use Rattle.rt_repair.specs.declared.read_node.ReadNode.{ReadNode}
 use Rattle.rt_repair.specs.declared.repair.RepairStage.{RepairStage}
@@ -61,35 +56,26 @@ use Rattle.rt_store.specs.Contents.{starting_of}
 use Rattle.rt_store.specs.Meaning.{Told}
 use Rattle.rt_store.specs.declared.refused.StoreRefused.{StoreRefused}
 use Rattle.rt_store.proofs.Told.{leaves_on, read_same}
-use Rattle.rt_stream.specs.Log.{Log}
-use Rattle.rt_state.specs.Applying.{Next, comes}
-use Rattle.rt_state.specs.Clock.{deep_faulted, node_believing, store_faulted, ticked}
-use Rattle.rt_state.specs.Finding.{query_at, reply_at, request_at}
+use Rattle.rt_state.specs.Applying.{Next}
+use Rattle.rt_state.specs.Finding.{request_at}
 use Rattle.rt_state.specs.Jobs.{JobSteps, JobStepsAt, noted_set, stepped_by}
-use Rattle.rt_state.specs.Lives.{NodeCrashes, NodeRestarts, controller_crashed, controller_restarted}
-use Rattle.rt_state.specs.Messages.{Delivers, DeliversAt, Replies, RepliesAt, after_step, handed, node_took}
-use Rattle.rt_state.specs.Nodes.{ControllerDoes, ControllerDoesAt, ServerCalls, ServerCallsAt, ServerDoes, ServerDoesAt, ServerFetches, ServerFetchesAt, ServerGets, ServerGetsAt, ServerStep, with_controller, with_server}
+use Rattle.rt_state.specs.Messages.{Delivers, DeliversAt, after_step, handed}
+use Rattle.rt_state.specs.Nodes.{ControllerDoes, ControllerDoesAt, with_controller}
 use Rattle.rt_state.specs.Places.{AreAt}
-use Rattle.rt_state.specs.Queries.{Answers, AnswersAt, Pieces, PiecesAt, PiecesOf, Routes, RoutesAt, asked, closed, piece_outcome, with_query}
-use Rattle.rt_state.specs.Repairs.{Repairs, RepairsAt, Retires, RetiresAt, after_upkeep, begun, believes_at, find_upkeep, retain_by, retain_due, retirement_in, upkeep_at, upkeep_in}
-use Rattle.rt_state.specs.Replicas.{NodeBuilds, NodeConsumes, NodeForces, NodeStops}
-use Rattle.rt_state.specs.Requests.{AskStep, NodeAsks, NodeAsksFor, SendsAt, SendsRequest, sends}
-use Rattle.rt_state.specs.Room.{counted, no_cost, priced}
-use Rattle.rt_state.specs.Servers.{NodeLoads, NodeMoves, NodeSees}
-use Rattle.rt_state.specs.Shows.{ideal_shown, meta_shown}
+use Rattle.rt_state.specs.Queries.{asked}
+use Rattle.rt_state.specs.Repairs.{Repairs, RepairsAt, Retires, RetiresAt, after_upkeep, begun, upkeep_at, upkeep_in}
+use Rattle.rt_state.specs.Room.{counted}
 use Rattle.rt_state.specs.Start.{fresh_controller, fresh_controllers, fresh_upkeep, start}
-use Rattle.rt_world.specs.Step.{Steps}
-use Rattle.rt_state.specs.Stream.{produced}
+use Rattle.rt_world.specs.Step.{Steps, way_of}
+use Rattle.rt_world.specs.Way.{Goes, Way}
+use Rattle.rt_world.specs.Way as way
+use Rattle.rt_safety.proofs.Spares.{Spares, spares}
+use Rattle.rt_safety.proofs.Ways.{BeginsRetained, is_free, IsFree, Leaving, leaving}
 use Rattle.rt_nodes.specs.declared.controller_node.ControllerNode.{ControllerNode}
 use Rattle.rt_state.specs.declared.cost.Cost.{Cost}
-use Rattle.rt_nodes.specs.declared.server_node.ServerNode.{ServerNode}
 use Rattle.rt_state.specs.declared.state.State.{State}
 use Rattle.rt_nodes.specs.declared.upkeep.Upkeep.{Upkeep}
-use Rattle.rt_world.proofs.KeepsQueries.{routed_reads}
 use Rattle.rt_world.proofs.Places.{at_none, at_push, at_set}
-use Rattle.rt_state.proofs.Possible.{only_passed, then_passed}
-use Rattle.rt_world.proofs.Quiet.{sees_quiet, transits_quiet}
-use Rattle.rt_world.proofs.Stores.{wrote_told}
 use Rattle.rt_safety.specs.Runs.{Turn, happens, passes, TurnsTo, Leads}
 use Rattle.rt_safety.specs.Unretired.{IsUnretired, KeepsAll, RetiresNone}
 
@@ -227,53 +213,13 @@ repair_none t r now repair.Ended n = n
 on : (w new : State) → IsUnretired w → new.setup ≡ w.setup → AreAt RetiresNone new.controllers → NoneGone new.store.writes → IsUnretired new
 on w new k setup controllers all = record { retention = ap (λ (s : Setup). s.retention) setup ∙ k.retention; controllers = controllers; all = all }
 
--- nothing that matters here changes
-stays : (w : State) (y x : Next) → IsUnretired w → y.0.setup ≡ w.setup → y.0.controllers ≡ w.controllers → y.0.store.writes ≡ w.store.writes → comes y x
-    → IsUnretired x.0
-stays w y x k setup controllers writes is =
-    subst (λ (z : Next). IsUnretired z.0) (sym is)
-    (on w y.0 k setup (subst (AreAt RetiresNone) (sym controllers) k.controllers) (none_same w.store.writes y.0.store.writes writes k.all))
-
-does_stay : (w : State) (i : Instance) (does : ServerStep) (cost : Cost) (x : Next) → IsUnretired w → ServerDoes w i does cost x → IsUnretired x.0
-does_stay w i does cost x k h = by_node (slice_get w.servers i.0) h
+-- no controller takes a step
+spares_stay : (w : State) (cost : Cost) (new : State) → IsUnretired w → Spares w cost new → IsUnretired new
+spares_stay w cost new k left = on w new k left.setup (subst (AreAt RetiresNone) (sym left.controllers) k.controllers) (by_written left.written)
   where
-    by_node : (n : Option ServerNode) → ServerDoesAt n w i does cost x → IsUnretired x.0
-    by_node None h = absurd h
-    by_node (Some old) (new, step, is) = subst IsUnretired (sym is) (on w (counted (with_server w i new) cost) k refl k.controllers k.all)
-
-calls_stay : (w : State) (i : Instance) (does : Told → Told → ServerStep) (cost : Cost) (x : Next) → IsUnretired w
-    → ((old new : ServerNode) (store : Told) (o : Outcome) → does w.store store old new o → NoneGone store.writes) → ServerCalls w i does cost x → IsUnretired x.0
-calls_stay w i does cost x k none h = by_node (slice_get w.servers i.0) h
-  where
-    by_node : (n : Option ServerNode) → ServerCallsAt n w i does cost x → IsUnretired x.0
-    by_node None h = absurd h
-    by_node (Some old) (new, store, step, is) =
-        subst IsUnretired (sym is)
-        (on w (counted (record w { servers = slice_set w.servers i.0 new; store = store }) cost) k refl k.controllers (none old new store x.1 step))
-
-gets_stay : (w : State) (i : Instance) (does : ToldDeep → ToldDeep → ServerStep) (cost : Cost) (x : Next) → IsUnretired w → ServerGets w i does cost x → IsUnretired x.0
-gets_stay w i does cost x k h = by_node (slice_get w.servers i.0) h
-  where
-    by_node : (n : Option ServerNode) → ServerGetsAt n w i does cost x → IsUnretired x.0
-    by_node None h = absurd h
-    by_node (Some old) (new, deep, step, is) =
-        subst IsUnretired (sym is) (on w (counted (record w { servers = slice_set w.servers i.0 new; deep = deep }) cost) k refl k.controllers k.all)
-
-fetches_stay : (w : State) (i : Instance) (does : Log → Log → ServerStep) (cost : Cost) (x : Next) → IsUnretired w → ServerFetches w i does cost x → IsUnretired x.0
-fetches_stay w i does cost x k h = by_node (slice_get w.servers i.0) h
-  where
-    by_node : (n : Option ServerNode) → ServerFetchesAt n w i does cost x → IsUnretired x.0
-    by_node None h = absurd h
-    by_node (Some old) (new, log, step, is) =
-        subst IsUnretired (sym is) (on w (counted (record w { servers = slice_set w.servers i.0 new; log = log }) cost) k refl k.controllers k.all)
-
-sends_stay : (w : State) (i : Instance) (asks : AskStep) (cost : Cost) (x : Next) → IsUnretired w → SendsRequest w i asks cost x → IsUnretired x.0
-sends_stay w i asks cost x k h = by_node (slice_get w.servers i.0) h
-  where
-    by_node : (n : Option ServerNode) → SendsAt n w i asks cost x → IsUnretired x.0
-    by_node None h = absurd h
-    by_node (Some old) (new, request, step, is) =
-        stays w (counted (sends (with_server w i new) request).0 cost, told.Sent (length w.sent) request) x k refl refl refl is
+    by_written : (new.store.writes ≡ w.store.writes) ⊎ ((j : Instance) × Leaves (bump j) w.store.writes new.store.writes) → NoneGone new.store.writes
+    by_written (inl same) = none_same w.store.writes new.store.writes same k.all
+    by_written (inr (j, leaves)) = wrote_none (bump j) w.store.writes new.store.writes tt leaves k.all
 
 -- ---- controllers
 
@@ -358,106 +304,32 @@ repair_stays w c p cost x k h = by_found (slice_get w.controllers c.0) refl (upk
         (at_set KeepsAll n.upkeep p.0 new kept (k.controllers c.0 n there)) k.controllers)
         (subst (λ (t : Told). NoneGone t.writes) (sym left.0) (repair_none w.store r w.moment r.stage k.all)))
 
--- no retirement begins
-retires_none : (w : State) (c : ControllerId) (cost : Cost) (o : Option Retirement) → IsUnretired w → o ≡ None → retain_by w c o ≡ Ok cost → ⊥
-retires_none w c cost None k e h =
-    let test = only_passed (is_some w.setup.retention && believes_at w c) NothingToDo (priced w no_cost) cost h in
-    no_retention (believes_at w c) (ap (λ r. is_some r && believes_at w c) (sym k.retention) ∙ test.0)
-  where
-    no_retention : (b : Bool) → (false && b) ≡ true → ⊥
-    no_retention b e = cc
-retires_none w c cost (Some r) k e h = none-some r (sym e)
+no_retention : (o : Option ℕ) → o ≡ None → IsSome o → ⊥
+no_retention None none kept = absurd (cc)
+no_retention (Some keep) none kept = none-some keep (sym none)
 
-retain_stays : (w : State) (c : ControllerId) (p : Partition) (cost : Cost) (x : Next) → IsUnretired w → retain_due w c p ≡ Ok cost → Retires w c p cost x
-    → IsUnretired x.0
-retain_stays w c p cost x k possible h = by_found (slice_get w.controllers c.0) refl (upkeep_at w c p) refl h
+-- no retirement begins, and so none goes on
+retain_stays : (w : State) (c : ControllerId) (p : Partition) (cost : Cost) (x : Next) → IsUnretired w → BeginsRetained w c p → Retires w c p cost x → IsUnretired x.0
+retain_stays w c p cost x k begins h = by_found (slice_get w.controllers c.0) refl (upkeep_at w c p) refl h
   where
     by_found : (o : Option ControllerNode) → slice_get w.controllers c.0 ≡ o → (u : Option Upkeep) → upkeep_at w c p ≡ u → RetiresAt o u w c p cost x → IsUnretired x.0
     by_found None there u at h = absurd h
     by_found (Some n) there None at h = absurd h
     by_found (Some n) there (Some old) at h =
-        let due = then_passed (find_upkeep w c p) (retain_by w c (retirement_in (upkeep_at w c p))) cost possible in
-        absurd
-        (retires_none w c cost (retirement_in (upkeep_at w c p)) k (ap retirement_in at ∙ own_upkeep w c p n old k there at) due.1)
-
--- ---- queries
-
-route_stays : (w : State) (q : ℕ) (p : Partition) (cost : Cost) (x : Next) → IsUnretired w → Routes w q p cost x → IsUnretired x.0
-route_stays w q p cost x k h = by_query (query_at w q) h
-  where
-    by_query : (o : Option Asking) → RoutesAt o w q p cost x → IsUnretired x.0
-    by_query None h = absurd h
-    by_query (Some a) (b, store, answer, routes, said, is) =
-        subst IsUnretired (sym is)
-        (on w (counted (record w { queries = slice_set w.queries q (Some b); store = store }) cost) k refl k.controllers
-        (none_same w.store.writes store.writes (routed_reads w store a b p answer x.1 routes said) k.all))
-
-piece_stays : (w : State) (q : ℕ) (p : Partition) (s : Sequence) (i : Instance) (cost : Cost) (x : Next) → IsUnretired w → Pieces w q p s i cost x → IsUnretired x.0
-piece_stays w q p s i cost x k h = by_query (query_at w q) h
-  where
-    by_piece : (a : Asking) (o : Option Piece) (n : Option ServerNode) → PiecesOf o n a w q i cost x → IsUnretired x.0
-    by_piece a None n h = absurd h
-    by_piece a (Some piece) None h = absurd h
-    by_piece a (Some piece) (Some n) (b, what, gives, notes, is) = stays w (counted (with_query w q (Some b)) cost, piece_outcome what) x k refl refl refl is
-
-    by_query : (o : Option Asking) → PiecesAt o w q p s i cost x → IsUnretired x.0
-    by_query None h = absurd h
-    by_query (Some a) h = by_piece a (piece_at a p s) (slice_get w.servers i.0) h
-
-answer_stays : (w : State) (q : ℕ) (cost : Cost) (x : Next) → IsUnretired w → Answers w q cost x → IsUnretired x.0
-answer_stays w q cost x k h = by_query (query_at w q) h
-  where
-    by_query : (o : Option Asking) → AnswersAt o w q cost x → IsUnretired x.0
-    by_query None h = absurd h
-    by_query (Some a) (answer, right, is) = stays w (closed w q cost, told.Answered answer) x k refl refl refl is
-
-reply_stays : (w : State) (m : ℕ) (cost : Cost) (x : Next) → IsUnretired w → Replies w m cost x → IsUnretired x.0
-reply_stays w m cost x k h = by_found (reply_at w m) h
-  where
-    by_found : (o : Option Reply) → RepliesAt o w cost x → IsUnretired x.0
-    by_found None h = absurd h
-    by_found (Some r) h = does_stay w r.number.instance (λ old new outcome. (outcome, new) ≡ node_took old r) cost x k h
+        absurd (no_retention w.setup.retention k.retention (begins old at (subst IsNone (sym (own_upkeep w c p n old k there at)) refl)))
 
 -- ---- an event
 
+goes_stay : (w : State) (y : Way) (cost : Cost) (x : Next) → IsUnretired w → IsFree cost y → Leaving w cost y → Goes w y cost x → IsUnretired x.0
+goes_stay w (way.turns c does told) cost x k free left h = controller_stays w c does told cost x k left h
+goes_stay w (way.handles m c) cost x k free left h = deliver_stays w m c cost x k h
+goes_stay w (way.works c j) cost x k free left h = job_stays w c j cost x k h
+goes_stay w (way.mends c p) cost x k free left h = repair_stays w c p cost x k h
+goes_stay w (way.drops c p) cost x k free left h = retain_stays w c p cost x k left.1 h
+goes_stay w y cost x k free left h = spares_stay w cost x.0 k (spares w cost x y tt free left h)
+
 steps_stay : (w : State) (e : Event) (new : State) (o : Outcome) → IsUnretired w → Steps w e new (Ok o) → IsUnretired new
-steps_stay w (event.Produce p message) new o k (cost, due, h) = stays w (produced w p message cost) (new, o) k refl refl refl h
-steps_stay w (event.Tick millis) new o k (cost, due, h) = stays w (ticked w millis cost) (new, o) k refl refl refl h
-steps_stay w (event.Lead c on) new o k (cost, due, h) = controller_stays w c (node_believing on) told.Noted cost (new, o) k (λ n. refl) h
-steps_stay w (event.Consume i p q max) new o k (cost, due, h) = fetches_stay w i (NodeConsumes p q max w.moment) cost (new, o) k h
-steps_stay w (event.Force i p q) new o k (cost, due, h) = does_stay w i (NodeForces p q) cost (new, o) k h
-steps_stay w (event.Stop i p q) new o k (cost, due, h) = does_stay w i (NodeStops p q) cost (new, o) k h
-steps_stay w (event.Build i p q) new o k (cost, due, h) = does_stay w i (NodeBuilds p q) cost (new, o) k h
-steps_stay w (event.Report i p q) new o k (cost, due, h) = sends_stay w i (NodeAsks p q) cost (new, o) k h
-steps_stay w (event.Extend i p q millis) new o k (cost, due, h) = sends_stay w i (NodeAsksFor p q millis) cost (new, o) k h
-steps_stay w (event.Deliver m c) new o k (cost, due, h) = deliver_stays w m c cost (new, o) k h
-steps_stay w (event.Job c j) new o k (cost, due, h) = job_stays w c j cost (new, o) k h
-steps_stay w (event.Reply m) new o k (cost, due, h) = reply_stays w m cost (new, o) k h
-steps_stay w (event.CrashServer i) new o k (cost, due, h) = does_stay w i NodeCrashes cost (new, o) k h
-steps_stay w (event.CrashController c) new o k (cost, due, h) = controller_stays w c controller_crashed told.Down cost (new, o) k (λ n. refl) h
-steps_stay w (event.RestartServer i) new o k (cost, due, h) =
-    calls_stay w i NodeRestarts cost (new, o) k
-    (λ old next store outcome step.
-    wrote_none (bump old.server.numbers.instance) w.store.writes store.writes tt
-    (wrote_told (λ v. v.version) w.store store (bump old.server.numbers.instance) step.1.0 step.1.1) k.all) h
-steps_stay w (event.RestartController c) new o k (cost, due, h) = controller_stays w c controller_restarted (told.Up None) cost (new, o) k (λ n. refl) h
-steps_stay w (event.See i) new o k (cost, due, h) =
-    calls_stay w i NodeSees cost (new, o) k
-    (λ old next store outcome step. none_same w.store.writes store.writes (sees_quiet w.store store old.server next.server step.0 step.1) k.all) h
-steps_stay w (event.Transit i p q) new o k (cost, due, h) =
-    calls_stay w i (NodeMoves p q w.moment) cost (new, o) k
-    (λ old next store outcome step. none_same w.store.writes store.writes (transits_quiet old.server next.server p q w.moment step.0 w.store store step.1) k.all) h
-steps_stay w (event.Download i p q) new o k (cost, due, h) = gets_stay w i (NodeLoads p q) cost (new, o) k h
-steps_stay w (event.Repair c p) new o k (cost, due, h) = repair_stays w c p cost (new, o) k h
-steps_stay w (event.Retain c p) new o k (cost, due, h) = retain_stays w c p cost (new, o) k due h
-steps_stay w (event.FaultStore kept) new o k (cost, due, h) = stays w (store_faulted w kept cost) (new, o) k refl refl refl h
-steps_stay w (event.FaultDeep kept) new o k (cost, due, h) = stays w (deep_faulted w kept cost) (new, o) k refl refl refl h
-steps_stay w (event.Ask query) new o k (cost, due, h) = stays w (asked w query cost) (new, o) k refl refl refl h
-steps_stay w (event.Route q p) new o k (cost, due, h) = route_stays w q p cost (new, o) k h
-steps_stay w (event.Piece q p s i) new o k (cost, due, h) = piece_stays w q p s i cost (new, o) k h
-steps_stay w (event.Answer q) new o k (cost, due, h) = answer_stays w q cost (new, o) k h
-steps_stay w (event.ShowMeta p q) new o k (cost, due, h) = stays w (meta_shown w p q cost) (new, o) k refl refl refl h
-steps_stay w event.ShowIdeal new o k (cost, due, h) = stays w (ideal_shown w cost) (new, o) k refl refl refl h
+steps_stay w e new o k (cost, due, h) = goes_stay w (way_of w e) cost (new, o) k (is_free w e cost due) (leaving w e cost due) h
 
 -- ---- a run
 

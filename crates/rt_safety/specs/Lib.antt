@@ -1,10 +1,12 @@
 pub mod Absent
 pub mod CommitRun
+pub mod Counted
 pub mod GoesOn
 pub mod IsAnswered
 pub mod IsRightReplica
 pub mod Later
 pub mod Limits
+pub mod Possible
 pub mod Produced
 pub mod Runs
 pub mod Unretired

@@ -4,6 +4,7 @@
 
 mod laws;
 mod laws_of_absence;
+mod laws_of_events;
 mod laws_of_limits;
 mod laws_of_runs;
 mod laws_of_worlds;
@@ -15,7 +16,8 @@ pub use laws::{
 pub use laws_of_absence::{
     an_absent_node_alone_fails_by_4, without_a_retention_nothing_is_retired,
 };
-pub use laws_of_limits::each_event_has_its_own_limits;
+pub use laws_of_events::a_due_event_can_happen;
+pub use laws_of_limits::{each_event_has_its_own_limits, the_counts_of_a_run_are_right};
 pub use laws_of_runs::{
     a_run_appends_what_is_produced, a_run_only_adds, every_world_of_every_run_is_safe,
     no_upload_is_bad_and_no_sender_a_stranger,
