@@ -1,4 +1,5 @@
 //! Words of a segment's commit.
+ghost use Rattle.std.specs.Prelude.{IfOk};
 ghost use Rattle.rt_model.specs.Metadata.{IsDoneStatus};
 
 use crate::listed_words::write_segment;
@@ -13,12 +14,13 @@ use std::alloc::Global;
 pub(crate) struct Committed {
     pub(crate) segment: Segment,
     pub(crate) meta: SegMeta,
-    ghost done: { IsDoneStatus meta.status },
 }
 
 impl Committed {
     /// `P/Q START END PATH DIGEST ROWS`
-    pub(crate) fn read(alloc: Global, words: &mut Words) -> Result<Committed, Stop> {
+    pub(crate) fn read(alloc: Global, words: &mut Words) -> Result<Committed, Stop>
+        ensures { IfOk result (λ committed. IsDoneStatus committed.meta.status) }
+    {
         let segment = words.segment_until(' ');
         let start = Offset(words.number());
         let commit = commit_in(alloc, words)?;
