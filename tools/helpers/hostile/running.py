@@ -1,14 +1,19 @@
 """One run of a program: how it ended, what it wrote, and what it took; and the counts of a part."""
 import dataclasses
+import functools
 import os
 import pathlib
+import resource
+import signal
 import subprocess
 import sys
 import tempfile
 import time
 
-# What a run may take where nothing else is said.
-SECONDS = 60
+# What a run may take of processor time where nothing else is said, and how often that by the clock, which other work makes long.
+SECONDS, WAITED = 60, 20
+# How the system ends a run that takes more.
+STOPPED = (-signal.SIGXCPU, -signal.SIGKILL)
 # The most address space of a measured run: one that takes too much ends in want of it, and not the machine.
 ROOM = 8 * 2**30
 # How many wrong cases of a part are printed.
@@ -31,13 +36,14 @@ class Ended:
 
 
 def run(program, script=b"", words=(), seconds=SECONDS, **variables):
-    """A run over a script, with more variables of the environment."""
+    """A run over a script, with more variables of the environment; it gets no more than so many seconds of processor time."""
+    bound = functools.partial(resource.setrlimit, resource.RLIMIT_CPU, (seconds, seconds))
     try:
-        ran = subprocess.run([program, *words], input=script, capture_output=True, env={**os.environ, **variables}, timeout=seconds,
-                             check=False)
+        ran = subprocess.run([program, *words], input=script, capture_output=True, env={**os.environ, **variables},
+                             timeout=WAITED * seconds, preexec_fn=bound, check=False)
     except subprocess.TimeoutExpired:
         return Ended(None, b"", b"")
-    return Ended(ran.returncode, ran.stdout, ran.stderr)
+    return Ended(None if ran.returncode in STOPPED else ran.returncode, ran.stdout, ran.stderr)
 
 
 def measured(program, path, words=(), seconds=SECONDS, memory=ROOM):

@@ -15,8 +15,6 @@ MOST_LINES = 100
 PIECE = 256
 # No less is buffered before it is written, but for the last of a report.
 BUFFERED = 4096
-# By the clock, which other work on the machine makes long.
-SECONDS = 600
 LITTLE = {"SHORT_READS": "1", "SHORT_WRITES": "1"}
 PIECES = {"SHORT_READS": str(PIECE), "SHORT_WRITES": str(PIECE)}
 KINDS = {"REFUSED_READ": (4, b"read failed\n"), "REFUSED_WRITE": (5, b"write failed\n"), "EMPTY_WRITE": (5, b"write failed\n")}
@@ -62,17 +60,17 @@ def calls_of(kind, script, report):
 
 def cases(program, library, script):
     """What is wrong with each case of a script, or none."""
-    whole = running.run(program, script, seconds=SECONDS)
+    whole = running.run(program, script)
     if whole.status is None:
         yield "whole", whole.shown()
         return
-    little = running.run(program, script, seconds=SECONDS, LD_PRELOAD=library, **LITTLE)
+    little = running.run(program, script, LD_PRELOAD=library, **LITTLE)
     yield "byte by byte", None if little == whole else little.shown()
     for kind in KINDS:
         least, most = calls_of(kind, script, whole.wrote)
         for number in itertools.count(1):
             for how, more in HOW.items():
-                ended = running.run(program, script, seconds=SECONDS, LD_PRELOAD=library, **PIECES, **more, **{kind: str(number)})
+                ended = running.run(program, script, LD_PRELOAD=library, **PIECES, **more, **{kind: str(number)})
                 found = wrong(kind, ended, whole, number <= least)
                 yield f"{kind} {number} {how}", "one call too many" if number > most and ended != whole else found
             if number > least and ended == whole or number > most:
