@@ -1,17 +1,17 @@
 -- Ways to put things together, each of which has one outcome where its parts have.
-use Rattle.std.proofs.Common.{◌≡◌, ◌+◌, ℕ, zero, suc, Bool, true, false, List, [], ◌∷◌, Result, Ok, Err, refl, sym, ◌∙◌, ap, subst}
+use Rattle.std.proofs.Common.{◌≡◌, ◌+◌, ℕ, zero, suc, Bool, true, false, List, [], ◌∷◌, ◌++◌, Result, Ok, Err, refl, sym, ◌∙◌, ap, subst}
 use Rattle.rt_events.specs.Fits.{Fits}
 use Rattle.rt_events.specs.declared.event.Event.{Event}
 use Rattle.rt_events.specs.declared.outcome.Outcome.{Outcome}
 use Rattle.rt_events.specs.declared.refusal.Refusal.{Refusal}
 use Rattle.rt_events.specs.declared.refusal.Refusal.TheVariants.{NoSuchMessage, NoSuchNode, NodeDown, NothingToDo, Limit, Memory}
-use Rattle.rt_macros.specs.Doing.{Attempted, AttemptedBy, Choose, Each, EachFrom, Further, Gives, Happens, HappensBy, Passed, PassesBy, PassesOver, Refuses, Then}
+use Rattle.rt_macros.specs.Doing.{Act, Attempted, AttemptedBy, Choose, Coming, Each, EachFrom, Further, Gives, Happens, HappensBy, Passed, PassesBy, PassesOver, Reached, Refuses, Then, Tries, after, stays}
 use Rattle.rt_state.specs.Clock.{Passes, pass_due}
 use Rattle.rt_state.specs.Room.{Found, counted, dropped}
 use Rattle.rt_state.specs.declared.state.State.{State}
 use Rattle.rt_safety.proofs.Runs.{leads_safe}
-use Rattle.rt_safety.specs.Runs.{passes}
-use Rattle.rt_exact.specs.Acts.{AreOne}
+use Rattle.rt_safety.specs.Runs.{happens, passes}
+use Rattle.rt_exact.specs.Acts.{AreOne, ReachedAlike}
 use Rattle.rt_exact.specs.Alike.{AreAlike}
 use Rattle.rt_exact.specs.Shown.{shown}
 use Rattle.rt_exact.proofs.Alike.{stay_alike}
@@ -19,15 +19,22 @@ use Rattle.rt_exact.proofs.Dues.{due_alike}
 use Rattle.rt_exact.proofs.Ones.{same_price}
 use Rattle.rt_exact.proofs.Refusals.{priced_never, refused_never}
 
-abbrev pub Act : Type 0 → Type 1
-Act A = State → State → Result A Refusal → Type 0
-
-abbrev pub Coming : Type 0 → Type 1
-Coming A = State → Result A Refusal → Type 0
-
 -- alike worlds stay alike where they stay
-pub stay : (w v x y : State) → AreAlike w v → x ≡ w → y ≡ v → AreAlike x y
-stay w v x y k e f = subst (λ z. AreAlike z y) (sym e) (subst (λ z. AreAlike w z) (sym f) k)
+pub stay : (w v : State) (x y : Reached) → AreAlike w v → x ≡ stays w → y ≡ stays v → ReachedAlike x y
+stay w v x y k e f = record {
+  turns = ap (λ (z : Reached). z.turns) e ∙ sym (ap (λ (z : Reached). z.turns) f);
+  worlds =
+      subst (λ z. AreAlike z y.world) (sym (ap (λ (z : Reached). z.world) e)) (subst (λ z. AreAlike w z) (sym (ap (λ (z : Reached). z.world) f)) k);
+}
+
+-- and where they go on from alike ones to alike ones
+pub go_on : (a b c d x y : Reached) → ReachedAlike a b → ReachedAlike c d → x ≡ after a.turns c → y ≡ after b.turns d → ReachedAlike x y
+go_on a b c d x y first later e f = record {
+  turns = ap (λ (z : Reached). z.turns) e ∙ (λ t. first.turns t ++ later.turns t) ∙ sym (ap (λ (z : Reached). z.turns) f);
+  worlds =
+      subst (λ z. AreAlike z y.world) (sym (ap (λ (z : Reached). z.world) e))
+      (subst (λ z. AreAlike c.world z) (sym (ap (λ (z : Reached). z.world) f)) later.worlds);
+}
 
 pub gives_one : {A : Type 0} (a b : A) (w v : State) → AreAlike w v → a ≡ b → AreOne (Gives a w) (Gives b v)
 gives_one a b w v k same x y r s h g = (h.1 ∙ (λ t. Ok (same t)) ∙ sym g.1, stay w v x y k h.0 g.0)
@@ -39,20 +46,34 @@ refuses_one refusal w v k x y r s h g = (h.1 ∙ sym g.1, stay w v x y k h.0 g.0
 
 pub then_one : {A B : Type 0} (first other : Act A) (behind further : A → Act B) (w v : State) → AreOne (first w) (other v)
     → ((a : A) (u t : State) → AreAlike u t → AreOne (behind a u) (further a t)) → AreOne (Then first behind w) (Then other further v)
-then_one {A} {B} first other behind further w v f g x y r s h k = by_told h.told h.further (subst (λ t. Further further k.between y t s) (sym z.0) k.further)
+then_one {A} {B} first other behind further w v f g x y r s h k =
+    (last.0, go_on h.between k.between h.last k.last x y z.1 last.1 h.whole k.whole)
   where
-    z : (h.told ≡ k.told) × AreAlike h.between k.between
+    z : (h.told ≡ k.told) × ReachedAlike h.between k.between
     z = f h.between k.between h.told k.told h.came k.came
 
-    by_told : (told : Result A Refusal) → Further behind h.between x told r → Further further k.between y told s → (r ≡ s) × AreAlike x y
-    by_told (Ok a) p q = g a h.between k.between z.1 x y r s p q
-    by_told (Err refusal) p q = refuses_one refusal h.between k.between z.1 x y r s p q
+    by_told : (told : Result A Refusal) → Further behind h.between.world h.last told r → Further further k.between.world k.last told s
+        → (r ≡ s) × ReachedAlike h.last k.last
+    by_told (Ok a) p q = g a h.between.world k.between.world z.1.worlds h.last k.last r s p q
+    by_told (Err refusal) p q = refuses_one refusal h.between.world k.between.world z.1.worlds h.last k.last r s p q
+
+    last : (r ≡ s) × ReachedAlike h.last k.last
+    last = by_told h.told h.further (subst (λ t. Further further k.between.world k.last t s) (sym z.0) k.further)
+
+pub tries_one : {A B : Type 0} (first other : Act A) (behind further : Result A Refusal → Act B) (w v : State) → AreOne (first w) (other v)
+    → ((told : Result A Refusal) (u t : State) → AreAlike u t → AreOne (behind told u) (further told t)) → AreOne (Tries first behind w) (Tries other further v)
+tries_one first other behind further w v f g x y r s h k =
+    let z = f h.between k.between h.told k.told h.came k.came in
+    let last =
+    g h.told h.between.world k.between.world z.1.worlds h.last k.last r s h.further
+    (subst (λ t. further t k.between.world k.last s) (sym z.0) k.further) in
+    (last.0, go_on h.between k.between h.last k.last x y z.1 last.1 h.whole k.whole)
 
 pub choose_one : {A : Type 0} (b c : Bool) (act other : Coming A) (act' other' : Coming A) → b ≡ c → AreOne act act' → AreOne other other'
     → AreOne (Choose b act other) (Choose c act' other')
 choose_one {A} b c act other act' other' same f g x y r s h k = by_test c (subst (λ t. Choose t act other x r) same h) k
   where
-    by_test : (t : Bool) → Choose t act other x r → Choose t act' other' y s → (r ≡ s) × AreAlike x y
+    by_test : (t : Bool) → Choose t act other x r → Choose t act' other' y s → (r ≡ s) × ReachedAlike x y
     by_test true p q = f x y r s p q
     by_test false p q = g x y r s p q
 
@@ -91,9 +112,11 @@ pub setup_alike : (w v : State) → AreAlike w v → w.setup ≡ v.setup
 setup_alike w v k = ap (λ (u : State). u.setup) k.same
 
 by_one : (e : Event) (w v : State) → AreAlike w v → Fits w.setup.schema e → AreOne (HappensBy e w) (HappensBy e v)
-by_one e w v k fits x y (Ok a) (Ok b) h g = let z = stay_alike w v e x y a b k fits h g in (λ t. answer (z.0 t), z.1)
-by_one e w v k fits x y (Ok a) (Err refusal) h g = absurd (refused_never w e x a refusal (due_alike w v e k.same ∙ g.0) h)
-by_one e w v k fits x y (Err refusal) (Ok b) h g = absurd (refused_never v e y b refusal (sym (due_alike w v e k.same) ∙ h.0) g)
+by_one e w v k fits x y (Ok a) (Ok b) h g =
+    let z = stay_alike w v e x.world y.world a b k fits h.0 g.0 in
+    (λ t. answer (z.0 t), record { turns = h.1 ∙ (λ t. happens e (z.0 t) ∷ []) ∙ sym g.1; worlds = z.1 })
+by_one e w v k fits x y (Ok a) (Err refusal) h g = absurd (refused_never w e x.world a refusal (due_alike w v e k.same ∙ g.0) h.0)
+by_one e w v k fits x y (Err refusal) (Ok b) h g = absurd (refused_never v e y.world b refusal (sym (due_alike w v e k.same) ∙ h.0) g.0)
 by_one e w v k fits x y (Err a) (Err b) h g =
     let same = same_refusal a b (sym h.0 ∙ due_alike w v e k.same ∙ g.0) in
     ((λ t. Err (same t)), stay w v x y k h.1 g.1)
@@ -105,20 +128,18 @@ pub passed_one : (e : Event) (w v : State) → AreAlike w v → Fits w.setup.sch
 passed_one e w v k fits =
     then_one (Happens e) (Happens e) (λ outcome. Gives tt) (λ outcome. Gives tt) w v (happens_one e w v k fits) (λ a u t l. gives_one tt tt u t l refl)
 
-pub attempted_one : (e : Event) (busy : Bool) (w v : State) → AreAlike w v → Fits w.setup.schema e → AreOne (Attempted e busy w) (Attempted e busy v)
-attempted_one e busy w v k fits x y r s h g = by_told h.told h.further (subst (λ t. AttemptedBy g.between t busy y s) (sym z.0) g.further)
-  where
-    z : (h.told ≡ g.told) × AreAlike h.between g.between
-    z = happens_one e w v k fits h.between g.between h.told g.told h.came g.came
+attempted_by_one : (busy : Bool) (told : Result Outcome Refusal) (w v : State) → AreAlike w v → AreOne (AttemptedBy busy told w) (AttemptedBy busy told v)
+attempted_by_one busy (Ok outcome) w v k = gives_one true true w v k refl
+attempted_by_one busy (Err NothingToDo) w v k = gives_one busy busy w v k refl
+attempted_by_one busy (Err NoSuchMessage) w v k = refuses_one NoSuchMessage w v k
+attempted_by_one busy (Err NoSuchNode) w v k = refuses_one NoSuchNode w v k
+attempted_by_one busy (Err NodeDown) w v k = refuses_one NodeDown w v k
+attempted_by_one busy (Err (Limit which)) w v k = refuses_one (Limit which) w v k
+attempted_by_one busy (Err Memory) w v k = refuses_one Memory w v k
 
-    by_told : (told : Result Outcome Refusal) → AttemptedBy h.between told busy x r → AttemptedBy g.between told busy y s → (r ≡ s) × AreAlike x y
-    by_told (Ok outcome) p q = gives_one true true h.between g.between z.1 refl x y r s p q
-    by_told (Err NothingToDo) p q = gives_one busy busy h.between g.between z.1 refl x y r s p q
-    by_told (Err NoSuchMessage) p q = refuses_one NoSuchMessage h.between g.between z.1 x y r s p q
-    by_told (Err NoSuchNode) p q = refuses_one NoSuchNode h.between g.between z.1 x y r s p q
-    by_told (Err NodeDown) p q = refuses_one NodeDown h.between g.between z.1 x y r s p q
-    by_told (Err (Limit which)) p q = refuses_one (Limit which) h.between g.between z.1 x y r s p q
-    by_told (Err Memory) p q = refuses_one Memory h.between g.between z.1 x y r s p q
+pub attempted_one : (e : Event) (busy : Bool) (w v : State) → AreAlike w v → Fits w.setup.schema e → AreOne (Attempted e busy w) (Attempted e busy v)
+attempted_one e busy w v k fits =
+    tries_one (Happens e) (Happens e) (AttemptedBy busy) (AttemptedBy busy) w v (happens_one e w v k fits) (λ told u t l. attempted_by_one busy told u t l)
 
 -- ---- a line that is no event
 
@@ -135,10 +156,10 @@ pass_alike : (w v : State) → AreAlike w v → pass_due w ≡ pass_due v
 pass_alike w v k = ap (λ u. pass_due u) k.same
 
 passes_by_one : (w v : State) → AreAlike w v → AreOne (PassesBy w) (PassesBy v)
-passes_by_one w v k x y (Ok a) (Ok b) h g = (refl, passed_alike w v x y k h g)
-passes_by_one w v k x y (Ok a) (Err refusal) h g = absurd (priced_never (pass_due w) h.0 refusal h.1 (ap (λ d. dropped d) (pass_alike w v k) ∙ g.0))
+passes_by_one w v k x y (Ok a) (Ok b) h g = (refl, record { turns = h.1 ∙ sym g.1; worlds = passed_alike w v x.world y.world k h.0 g.0 })
+passes_by_one w v k x y (Ok a) (Err refusal) h g = absurd (priced_never (pass_due w) h.0.0 refusal h.0.1 (ap (λ d. dropped d) (pass_alike w v k) ∙ g.0))
 passes_by_one w v k x y (Err refusal) (Ok b) h g =
-    absurd (priced_never (pass_due v) g.0 refusal g.1 (ap (λ d. dropped d) (sym (pass_alike w v k)) ∙ h.0))
+    absurd (priced_never (pass_due v) g.0.0 refusal g.0.1 (ap (λ d. dropped d) (sym (pass_alike w v k)) ∙ h.0))
 passes_by_one w v k x y (Err a) (Err b) h g =
     let same = same_refusal a b (sym h.0 ∙ ap (λ d. dropped d) (pass_alike w v k) ∙ g.0) in
     ((λ t. Err (same t)), stay w v x y k h.1 g.1)

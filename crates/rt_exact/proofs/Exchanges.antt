@@ -11,7 +11,7 @@ use Rattle.rt_events.specs.declared.event.Event.TheVariants as event
 use Rattle.rt_events.specs.declared.refusal.Refusal.TheVariants.{NoSuchNode, NothingToDo, Limit}
 use Rattle.rt_model.specs.declared.replica_state.ReplicaState.{ReplicaState}
 use Rattle.rt_model.specs.declared.setup.Setup.{Setup}
-use Rattle.rt_macros.specs.Doing.{Gives, Happens}
+use Rattle.rt_macros.specs.Doing.{Act, Gives, Happens}
 use Rattle.rt_macros.specs.Exchanging.{AfterDelivery, AfterReply, AfterReport, AfterSending, AfterStep, EndsJob, ExchangeTold, Exchanges, Handles, IfDue, MakesStep, ReportsAndFinishes, TakesAnswer, down_due, exchange_due, exchange_text}
 use Rattle.rt_macros.specs.Outcomes.{delivered_in, ended_in, sent_in, state_in}
 use Rattle.rt_macros.specs.declared.exchanging.Exchanged.{Exchanged}
@@ -22,9 +22,9 @@ use Rattle.rt_world.specs.Reading.{events_left_in, up_in}
 use Rattle.rt_state.specs.Room.{Found}
 use Rattle.rt_world.specs.Step.{due_of}
 use Rattle.rt_state.specs.declared.state.State.{State}
-use Rattle.rt_exact.specs.Acts.{AreOne}
+use Rattle.rt_exact.specs.Acts.{AreOne, ReachedAlike}
 use Rattle.rt_exact.specs.Alike.{AreAlike}
-use Rattle.rt_exact.proofs.Acts.{Act, gives_one, happens_one, refuses_one, then_one}
+use Rattle.rt_exact.proofs.Acts.{gives_one, happens_one, refuses_one, then_one}
 use Rattle.rt_exact.proofs.Dues.{due_alike}
 use Rattle.rt_exact.proofs.Macros.{reads, setups}
 
@@ -85,7 +85,7 @@ exchange_due_one w v report c k =
 if_due_one : (found other : Found) (act : Act Exchanged) (w v : State) → AreAlike w v → found ≡ other → AreOne (act w) (act v) → AreOne (IfDue found act w) (IfDue other act v)
 if_due_one found other act w v k same f x y r s h g = by_found other (subst (λ d. IfDue d act w x r) same h) g
   where
-    by_found : (d : Found) → IfDue d act w x r → IfDue d act v y s → (r ≡ s) × AreAlike x y
+    by_found : (d : Found) → IfDue d act w x r → IfDue d act v y s → (r ≡ s) × ReachedAlike x y
     by_found (Ok u) p q = f x y r s p q
     by_found (Err refusal) p q = refuses_one refusal w v k x y r s p q
 

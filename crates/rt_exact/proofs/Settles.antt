@@ -8,7 +8,7 @@ use Rattle.rt_events.specs.declared.outcome.Outcome.{Outcome}
 use Rattle.rt_events.specs.declared.refusal.Refusal.{Refusal}
 use Rattle.rt_events.specs.declared.refusal.Refusal.TheVariants.{NoSuchMessage, NoSuchNode, NodeDown, NothingToDo, Limit, Memory}
 use Rattle.rt_model.specs.declared.setup.Setup.{Setup}
-use Rattle.rt_macros.specs.Doing.{Attempted, Choose, Gives, Passed}
+use Rattle.rt_macros.specs.Doing.{Act, Attempted, Choose, Gives, Happens, Passed}
 use Rattle.rt_macros.specs.Exchanging.{AfterReport}
 use Rattle.rt_macros.specs.Outcomes.{sent_in}
 use Rattle.rt_macros.specs.Settling.{AfterRequest, AfterRound, BuildAndExchange, BuildTurn, ConsumeTurn, DownloadTurn, Downloads, ExchangeTurn, FinishesTurn, ReplicaTurn, ReplicasOfAll, ReplicasTurn, Requests, Round, SegmentAt, ServerTurn, ServersTurn, SettleTold, Settles, SettlesIn, TransitTurn, Transits, TransitsAndDownloads, WithLeader, may_consume}
@@ -18,7 +18,7 @@ use Rattle.rt_world.specs.Reading.{due_transits_of, held_in, leader_in, up_in, w
 use Rattle.rt_state.specs.declared.state.State.{State}
 use Rattle.rt_exact.specs.Acts.{AreOne}
 use Rattle.rt_exact.specs.Alike.{AreAlike}
-use Rattle.rt_exact.proofs.Acts.{Act, attempted_one, choose_one, each_from_one, each_one, gives_one, happens_one, passed_one, refuses_one, then_one}
+use Rattle.rt_exact.proofs.Acts.{attempted_one, choose_one, each_from_one, each_one, gives_one, happens_one, passed_one, refuses_one, then_one, tries_one}
 use Rattle.rt_exact.proofs.Exchanges.{after_sending_one}
 use Rattle.rt_exact.proofs.Macros.{reads, setups}
 
@@ -46,20 +46,21 @@ finishes_one c outcome w v k =
     then_one (AfterReport c outcome) (AfterReport c outcome) (λ exchanged. Gives true) (λ exchanged. Gives true) w v
     (after_sending_one c (sent_in outcome) w v k) (λ e u t l. gives_one true true u t l refl)
 
-requests_one : (i : Instance) (segment : SegmentAt) (c : ControllerId) (busy : Bool) (w v : State) → AreAlike w v → AreOne (Requests i segment c busy w) (Requests i segment c busy v)
-requests_one i segment c busy w v k x y r s h g = by_told h.told h.further (subst (λ t. AfterRequest c busy t g.between y s) (sym z.0) g.further)
-  where
-    z : (h.told ≡ g.told) × AreAlike h.between g.between
-    z = happens_one (event.Report i segment.0 segment.1) w v k tt h.between g.between h.told g.told h.came g.came
+after_request_one : (c : ControllerId) (busy : Bool) (told : Result Outcome Refusal) (w v : State) → AreAlike w v
+    → AreOne (AfterRequest c busy told w) (AfterRequest c busy told v)
+after_request_one c busy (Ok outcome) w v k = finishes_one c outcome w v k
+after_request_one c busy (Err NothingToDo) w v k = gives_one busy busy w v k refl
+after_request_one c busy (Err NoSuchMessage) w v k = refuses_one NoSuchMessage w v k
+after_request_one c busy (Err NoSuchNode) w v k = refuses_one NoSuchNode w v k
+after_request_one c busy (Err NodeDown) w v k = refuses_one NodeDown w v k
+after_request_one c busy (Err (Limit which)) w v k = refuses_one (Limit which) w v k
+after_request_one c busy (Err Memory) w v k = refuses_one Memory w v k
 
-    by_told : (told : Result Outcome Refusal) → AfterRequest c busy told h.between x r → AfterRequest c busy told g.between y s → (r ≡ s) × AreAlike x y
-    by_told (Ok outcome) p q = finishes_one c outcome h.between g.between z.1 x y r s p q
-    by_told (Err NothingToDo) p q = gives_one busy busy h.between g.between z.1 refl x y r s p q
-    by_told (Err NoSuchMessage) p q = refuses_one NoSuchMessage h.between g.between z.1 x y r s p q
-    by_told (Err NoSuchNode) p q = refuses_one NoSuchNode h.between g.between z.1 x y r s p q
-    by_told (Err NodeDown) p q = refuses_one NodeDown h.between g.between z.1 x y r s p q
-    by_told (Err (Limit which)) p q = refuses_one (Limit which) h.between g.between z.1 x y r s p q
-    by_told (Err Memory) p q = refuses_one Memory h.between g.between z.1 x y r s p q
+requests_one : (i : Instance) (segment : SegmentAt) (c : ControllerId) (busy : Bool) (w v : State) → AreAlike w v → AreOne (Requests i segment c busy w) (Requests i segment c busy v)
+requests_one i segment c busy w v k =
+    let report = event.Report i segment.0 segment.1 in
+    tries_one (Happens report) (Happens report) (AfterRequest c busy) (AfterRequest c busy) w v (happens_one report w v k tt)
+    (λ told u t l. after_request_one c busy told u t l)
 
 with_leader_one : (i : Instance) (segment : SegmentAt) (o : Option ControllerId) (busy : Bool) (w v : State) → AreAlike w v
     → AreOne (WithLeader i segment o busy w) (WithLeader i segment o busy v)

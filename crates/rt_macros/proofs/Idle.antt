@@ -1,6 +1,6 @@
 -- A replica that has nothing to do is refused each event of its turn for that, whatever the run has room for; so the turn
 -- comes to nothing.
-use Rattle.std.proofs.Common.{◌≡◌, ◌&&◌, ℕ, Bool, true, false, Option, Some, None, Ok, Err, length, slice_get, nat_lt, if◌then◌else◌, refl, sym, ◌∙◌, ap, subst}
+use Rattle.std.proofs.Common.{◌≡◌, ◌&&◌, ℕ, Bool, true, false, [], Option, Some, None, Ok, Err, length, slice_get, nat_lt, if◌then◌else◌, refl, sym, ◌∙◌, ap, subst}
 use Rattle.std.proofs.lemmas.Bool.{lt-ltb}
 use Rattle.std.proofs.lemmas.Option.{slice_get_within}
 use Rattle.rt_base.specs.declared.numbers.ControllerId.{ControllerId}
@@ -18,7 +18,7 @@ use Rattle.rt_events.specs.declared.event.Event.{Event}
 use Rattle.rt_events.specs.declared.event.Event.TheVariants.{Consume, Build, Report}
 use Rattle.rt_events.specs.declared.refusal.Refusal.TheVariants.{NoSuchNode, NodeDown, NothingToDo}
 use Rattle.rt_macros.proofs.Doing.{then_behind}
-use Rattle.rt_macros.specs.Doing.{Attempted, Choose, Gives}
+use Rattle.rt_macros.specs.Doing.{Attempted, Choose, Comes, Gives, stays}
 use Rattle.rt_macros.specs.Resting.{rests_at, rests_in, standing_in, stands_so, takes_at}
 use Rattle.rt_macros.specs.Settling.{BuildAndExchange, BuildTurn, ConsumeTurn, ExchangeTurn, ReplicaTurn, SegmentAt, WithLeader, may_consume}
 use Rattle.rt_macros.specs.declared.settling.TheConstants.{BATCH}
@@ -181,37 +181,38 @@ module _ (w : State) (i : Instance) (p : Partition) (q : Sequence) (s : ReplicaS
 
 -- ---- so its turn comes to nothing
 
-attempt_refused : (event : Event) (busy : Bool) (w : State) → due_of w event ≡ nothing → Attempted event busy w w (Ok busy)
-attempt_refused event busy w e = record { between = w; told = Err NothingToDo; came = record { by = (e, refl) }; further = (refl, refl) }
+attempt_refused : (event : Event) (busy : Bool) (w : State) → due_of w event ≡ nothing → Attempted event busy w (stays w) (Ok busy)
+attempt_refused event busy w e =
+    record { between = stays w; told = Err NothingToDo; last = stays w; came = record { by = (e, refl) }; further = (refl, refl); whole = refl }
 
 chosen : (may : Bool) (event : Event) (busy : Bool) (w : State) → due_of w event ≡ nothing
-    → Choose may (Attempted event busy w) (Gives busy w) w (Ok busy)
+    → Choose may (Attempted event busy w) (Gives busy w) (stays w) (Ok busy)
 chosen true event busy w e = attempt_refused event busy w e
 chosen false event busy w e = (refl, refl)
 
 no_request : (i : Instance) (segment : SegmentAt) (leader : Option ControllerId) (busy : Bool) (w : State)
-    → due_of w (Report i segment.0 segment.1) ≡ nothing → WithLeader i segment leader busy w w (Ok busy)
+    → due_of w (Report i segment.0 segment.1) ≡ nothing → WithLeader i segment leader busy w (stays w) (Ok busy)
 no_request i segment None busy w e = (refl, refl)
 no_request i segment (Some controller) busy w e =
-    record { between = w; told = Err NothingToDo; came = record { by = (e, refl) }; further = (refl, refl) }
+    record { between = stays w; told = Err NothingToDo; last = stays w; came = record { by = (e, refl) }; further = (refl, refl); whole = refl }
 
 module _ (i : Instance) (p : Partition) (q : Sequence) (busy : Bool) (w : State) where
-  idle_turn : (s : ReplicaState) (at : IsFound w i p q s) → IsIdle at.replica.phase → BuildAndExchange i (p, q) busy w w (Ok busy)
+  idle_turn : (s : ReplicaState) (at : IsFound w i p q s) → IsIdle at.replica.phase → BuildAndExchange i (p, q) busy w (stays w) (Ok busy)
   idle_turn s at idle =
-      then_behind (BuildTurn i (p, q) busy) (ExchangeTurn i (p, q)) w w w busy (Ok busy)
+      then_behind (BuildTurn i (p, q) busy) (ExchangeTurn i (p, q)) w (stays w) (stays w) busy (Ok busy)
       (attempt_refused (Build i p q) busy w (build_refused w i p q s at idle.0))
       (no_request i (p, q) (leader_in w) busy w (report_refused w i p q s at idle.1))
 
   -- that of a replica at rest
-  pub rests_turn : (paused : Bool) → rests_at w i (p, q) ≡ true → ReplicaTurn paused i (p, q) busy w w (Ok busy)
+  pub rests_turn : (paused : Bool) → rests_at w i (p, q) ≡ true → ReplicaTurn paused i (p, q) busy w (stays w) (Ok busy)
   rests_turn paused h =
       let a = so_at w i p q rests_in h in
-      then_behind (ConsumeTurn paused i (p, q) busy) (BuildAndExchange i (p, q)) w w w busy (Ok busy)
+      then_behind (ConsumeTurn paused i (p, q) busy) (BuildAndExchange i (p, q)) w (stays w) (stays w) busy (Ok busy)
       (chosen (may_consume paused w i (p, q)) (Consume i p q BATCH) busy w (consume_refused w i p q a.stage a.at BATCH (rests_takes_nothing a.stage a.passed)))
       (idle_turn a.stage a.at (rests_idle a.at.replica.phase (ap rests_in a.at.so ∙ a.passed)))
 
   -- the second part of that of a replica which takes messages
-  pub takes_turn : takes_at w i (p, q) ≡ true → BuildAndExchange i (p, q) busy w w (Ok busy)
+  pub takes_turn : takes_at w i (p, q) ≡ true → Comes (BuildAndExchange i (p, q) busy w) w (Ok busy)
   takes_turn h =
       let a = so_at w i p q takes_in h in
-      idle_turn a.stage a.at (takes_idle a.at.replica.phase (ap takes_in a.at.so ∙ a.passed))
+      record { turns = []; came = idle_turn a.stage a.at (takes_idle a.at.replica.phase (ap takes_in a.at.so ∙ a.passed)) }

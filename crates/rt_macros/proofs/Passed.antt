@@ -1,13 +1,12 @@
 -- Replicas at rest are passed together, since the turn of each comes to nothing.
 use Rattle.std.proofs.Common.{◌≡◌, ◌∙◌, ◌&&◌, ◌+◌, ℕ, suc, Bool, true, false, cond, nat_lt, ◌≤◌, List, [], ◌∷◌, length, take, drop, drop-drop, length-drop, Result, Ok, Option, None, if◌then◌else◌, refl, sym, ap, subst, arith}
-use Rattle.std.proofs.lemmas.List.{drop_all}
 use Rattle.std.proofs.lemmas.List.Sums.{prefix_len-le-length}
 use Rattle.std.specs.List.{prefix_len}
 use Rattle.rt_base.specs.declared.numbers.Instance.{Instance}
 use Rattle.rt_events.specs.declared.refusal.Refusal.{Refusal}
-use Rattle.rt_macros.proofs.Doing.{Coming, Leads, Turn, then_behind}
+use Rattle.rt_macros.proofs.Doing.{Leads, Turns, then_behind}
 use Rattle.rt_macros.proofs.Idle.{rests_turn}
-use Rattle.rt_macros.specs.Doing.{Each}
+use Rattle.rt_macros.specs.Doing.{Act, Coming, Each, Reached, stays}
 use Rattle.rt_macros.specs.Resting.{rests_at, rests_in, stands_so}
 use Rattle.rt_macros.specs.Settling.{ReplicaTurn, SegmentAt}
 use Rattle.rt_model.specs.declared.replica_state.ReplicaState.{ReplicaState}
@@ -48,40 +47,41 @@ known_rest w i ss =
 
 -- ---- what comes of the turns of those that are passed
 
-module _ {A S : Type 0} (act : Turn A S) (w : State) (rests : A → Bool) (idle : (x : A) (busy : S) → rests x ≡ true → act x busy w w (Ok busy)) where
-  pass_one : (x : A) (xs : List A) (noted : S) (v : State) (r : Result S Refusal) (rested : Bool) → rests x ≡ rested
+module _ {A S : Type 0} (act : Turns A S) (w : State) (rests : A → Bool) (idle : (x : A) (busy : S) → rests x ≡ true → act x busy w (stays w) (Ok busy)) where
+  pass_one : (x : A) (xs : List A) (noted : S) (v : Reached) (r : Result S Refusal) (rested : Bool) → rests x ≡ rested
       → (Each act (drop (prefix_len rests xs) xs) noted w v r → Each act xs noted w v r)
       → Each act (drop (cond rested (1 + prefix_len rests xs) 0) (x ∷ xs)) noted w v r → Each act (x ∷ xs) noted w v r
   pass_one x xs noted v r false e others rest = rest
   pass_one x xs noted v r true e others rest =
       let up : 1 + prefix_len rests xs ≡ suc (prefix_len rests xs) = omega arith in
-      then_behind (act x noted) (Each act xs) w w v noted r (idle x noted e) (others (subst (λ k. Each act (drop k (x ∷ xs)) noted w v r) up rest))
+      then_behind (act x noted) (Each act xs) w (stays w) v noted r (idle x noted e) (others (subst (λ k. Each act (drop k (x ∷ xs)) noted w v r) up rest))
 
-  passed : (xs : List A) (noted : S) (v : State) (r : Result S Refusal) → Each act (drop (prefix_len rests xs) xs) noted w v r → Each act xs noted w v r
+  passed : (xs : List A) (noted : S) (v : Reached) (r : Result S Refusal) → Each act (drop (prefix_len rests xs) xs) noted w v r → Each act xs noted w v r
   passed [] noted v r came = came
   passed (x ∷ xs) noted v r came = pass_one x xs noted v r (rests x) refl (passed xs noted v r) came
 
 module _ (paused : Bool) (i : Instance) (xs : List SegmentAt) where
-  abbrev Turns : ℕ → Bool → State → Coming Bool
-  Turns at noted w = Each (ReplicaTurn paused i) (drop at xs) noted w
+  abbrev Left : ℕ → Bool → Act Bool
+  Left at noted w = Each (ReplicaTurn paused i) (drop at xs) noted w
 
   -- from the first that isn't at rest on
-  pub list_starts : (n : ℕ) (noted : Bool) (w : State) → n ≡ prefix_len (rests_at w i) xs → Leads (Turns n noted w) (Each (ReplicaTurn paused i) xs noted w)
-  list_starts n noted w e v r rest =
-      passed (ReplicaTurn paused i) w (rests_at w i) (λ x busy h. rests_turn i x.0 x.1 busy w paused h) xs noted v r
-      (subst (λ k. Turns k noted w v r) e rest)
+  pub list_starts : (n : ℕ) (noted : Bool) (w : State) → n ≡ prefix_len (rests_at w i) xs → Leads (Left n noted w) (Each (ReplicaTurn paused i) xs noted w)
+  list_starts n noted w e = record {
+    taken = [];
+    leads = λ v r rest.
+        passed (ReplicaTurn paused i) w (rests_at w i) (λ x busy h. rests_turn i x.0 x.1 busy w paused h) xs noted v r
+        (subst (λ k. Left k noted w v r) e rest);
+  }
 
   -- and so from a place on
   pub list_passes : (at n : ℕ) (noted : Bool) (w : State) (all : Coming Bool)
-      → Leads (Turns at noted w) all → n ≡ prefix_len (rests_at w i) (drop at xs) → Leads (Turns (at + n) noted w) all
-  list_passes at n noted w all leads e v r rest =
-      leads v r (passed (ReplicaTurn paused i) w (rests_at w i) (λ x busy h. rests_turn i x.0 x.1 busy w paused h) (drop at xs) noted v r
-      (subst (λ ys. Each (ReplicaTurn paused i) ys noted w v r) (sym (drop-drop n at xs) ∙ ap (λ k. drop k (drop at xs)) e) rest))
-
-  -- no replica is left
-  pub list_ends : (at : ℕ) (noted : Bool) (w : State) (all : Coming Bool) → Leads (Turns at noted w) all → length xs ≤ at → all w (Ok noted)
-  list_ends at noted w all leads over =
-      leads w (Ok noted) (subst (λ ys. Each (ReplicaTurn paused i) ys noted w w (Ok noted)) (sym (drop_all at xs over)) (refl, refl))
+      → Leads (Left at noted w) all → n ≡ prefix_len (rests_at w i) (drop at xs) → Leads (Left (at + n) noted w) all
+  list_passes at n noted w all leads e = record {
+    taken = leads.taken;
+    leads = λ v r rest.
+        leads.leads v r (passed (ReplicaTurn paused i) w (rests_at w i) (λ x busy h. rests_turn i x.0 x.1 busy w paused h) (drop at xs) noted v r
+        (subst (λ ys. Each (ReplicaTurn paused i) ys noted w v r) (sym (drop-drop n at xs) ∙ ap (λ k. drop k (drop at xs)) e) rest));
+  }
 
 -- those that are passed are of the list
 pub pass_within : (w : State) (i : Instance) (xs : List SegmentAt) (n : ℕ) → n ≡ prefix_len (rests_at w i) xs → n ≤ length xs

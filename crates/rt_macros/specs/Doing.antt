@@ -1,102 +1,147 @@
--- What comes of several events, one after the other, from a world on: the world behind them, and what they tell or why
--- one was refused.
-use Rattle.std.specs.Prelude.{◌≡◌, ◌+◌, ℕ, zero, suc, Bool, true, false, List, [], ◌∷◌, Result, Ok, Err}
+-- What comes of several events, one after the other, from a world on: the turns by which another world is reached, that world,
+-- and what is told or why something was refused.
+use Rattle.std.specs.Prelude.{◌≡◌, ◌+◌, ◌++◌, ℕ, zero, suc, Bool, true, false, List, [], ◌∷◌, Result, Ok, Err}
 use Rattle.rt_events.specs.declared.event.Event.{Event}
 use Rattle.rt_events.specs.declared.outcome.Outcome.{Outcome}
 use Rattle.rt_events.specs.declared.refusal.Refusal.{Refusal}
 use Rattle.rt_events.specs.declared.refusal.Refusal.TheVariants.{NoSuchMessage, NoSuchNode, NodeDown, NothingToDo, Limit, Memory}
+use Rattle.rt_safety.specs.Runs.{Turn, happens, passes}
 use Rattle.rt_state.specs.Clock.{Passes, pass_due}
 use Rattle.rt_world.specs.Kept.{Kept}
 use Rattle.rt_state.specs.Room.{dropped}
 use Rattle.rt_world.specs.Step.{Steps, due_of}
 use Rattle.rt_state.specs.declared.state.State.{State}
 
+-- ---- what is reached
+
+-- a world, and the turns by which it was reached from another one
+pub record Reached : Type 0 where
+  pub turns : List Turn
+  pub world : State
+
+abbrev pub reached : List Turn → State → Reached
+reached turns w = record { turns = turns; world = w }
+
+-- by no turn
+abbrev pub stays : State → Reached
+stays w = reached [] w
+
+-- by some turns, and then by others
+abbrev pub after : List Turn → Reached → Reached
+after turns v = record { turns = turns ++ v.turns; world = v.world }
+
+-- what may come of something in a world, and what it comes to
+abbrev pub Coming : Type 0 → Type 1
+Coming A = Reached → Result A Refusal → Type 0
+
+abbrev pub Act : Type 0 → Type 1
+Act A = State → Coming A
+
+-- ---- several things
+
 -- nothing happens, and this is told
-abbrev pub Gives : {A : Type 0} → A → State → State → Result A Refusal → Type 0
-Gives x w v result = (v ≡ w) × (result ≡ Ok x)
+abbrev pub Gives : {A : Type 0} → A → Act A
+Gives x w v result = (v ≡ stays w) × (result ≡ Ok x)
 
 -- nothing happens, for this reason
-abbrev pub Refuses : {A : Type 0} → Refusal → State → State → Result A Refusal → Type 0
-Refuses refusal w v result = (v ≡ w) × (result ≡ Err refusal)
+abbrev pub Refuses : {A : Type 0} → Refusal → Act A
+Refuses refusal w v result = (v ≡ stays w) × (result ≡ Err refusal)
 
 -- what comes behind something that told this, or was refused
-abbrev pub Further : {A B : Type 0} → (A → State → State → Result B Refusal → Type 0) → State → State → Result A Refusal → Result B Refusal → Type 0
+abbrev pub Further : {A B : Type 0} → (A → Act B) → State → Reached → Result A Refusal → Result B Refusal → Type 0
 Further behind x v (Ok told) result = behind told x v result
 Further behind x v (Err refusal) result = Refuses refusal x v result
 
 -- something, and what comes behind it
-pub record Then {A B : Type 0} (first : State → State → Result A Refusal → Type 0) (behind : A → State → State → Result B Refusal → Type 0)
-    (w v : State) (result : Result B Refusal) : Type 0 where
-  pub between : State
+pub record Then {A B : Type 0} (first : Act A) (behind : A → Act B) (w : State) (v : Reached) (result : Result B Refusal) : Type 0 where
+  pub between : Reached
   pub told : Result A Refusal
+  pub last : Reached
   pub came : first w between told
-  pub further : Further behind between v told result
+  pub further : Further behind between.world last told result
+  pub whole : v ≡ after between.turns last
+
+-- something, and what comes behind it whether it was refused or not
+pub record Tries {A B : Type 0} (first : Act A) (behind : Result A Refusal → Act B) (w : State) (v : Reached) (result : Result B Refusal) : Type 0 where
+  pub between : Reached
+  pub told : Result A Refusal
+  pub last : Reached
+  pub came : first w between told
+  pub further : behind told between.world last result
+  pub whole : v ≡ after between.turns last
 
 -- the one or the other, by a test
-abbrev pub Choose : {A : Type 0} → Bool → (State → Result A Refusal → Type 0) → (State → Result A Refusal → Type 0) → State → Result A Refusal → Type 0
+abbrev pub Choose : {A : Type 0} → Bool → Coming A → Coming A → Coming A
 Choose true act other v result = act v result
 Choose false act other v result = other v result
 
-abbrev pub HappensBy : Event → State → State → Result Outcome Refusal → Type 0
-HappensBy event w v (Ok outcome) = Steps w event v (Ok outcome)
-HappensBy event w v (Err refusal) = (due_of w event ≡ Err refusal) × (v ≡ w)
-
--- an event, which changes nothing where it is refused
-pub record Happens (event : Event) (w v : State) (result : Result Outcome Refusal) : Type 0 where
-  pub by : HappensBy event w v result
-
--- an event whose outcome tells nothing more
-abbrev pub Passed : Event → State → State → Result (Unit {0}) Refusal → Type 0
-Passed event w = Then (Happens event) (λ outcome. Gives tt) w
-
--- an event that happens where there is something to do, and it is noted that it happened
-abbrev pub AttemptedBy : State → Result Outcome Refusal → Bool → State → Result Bool Refusal → Type 0
-AttemptedBy x (Ok outcome) busy = Gives true x
-AttemptedBy x (Err NothingToDo) busy = Gives busy x
-AttemptedBy x (Err NoSuchMessage) busy = Refuses NoSuchMessage x
-AttemptedBy x (Err NoSuchNode) busy = Refuses NoSuchNode x
-AttemptedBy x (Err NodeDown) busy = Refuses NodeDown x
-AttemptedBy x (Err (Limit which)) busy = Refuses (Limit which) x
-AttemptedBy x (Err Memory) busy = Refuses Memory x
-
-pub record Attempted (event : Event) (busy : Bool) (w v : State) (result : Result Bool Refusal) : Type 0 where
-  pub between : State
-  pub told : Result Outcome Refusal
-  pub came : Happens event w between told
-  pub further : AttemptedBy between told busy v result
-
-abbrev pub PassesBy : State → State → Result (Unit {0}) Refusal → Type 0
-PassesBy w v (Ok done) = Passes w v (Ok done)
-PassesBy w v (Err refusal) = (dropped (pass_due w) ≡ Err refusal) × (v ≡ w)
-
--- a line that is no event is passed over, or refused
-pub record PassesOver (w v : State) (result : Result (Unit {0}) Refusal) : Type 0 where
-  pub by : PassesBy w v result
-
 -- something for each item, one after the other; what is noted at one is handed on to the next
-abbrev pub Each : {A S : Type 0} → (A → S → State → State → Result S Refusal → Type 0) → List A → S → State → State → Result S Refusal → Type 0
+abbrev pub Each : {A S : Type 0} → (A → S → Act S) → List A → S → Act S
 Each act [] noted w = Gives noted w
 Each act (x ∷ xs) noted w = Then (act x noted) (Each act xs) w
 
 -- something for so many numbers from a first one on
-abbrev pub EachFrom : {S : Type 0} → (ℕ → S → State → State → Result S Refusal → Type 0) → ℕ → ℕ → S → State → State → Result S Refusal → Type 0
+abbrev pub EachFrom : {S : Type 0} → (ℕ → S → Act S) → ℕ → ℕ → S → Act S
 EachFrom act first zero noted w = Gives noted w
 EachFrom act first (suc count) noted w = Then (act first noted) (EachFrom act (first + 1) count) w
 
+-- ---- an event
+
+abbrev pub HappensBy : Event → Act Outcome
+HappensBy event w v (Ok outcome) = Steps w event v.world (Ok outcome) × (v.turns ≡ happens event outcome ∷ [])
+HappensBy event w v (Err refusal) = (due_of w event ≡ Err refusal) × (v ≡ stays w)
+
+-- an event is a turn, with its outcome; where it is refused it changes nothing, and is none
+pub record Happens (event : Event) (w : State) (v : Reached) (result : Result Outcome Refusal) : Type 0 where
+  pub by : HappensBy event w v result
+
+-- an event whose outcome tells nothing more
+abbrev pub Passed : Event → Act (Unit {0})
+Passed event w = Then (Happens event) (λ outcome. Gives tt) w
+
+-- where there is something to do it is noted that the event happened
+abbrev pub AttemptedBy : Bool → Result Outcome Refusal → Act Bool
+AttemptedBy busy (Ok outcome) w = Gives true w
+AttemptedBy busy (Err NothingToDo) w = Gives busy w
+AttemptedBy busy (Err NoSuchMessage) w = Refuses NoSuchMessage w
+AttemptedBy busy (Err NoSuchNode) w = Refuses NoSuchNode w
+AttemptedBy busy (Err NodeDown) w = Refuses NodeDown w
+AttemptedBy busy (Err (Limit which)) w = Refuses (Limit which) w
+AttemptedBy busy (Err Memory) w = Refuses Memory w
+
+-- an event that happens where there is something to do
+abbrev pub Attempted : Event → Bool → Act Bool
+Attempted event busy w = Tries (Happens event) (AttemptedBy busy) w
+
+abbrev pub PassesBy : Act (Unit {0})
+PassesBy w v (Ok done) = Passes w v.world (Ok done) × (v.turns ≡ passes ∷ [])
+PassesBy w v (Err refusal) = (dropped (pass_due w) ≡ Err refusal) × (v ≡ stays w)
+
+-- a line that is no event is passed over, or refused
+pub record PassesOver (w : State) (v : Reached) (result : Result (Unit {0}) Refusal) : Type 0 where
+  pub by : PassesBy w v result
+
+-- ---- calls
+
+-- turns led to this world, and this came of them
+pub record Comes {A : Type 0} (wanted : Coming A) (w : State) (result : Result A Refusal) : Type 0 where
+  pub turns : List Turn
+  pub came : wanted (reached turns w) result
+
 -- a call did this; want of memory is free
-abbrev pub Does : {A : Type 0} → (State → Result A Refusal → Type 0) → Kept → Result A Refusal → Type 0
-Does wanted new (Ok x) = (new.spent ≡ false) × wanted new.state (Ok x)
+abbrev pub Does : {A : Type 0} → Coming A → Kept → Result A Refusal → Type 0
+Does wanted new (Ok x) = (new.spent ≡ false) × Comes wanted new.state (Ok x)
 Does wanted new (Err Memory) = Unit {0}
-Does wanted new (Err NoSuchMessage) = (new.spent ≡ false) × wanted new.state (Err NoSuchMessage)
-Does wanted new (Err NoSuchNode) = (new.spent ≡ false) × wanted new.state (Err NoSuchNode)
-Does wanted new (Err NodeDown) = (new.spent ≡ false) × wanted new.state (Err NodeDown)
-Does wanted new (Err NothingToDo) = (new.spent ≡ false) × wanted new.state (Err NothingToDo)
-Does wanted new (Err (Limit which)) = (new.spent ≡ false) × wanted new.state (Err (Limit which))
+Does wanted new (Err NoSuchMessage) = (new.spent ≡ false) × Comes wanted new.state (Err NoSuchMessage)
+Does wanted new (Err NoSuchNode) = (new.spent ≡ false) × Comes wanted new.state (Err NoSuchNode)
+Does wanted new (Err NodeDown) = (new.spent ≡ false) × Comes wanted new.state (Err NodeDown)
+Does wanted new (Err NothingToDo) = (new.spent ≡ false) × Comes wanted new.state (Err NothingToDo)
+Does wanted new (Err (Limit which)) = (new.spent ≡ false) × Comes wanted new.state (Err (Limit which))
 
 -- a call did this, and made the text that is told of it
 abbrev pub text_told : List ℕ → Result (Unit {0}) Refusal → Result (List ℕ) Refusal
 text_told text (Ok done) = Ok text
 text_told text (Err refusal) = Err refusal
 
-abbrev pub DoesText : (State → Result (List ℕ) Refusal → Type 0) → Kept → List ℕ → Result (Unit {0}) Refusal → Type 0
+abbrev pub DoesText : Coming (List ℕ) → Kept → List ℕ → Result (Unit {0}) Refusal → Type 0
 DoesText wanted new text result = Does wanted new (text_told text result)

@@ -13,7 +13,7 @@ use Rattle.rt_events.specs.declared.event.Event.TheVariants.{See, Transit, Downl
 use Rattle.rt_events.specs.declared.outcome.Outcome.{Outcome}
 use Rattle.rt_events.specs.declared.refusal.Refusal.{Refusal}
 use Rattle.rt_events.specs.declared.refusal.Refusal.TheVariants.{NoSuchMessage, NoSuchNode, NodeDown, NothingToDo, Limit, Memory}
-use Rattle.rt_macros.specs.Doing.{Attempted, Choose, Each, EachFrom, Gives, Happens, Passed, Refuses, Then}
+use Rattle.rt_macros.specs.Doing.{Act, Attempted, Choose, Each, EachFrom, Gives, Happens, Passed, Refuses, Then, Tries}
 use Rattle.rt_macros.specs.Exchanging.{AfterReport}
 use Rattle.rt_macros.specs.declared.settling.TheConstants.{BATCH, MOST_ROUNDS}
 use Rattle.rt_model.specs.declared.replica_state.ReplicaState.{ReplicaState}
@@ -25,23 +25,23 @@ use Rattle.rt_state.specs.declared.state.State.{State}
 abbrev pub SegmentAt : Type 0
 SegmentAt = Partition × Sequence
 
-abbrev pub TransitTurn : Instance → SegmentAt → Bool → State → State → Result Bool Refusal → Type 0
+abbrev pub TransitTurn : Instance → SegmentAt → Bool → Act Bool
 TransitTurn instance segment busy w = Attempted (Transit instance segment.0 segment.1) busy w
 
-abbrev pub Transits : Instance → Bool → State → State → Result Bool Refusal → Type 0
+abbrev pub Transits : Instance → Bool → Act Bool
 Transits instance busy w = Each (TransitTurn instance) (due_transits_of w instance) busy w
 
-abbrev pub DownloadTurn : Instance → SegmentAt → Bool → State → State → Result Bool Refusal → Type 0
+abbrev pub DownloadTurn : Instance → SegmentAt → Bool → Act Bool
 DownloadTurn instance segment busy w = Attempted (Download instance segment.0 segment.1) busy w
 
-abbrev pub Downloads : Instance → Bool → State → State → Result Bool Refusal → Type 0
+abbrev pub Downloads : Instance → Bool → Act Bool
 Downloads instance busy w = Each (DownloadTurn instance) (wanted_in w instance) busy w
 
-abbrev pub TransitsAndDownloads : Instance → Bool → State → State → Result Bool Refusal → Type 0
+abbrev pub TransitsAndDownloads : Instance → Bool → Act Bool
 TransitsAndDownloads instance busy w = Then (Transits instance busy) (Downloads instance) w
 
 -- the first part of a round, for one server
-abbrev pub ServerTurn : ℕ → Bool → State → State → Result Bool Refusal → Type 0
+abbrev pub ServerTurn : ℕ → Bool → Act Bool
 ServerTurn at busy w =
     Choose (up_in w (Server (record { 0 = at })))
     (Then (Passed (See (record { 0 = at }))) (λ done. TransitsAndDownloads (record { 0 = at }) busy) w)
@@ -59,18 +59,18 @@ abbrev pub may_consume : Bool → State → Instance → SegmentAt → Bool
 may_consume paused w instance segment =
     is_ready_at w instance segment.0 segment.1 && not (waits_in w paused instance segment.0 segment.1)
 
-abbrev pub ConsumeTurn : Bool → Instance → SegmentAt → Bool → State → State → Result Bool Refusal → Type 0
+abbrev pub ConsumeTurn : Bool → Instance → SegmentAt → Bool → Act Bool
 ConsumeTurn paused instance segment busy w =
     Choose (may_consume paused w instance segment) (Attempted (Consume instance segment.0 segment.1 BATCH) busy w) (Gives busy w)
 
-abbrev pub BuildTurn : Instance → SegmentAt → Bool → State → State → Result Bool Refusal → Type 0
+abbrev pub BuildTurn : Instance → SegmentAt → Bool → Act Bool
 BuildTurn instance segment busy w = Attempted (Build instance segment.0 segment.1) busy w
 
-abbrev pub FinishesTurn : ControllerId → Outcome → State → State → Result Bool Refusal → Type 0
+abbrev pub FinishesTurn : ControllerId → Outcome → Act Bool
 FinishesTurn controller outcome w = Then (AfterReport controller outcome) (λ exchanged. Gives true) w
 
 -- an exchange takes place where there is a request
-abbrev pub AfterRequest : ControllerId → Bool → Result Outcome Refusal → State → State → Result Bool Refusal → Type 0
+abbrev pub AfterRequest : ControllerId → Bool → Result Outcome Refusal → Act Bool
 AfterRequest controller busy (Ok outcome) w = FinishesTurn controller outcome w
 AfterRequest controller busy (Err NothingToDo) w = Gives busy w
 AfterRequest controller busy (Err NoSuchMessage) w = Refuses NoSuchMessage w
@@ -79,56 +79,53 @@ AfterRequest controller busy (Err NodeDown) w = Refuses NodeDown w
 AfterRequest controller busy (Err (Limit which)) w = Refuses (Limit which) w
 AfterRequest controller busy (Err Memory) w = Refuses Memory w
 
-pub record Requests (instance : Instance) (segment : SegmentAt) (controller : ControllerId) (busy : Bool) (w v : State) (result : Result Bool Refusal) : Type 0 where
-  pub between : State
-  pub told : Result Outcome Refusal
-  pub came : Happens (Report instance segment.0 segment.1) w between told
-  pub further : AfterRequest controller busy told between v result
+abbrev pub Requests : Instance → SegmentAt → ControllerId → Bool → Act Bool
+Requests instance segment controller busy w = Tries (Happens (Report instance segment.0 segment.1)) (AfterRequest controller busy) w
 
-abbrev pub WithLeader : Instance → SegmentAt → Option ControllerId → Bool → State → State → Result Bool Refusal → Type 0
+abbrev pub WithLeader : Instance → SegmentAt → Option ControllerId → Bool → Act Bool
 WithLeader instance segment (Some controller) busy w = Requests instance segment controller busy w
 WithLeader instance segment None busy w = Gives busy w
 
-abbrev pub ExchangeTurn : Instance → SegmentAt → Bool → State → State → Result Bool Refusal → Type 0
+abbrev pub ExchangeTurn : Instance → SegmentAt → Bool → Act Bool
 ExchangeTurn instance segment busy w = WithLeader instance segment (leader_in w) busy w
 
-abbrev pub BuildAndExchange : Instance → SegmentAt → Bool → State → State → Result Bool Refusal → Type 0
+abbrev pub BuildAndExchange : Instance → SegmentAt → Bool → Act Bool
 BuildAndExchange instance segment busy w = Then (BuildTurn instance segment busy) (ExchangeTurn instance segment) w
 
-abbrev pub ReplicaTurn : Bool → Instance → SegmentAt → Bool → State → State → Result Bool Refusal → Type 0
+abbrev pub ReplicaTurn : Bool → Instance → SegmentAt → Bool → Act Bool
 ReplicaTurn paused instance segment busy w = Then (ConsumeTurn paused instance segment busy) (BuildAndExchange instance segment) w
 
-abbrev pub ReplicasHeld : Bool → Instance → Bool → State → State → Result Bool Refusal → Type 0
+abbrev pub ReplicasHeld : Bool → Instance → Bool → Act Bool
 ReplicasHeld paused instance busy w = Each (ReplicaTurn paused instance) (held_in w instance) busy w
 
 -- the second part of a round, for one server
-abbrev pub ReplicasTurn : Bool → ℕ → Bool → State → State → Result Bool Refusal → Type 0
+abbrev pub ReplicasTurn : Bool → ℕ → Bool → Act Bool
 ReplicasTurn paused at busy w =
     Choose (up_in w (Server (record { 0 = at })))
     (ReplicasHeld paused (record { 0 = at }) busy w)
     (Gives busy w)
 
-abbrev pub ServersTurn : Bool → State → State → Result Bool Refusal → Type 0
+abbrev pub ServersTurn : Bool → Act Bool
 ServersTurn busy w = EachFrom ServerTurn 0 w.setup.servers busy w
 
-abbrev pub ReplicasOfAll : Bool → Bool → State → State → Result Bool Refusal → Type 0
+abbrev pub ReplicasOfAll : Bool → Bool → Act Bool
 ReplicasOfAll paused busy w = EachFrom (ReplicasTurn paused) 0 w.setup.servers busy w
 
-abbrev pub Round : Bool → State → State → Result Bool Refusal → Type 0
+abbrev pub Round : Bool → Act Bool
 Round paused w = Then (ServersTurn false) (ReplicasOfAll paused) w
 
-abbrev pub AfterRound : (State → State → Result Bool Refusal → Type 0) → Bool → State → State → Result Bool Refusal → Type 0
+abbrev pub AfterRound : Act Bool → Bool → Act Bool
 AfterRound further true w = further w
 AfterRound further false w = Gives true w
 
 -- whether the last of so many rounds was quiet
-abbrev pub SettlesIn : Bool → ℕ → State → State → Result Bool Refusal → Type 0
+abbrev pub SettlesIn : Bool → ℕ → Act Bool
 SettlesIn paused zero w = Gives false w
 SettlesIn paused (suc rounds) w = Then (Round paused) (AfterRound (SettlesIn paused rounds)) w
 
-abbrev pub Settles : Bool → ℕ → State → State → Result Bool Refusal → Type 0
+abbrev pub Settles : Bool → ℕ → Act Bool
 Settles paused rounds w = Choose ((rounds == 0) || nat_lt MOST_ROUNDS rounds) (Refuses NothingToDo w) (SettlesIn paused rounds w)
 
 -- the line that is reported
-abbrev pub SettleTold : Bool → ℕ → State → State → Result (List ℕ) Refusal → Type 0
+abbrev pub SettleTold : Bool → ℕ → Act (List ℕ)
 SettleTold paused rounds w = Then (Settles paused rounds) (λ quiet. Gives (settled_text quiet)) w

@@ -29,6 +29,7 @@ pub fn act(alloc: Global, world: &mut World, event: Event) -> Result<Outcome, Re
 }
 
 /// Passes over a line that is no event.
+#[tactic(auto, using(crate::proofs::Applied::line_passes))]
 pub fn pass(world: &mut World) -> Result<(), Refusal>
     requires { world.old.spent ≡ false }
     ensures { Does (PassesOver world.old.state) world.new result }
@@ -72,6 +73,7 @@ pub fn produce(
 }
 
 /// Has an event happen where there is something to do, and notes that it happened.
+#[tactic(auto, using(crate::proofs::Doing::does_tried))]
 pub fn attempt(alloc: Global, world: &mut World, event: Event, busy: bool) -> Result<bool, Refusal>
     requires unspent { world.old.spent ≡ false }
     requires fits { Fits world.old.state.setup.schema event }

@@ -29,7 +29,7 @@ pub fn fill(
     Ok(world.length(partition))
 }
 
-#[tactic(auto, using(crate::proofs::Doing::count_ends, crate::proofs::Doing::leads_itself))]
+#[tactic(auto, using(crate::proofs::Doing::leads_itself))]
 fn fill_more(
     alloc: Global,
     world: &mut World,

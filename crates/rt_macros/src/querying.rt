@@ -63,7 +63,7 @@ fn answer_now(alloc: Global, world: &mut World, number: u32) -> Result<Answer, R
     }
 }
 
-#[tactic(auto, using(crate::proofs::Doing::count_ends, crate::proofs::Doing::leads_itself))]
+#[tactic(auto, using(crate::proofs::Doing::leads_itself))]
 fn route_all(alloc: Global, world: &mut World, number: u32) -> Result<(), Refusal>
     requires { world.old.spent ≡ false }
     ensures { Does (RoutesAll number world.old.state) world.new result }
@@ -84,7 +84,7 @@ fn route_all(alloc: Global, world: &mut World, number: u32) -> Result<(), Refusa
     Ok(())
 }
 
-#[tactic(auto, using(crate::proofs::Doing::count_ends, crate::proofs::Doing::leads_itself))]
+#[tactic(auto, using(crate::proofs::Doing::leads_itself))]
 fn ask_all(alloc: Global, world: &mut World, number: u32) -> Result<(), Refusal>
     requires { world.old.spent ≡ false }
     ensures { Does (AsksAll number world.old.state) world.new result }
@@ -132,7 +132,7 @@ fn ask_piece(alloc: Global, world: &mut World, number: u32, piece: Piece) -> Res
     Ok(())
 }
 
-#[tactic(auto, using(crate::proofs::Doing::count_ends, crate::proofs::Doing::leads_itself))]
+#[tactic(auto, using(crate::proofs::Doing::leads_itself))]
 fn ask_replicas(
     alloc: Global,
     world: &mut World,

@@ -80,7 +80,7 @@ fn round(alloc: Global, world: &mut World, pause: &Pause) -> Result<bool, Refusa
 }
 
 // Each server that is up reads the ideal state, and does what it wants.
-#[tactic(auto, using(crate::proofs::Doing::count_ends, crate::proofs::Doing::leads_itself))]
+#[tactic(auto, using(crate::proofs::Doing::leads_itself))]
 fn serve_all(alloc: Global, world: &mut World) -> Result<bool, Refusal>
     requires { world.old.spent ≡ false }
     ensures { Does (ServersTurn false world.old.state) world.new result }
@@ -99,7 +99,7 @@ fn serve_all(alloc: Global, world: &mut World) -> Result<bool, Refusal>
 }
 
 // The replicas of each server that is up consume, build and exchange.
-#[tactic(auto, using(crate::proofs::Doing::count_ends, crate::proofs::Doing::leads_itself))]
+#[tactic(auto, using(crate::proofs::Doing::leads_itself))]
 fn consume_all(
     alloc: Global,
     world: &mut World,
@@ -239,7 +239,7 @@ fn held_turn(
 }
 
 // Each replica has its turn; those at rest are passed together, since theirs comes to nothing.
-#[tactic(auto, using(crate::proofs::Passed::list_ends, crate::proofs::Passed::pass_within))]
+#[tactic(auto, using(crate::proofs::Passed::pass_within))]
 fn turn_all(
     alloc: Global,
     world: &mut World,
@@ -384,6 +384,7 @@ fn exchange_turn(
 }
 
 // Has a replica's request be sent and answered, where there is one.
+#[tactic(auto, using(crate::proofs::Doing::does_tried))]
 fn request_turn(
     alloc: Global,
     world: &mut World,

@@ -1,4 +1,5 @@
-use Rattle.rt_macros.proofs.Doing.{list_goes_on, list_stops}
+use Rattle.std.proofs.Common.{arith}
+use Rattle.rt_macros.proofs.Doing.{list_ends, list_goes_on, list_stops}
 use Rattle.rt_macros.specs.Settling.{Downloads, DownloadTurn}
 use Rattle.rt_macros.proofs.settling.download_all.Goals as goal
 
@@ -10,3 +11,10 @@ loop-segment-preserved c = record {
 
 pub returns-in-Err : goal.returns-in-Err
 returns-in-Err c = list_stops (DownloadTurn c.args.instance) c.as_slice-segment-items.result.now c.loop-segment.segment-index _ c.loop-segment.busy c.loop-segment.world.state c.attempt.new.world c.in-Err.refusal (Downloads c.args.instance c.args.noted c.args.world.now.state) c.loop-segment.invariant.same c.loop-segment-test.true c.in-Err.ensures
+
+pub returns : goal.returns
+returns c = (
+  c.loop-segment.invariant.unspent,
+  list_ends (DownloadTurn c.args.instance) c.as_slice-segment-items.result.now c.loop-segment.segment-index c.loop-segment.busy c.loop-segment.world.state (Downloads c.args.instance c.args.noted c.args.world.now.state)
+      c.loop-segment.invariant.same (omega (arith, c.loop-segment-test.false)),
+)

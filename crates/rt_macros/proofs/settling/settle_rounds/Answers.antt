@@ -1,6 +1,6 @@
 use Rattle.std.proofs.Common.{◌-◌, Ok, arith, subst}
 use Rattle.rt_macros.specs.Doing.{Does}
-use Rattle.rt_macros.proofs.Turns.{rounds_end, rounds_go_on, rounds_stop}
+use Rattle.rt_macros.proofs.Turns.{rounds_end, rounds_go_on, rounds_over, rounds_stop}
 use Rattle.rt_macros.specs.Settling.{Round, SettlesIn}
 use Rattle.rt_macros.proofs.settling.settle_rounds.Goals as goal
 
@@ -17,3 +17,10 @@ returns-in-Ok-false c =
 pub returns-in-Err : goal.returns-in-Err
 returns-in-Err c =
     rounds_stop c.args.pause.now c.loop-left.left (c.loop-left.left - 1) c.loop-left.world.state c.round.new.world c.in-Err.refusal (SettlesIn c.args.pause.now c.args.rounds c.args.world.now.state) c.loop-left.invariant.same (omega (arith, c.loop-left-test.true)) c.in-Err.ensures
+
+pub returns : goal.returns
+returns c = (
+  c.loop-left.invariant.unspent,
+  rounds_over c.args.pause.now c.loop-left.left c.loop-left.world.state (SettlesIn c.args.pause.now c.args.rounds c.args.world.now.state)
+      c.loop-left.invariant.same (omega (arith, c.loop-left-test.false)),
+)

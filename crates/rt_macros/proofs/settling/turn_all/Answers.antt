@@ -1,7 +1,7 @@
 use Rattle.std.proofs.Common.{◌≡◌, ◌∙◌, ◌+◌, drop, ap, arith}
 use Rattle.std.proofs.lemmas.List.{take_rest}
 use Rattle.std.specs.List.{prefix_len}
-use Rattle.rt_macros.proofs.Doing.{list_goes_on, list_stops}
+use Rattle.rt_macros.proofs.Doing.{list_ends, list_goes_on, list_stops}
 use Rattle.rt_macros.proofs.Passed.{list_passes, list_starts, pass_within, rest_within}
 use Rattle.rt_macros.specs.Doing.{Each}
 use Rattle.rt_macros.specs.Resting.{rests_at}
@@ -45,3 +45,11 @@ pub returns-in-Err : goal.returns-in-Err
 returns-in-Err c =
     list_stops (ReplicaTurn c.args.pause.now c.args.instance) c.args.segments.now c.loop-at.at _ c.loop-at.busy c.loop-at.world.state c.replica_turn.new.world c.in-Err.refusal
     (Each (ReplicaTurn c.args.pause.now c.args.instance) c.args.segments.now c.args.noted c.args.world.now.state) c.loop-at.invariant.same c.loop-at-test.true c.in-Err.ensures
+
+pub returns : goal.returns
+returns c = (
+  c.loop-at.invariant.unspent,
+  list_ends (ReplicaTurn c.args.pause.now c.args.instance) c.args.segments.now c.loop-at.at c.loop-at.busy c.loop-at.world.state
+      (Each (ReplicaTurn c.args.pause.now c.args.instance) c.args.segments.now c.args.noted c.args.world.now.state) c.loop-at.invariant.same
+      (omega (arith, c.loop-at-test.false)),
+)
