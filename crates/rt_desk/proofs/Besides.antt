@@ -7,18 +7,18 @@ use Rattle.rt_desk.specs.declared.desk.Desk.{Desk}
 use Rattle.rt_events.specs.declared.refusal.Refusal.{Refusal}
 use Rattle.rt_macros.proofs.Doing.{does_refused, does_told}
 use Rattle.rt_hybrid.specs.Table.{OfflineTable}
-use Rattle.rt_macros.specs.Doing.{DoesText, Gives}
+use Rattle.rt_macros.specs.Doing.{Act, DoesText, Gives}
 use Rattle.rt_script.specs.declared.further.Further.{Further}
 use Rattle.rt_script.specs.declared.line.Line.{Line}
 use Rattle.rt_world.specs.Kept.{Kept}
 use Rattle.rt_state.specs.declared.state.State.{State}
 
-pub beside_does : (act : State → State → Result (List ℕ) Refusal → Type 0) (desk : Desk) (w : State) (new : Kept) (text : List ℕ) (result : Result (Unit {0}) Refusal)
+pub beside_does : (act : Act (List ℕ)) (desk : Desk) (w : State) (new : Kept) (text : List ℕ) (result : Result (Unit {0}) Refusal)
     → DoesText (act w) new text result → DoesTold (Beside desk act w) new text desk result
 beside_does act desk w new text (Ok done) d = does_told act (told desk) w new text d
 beside_does act desk w new text (Err refusal) d = does_refused act (λ x. Gives (told desk x)) w new refusal d
 
-pub puts_does : {Part : Type 0} (put : Part → Desk) (act : State → State → Result (Changed Part) Refusal → Type 0) (w : State) (new : Kept) (text : List ℕ) (part : Part) (result : Result (Unit {0}) Refusal)
+pub puts_does : {Part : Type 0} (put : Part → Desk) (act : Act (Changed Part)) (w : State) (new : Kept) (text : List ℕ) (part : Part) (result : Result (Unit {0}) Refusal)
     → DoesChange (act w) new text part result → DoesTold (Puts put act w) new text (put part) result
 puts_does put act w new text part (Ok done) d = does_told act (λ x. told (put x.part) x.text) w new (changed part text) d
 puts_does put act w new text part (Err refusal) d = does_refused act (λ x. Gives (told (put x.part) x.text)) w new refusal d

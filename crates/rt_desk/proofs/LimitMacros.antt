@@ -5,10 +5,10 @@ use Rattle.rt_base.specs.declared.numbers.ControllerId.{ControllerId}
 use Rattle.rt_base.specs.declared.numbers.Instance.{Instance}
 use Rattle.rt_base.specs.declared.numbers.Partition.{Partition}
 use Rattle.rt_base.specs.declared.numbers.Sequence.{Sequence}
-use Rattle.rt_base.specs.declared.which.Which.TheVariants.{Events, Input}
+use Rattle.rt_base.specs.declared.which.Which.TheVariants.{Events}
 use Rattle.rt_assign.specs.Placement.{replica_of}
 use Rattle.rt_desk.proofs.DueLimits.{due_never}
-use Rattle.rt_desk.proofs.Limits.{Never, Unlimited, attempted_never, choose_never, down_other, each_from_never, each_never, event_never, events_other, gives_never, is_other, limit_other, memory_other, no_message_other, no_node_other, nothing_other, passed_never, refused_so, refuses_never, then_never}
+use Rattle.rt_desk.proofs.Limits.{Never, Unlimited, attempted_never, choose_never, down_other, each_from_never, each_never, event_never, events_other, gives_never, is_other, limit_other, memory_other, no_message_other, no_node_other, nothing_other, passed_never, refused_so, refuses_never, then_never, tries_never}
 use Rattle.rt_events.specs.declared.event.Event.{Event}
 use Rattle.rt_events.specs.declared.event.Event.TheVariants as event
 use Rattle.rt_events.specs.declared.outcome.Outcome.{Outcome}
@@ -18,7 +18,7 @@ use Rattle.rt_model.specs.declared.answer.Answer.{Answer}
 use Rattle.rt_model.specs.declared.piece.Piece.{Piece}
 use Rattle.rt_model.specs.declared.query.Query.{Query}
 use Rattle.rt_model.specs.declared.replica_state.ReplicaState.{ReplicaState}
-use Rattle.rt_macros.specs.Doing.{EachFrom, Gives, Happens, Then}
+use Rattle.rt_macros.specs.Doing.{Act, EachFrom, Gives, Happens, Reached, Then}
 use Rattle.rt_macros.specs.Exchanging.{AfterDelivery, AfterReply, AfterReport, AfterSending, AfterStep, EndsJob, ExchangeTold, Exchanges, Handles, IfDue, MakesStep, TakesAnswer, down_due, exchange_due, exchange_text}
 use Rattle.rt_macros.specs.Filling.{FillTold, Fills, FillsOne, TellsLength, numbered_text}
 use Rattle.rt_macros.specs.Outcomes.{answer_in, asked_in, delivered_in, ended_in, is_served, sent_in, state_in}
@@ -35,7 +35,6 @@ use Rattle.rt_world.specs.Reading.{due_transits_of, events_left_in, held_in, lea
 use Rattle.rt_state.specs.Room.{Found}
 use Rattle.rt_world.specs.Step.{due_of}
 use Rattle.rt_state.specs.declared.state.State.{State}
-use Rattle.rt_macros.proofs.Doing.{Act}
 
 -- ---- fill
 
@@ -173,20 +172,20 @@ server_never at busy w =
     (gives_never busy w)
 
 after_request_never : (i : Instance) (segment : SegmentAt) (c : ControllerId) (busy : Bool) (w : State) → Never (Requests i segment c busy w)
-after_request_never i segment c busy w v t = by_told t.told t.came t.further
+after_request_never i segment c busy w = tries_never (Happens e) (AfterRequest c busy) w by_told
   where
     e : Event
     e = event.Report i segment.0 segment.1
 
-    by_told : (told : Result Outcome Refusal) → Happens e w t.between told → AfterRequest c busy told t.between v (Err (Limit Input)) → ⊥
-    by_told (Ok outcome) came h =
-        then_never (AfterReport c outcome) (λ exchanged. Gives true) t.between (after_report_never c outcome t.between) (λ x u. gives_never true u) v h
-    by_told (Err NothingToDo) came h = gives_never busy t.between v h
-    by_told (Err NoSuchMessage) came h = refuses_never NoSuchMessage t.between no_message_other v h
-    by_told (Err NoSuchNode) came h = refuses_never NoSuchNode t.between no_node_other v h
-    by_told (Err NodeDown) came h = refuses_never NodeDown t.between down_other v h
-    by_told (Err (Limit which)) came h = refuses_never (Limit which) t.between (limit_other (Limit which) (Happens e) w t.between (event_never e w) came) v h
-    by_told (Err Memory) came h = refuses_never Memory t.between memory_other v h
+    by_told : (told : Result Outcome Refusal) (u : Reached) → Happens e w u told → Never (AfterRequest c busy told u.world)
+    by_told (Ok outcome) u came =
+        then_never (AfterReport c outcome) (λ exchanged. Gives true) u.world (after_report_never c outcome u.world) (λ x z. gives_never true z)
+    by_told (Err NothingToDo) u came = gives_never busy u.world
+    by_told (Err NoSuchMessage) u came = refuses_never NoSuchMessage u.world no_message_other
+    by_told (Err NoSuchNode) u came = refuses_never NoSuchNode u.world no_node_other
+    by_told (Err NodeDown) u came = refuses_never NodeDown u.world down_other
+    by_told (Err (Limit which)) u came = refuses_never (Limit which) u.world (limit_other (Limit which) (Happens e) w u (event_never e w) came)
+    by_told (Err Memory) u came = refuses_never Memory u.world memory_other
 
 with_leader_never : (i : Instance) (segment : SegmentAt) (o : Option ControllerId) (busy : Bool) (w : State) → Never (WithLeader i segment o busy w)
 with_leader_never i segment (Some c) busy w = after_request_never i segment c busy w

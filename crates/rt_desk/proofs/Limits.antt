@@ -6,13 +6,12 @@ use Rattle.rt_events.specs.declared.event.Event.{Event}
 use Rattle.rt_events.specs.declared.outcome.Outcome.{Outcome}
 use Rattle.rt_events.specs.declared.refusal.Refusal.{Refusal}
 use Rattle.rt_events.specs.declared.refusal.Refusal.TheVariants.{NoSuchMessage, NoSuchNode, NodeDown, NothingToDo, Limit, Memory}
-use Rattle.rt_macros.specs.Doing.{Attempted, AttemptedBy, Choose, Each, EachFrom, Further, Gives, Happens, Passed, PassesOver, Refuses, Then}
-use Rattle.rt_macros.proofs.Doing.{Act}
+use Rattle.rt_macros.specs.Doing.{Act, Attempted, AttemptedBy, Choose, Coming, Each, EachFrom, Further, Gives, Happens, Passed, PassesOver, Reached, Refuses, Then, Tries}
 use Rattle.rt_state.specs.declared.state.State.{State}
 
 -- this isn't refused so
-abbrev pub Never : {A : Type 0} → (State → Result A Refusal → Type 0) → Type 0
-Never act = (v : State) → act v (Err (Limit Input)) → ⊥
+abbrev pub Never : {A : Type 0} → Coming A → Type 0
+Never act = (v : Reached) → act v (Err (Limit Input)) → ⊥
 
 -- a refusal that isn't this one
 abbrev pub IsOther : Refusal → Type 0
@@ -79,34 +78,38 @@ passes_never w v came = pass_due_never w came.by.0
 
 -- ---- several things
 
-pub choose_never : {A : Type 0} (b : Bool) (act other : State → Result A Refusal → Type 0) → Never act → Never other → Never (Choose b act other)
+pub choose_never : {A : Type 0} (b : Bool) (act other : Coming A) → Never act → Never other → Never (Choose b act other)
 choose_never true act other f g v h = f v h
 choose_never false act other f g v h = g v h
 
 pub then_never : {A B : Type 0} (first : Act A) (behind : A → Act B) (w : State) → Never (first w) → ((x : A) (u : State) → Never (behind x u)) → Never (Then first behind w)
 then_never {A} {B} first behind w f g v t = by_told t.told t.came t.further
   where
-    by_told : (told : Result A Refusal) → first w t.between told → Further behind t.between v told (Err (Limit Input)) → ⊥
-    by_told (Ok x) came further = g x t.between v further
+    by_told : (told : Result A Refusal) → first w t.between told → Further behind t.between.world t.last told (Err (Limit Input)) → ⊥
+    by_told (Ok x) came further = g x t.between.world t.last further
     by_told (Err refusal) came h = f t.between (subst (λ r. first w t.between (Err r)) (same_refusal (Limit Input) refusal h.1) came)
+
+pub tries_never : {A B : Type 0} (first : Act A) (behind : Result A Refusal → Act B) (w : State)
+    → ((told : Result A Refusal) (u : Reached) → first w u told → Never (behind told u.world)) → Never (Tries first behind w)
+tries_never first behind w g v t = g t.told t.between t.came t.last t.further
 
 pub passed_never : (event : Event) (w : State) → Never (Passed event w)
 passed_never event w = then_never (Happens event) (λ outcome. Gives tt) w (event_never event w) (λ x u. gives_never tt u)
 
-pub limit_other : {A : Type 0} (refusal : Refusal) (act : Act A) (w u : State) → Never (act w) → act w u (Err refusal) → IsOther refusal
+pub limit_other : {A : Type 0} (refusal : Refusal) (act : Act A) (w : State) (u : Reached) → Never (act w) → act w u (Err refusal) → IsOther refusal
 limit_other refusal act w u f came e = f u (subst (λ r. act w u (Err r)) e came)
 
 pub attempted_never : (event : Event) (busy : Bool) (w : State) → Never (Attempted event busy w)
-attempted_never event busy w v t = by_told t.told t.came t.further
+attempted_never event busy w = tries_never (Happens event) (AttemptedBy busy) w by_told
   where
-    by_told : (told : Result Outcome Refusal) → Happens event w t.between told → AttemptedBy t.between told busy v (Err (Limit Input)) → ⊥
-    by_told (Ok outcome) came h = gives_never true t.between v h
-    by_told (Err NothingToDo) came h = gives_never busy t.between v h
-    by_told (Err NoSuchMessage) came h = refuses_never NoSuchMessage t.between no_message_other v h
-    by_told (Err NoSuchNode) came h = refuses_never NoSuchNode t.between no_node_other v h
-    by_told (Err NodeDown) came h = refuses_never NodeDown t.between down_other v h
-    by_told (Err (Limit which)) came h = refuses_never (Limit which) t.between (limit_other (Limit which) (Happens event) w t.between (event_never event w) came) v h
-    by_told (Err Memory) came h = refuses_never Memory t.between memory_other v h
+    by_told : (told : Result Outcome Refusal) (u : Reached) → Happens event w u told → Never (AttemptedBy busy told u.world)
+    by_told (Ok outcome) u came = gives_never true u.world
+    by_told (Err NothingToDo) u came = gives_never busy u.world
+    by_told (Err NoSuchMessage) u came = refuses_never NoSuchMessage u.world no_message_other
+    by_told (Err NoSuchNode) u came = refuses_never NoSuchNode u.world no_node_other
+    by_told (Err NodeDown) u came = refuses_never NodeDown u.world down_other
+    by_told (Err (Limit which)) u came = refuses_never (Limit which) u.world (limit_other (Limit which) (Happens event) w u (event_never event w) came)
+    by_told (Err Memory) u came = refuses_never Memory u.world memory_other
 
 pub each_never : {A S : Type 0} (act : A → S → Act S) (xs : List A) (noted : S) (w : State) → ((x : A) (s : S) (u : State) → Never (act x s u)) → Never (Each act xs noted w)
 each_never act [] noted w f = gives_never noted w

@@ -1,11 +1,11 @@
 -- No line is refused by the limit of the input.
-use Rattle.std.proofs.Common.{◌≡◌, ℕ, Bool, true, false, List, [], Option, Some, None, Result, Ok, Err, sym, ◌∙◌}
+use Rattle.std.proofs.Common.{◌≡◌, ℕ, Bool, true, false, List, [], ◌∷◌, ◌++◌, Option, Some, None, Result, Ok, Err, sym, ◌∙◌}
 use Rattle.std.specs.Prelude.{length, nat_lt, slice_get, ◌&&◌}
 use Rattle.rt_base.specs.declared.limits.TheConstants.{MOST_EVENTS}
 use Rattle.rt_base.specs.declared.numbers.Instance.{Instance}
 use Rattle.rt_base.specs.declared.numbers.Partition.{Partition}
 use Rattle.rt_base.specs.declared.numbers.Sequence.{Sequence}
-use Rattle.rt_base.specs.declared.which.Which.TheVariants.{Events, Input}
+use Rattle.rt_base.specs.declared.which.Which.TheVariants.{Events}
 use Rattle.rt_desk.specs.Forcing.{AfterForce, ForceCommitTold, ForceStatusTold, ForcesAll, ForcesOne, GivesPending, Noted, PauseTold, ResumeTold, StatusBy, with_job}
 use Rattle.rt_desk.specs.Hybrid.{GivesHybrid, HybridTold, PushLine, PushTold}
 use Rattle.rt_desk.specs.Latest.{GivesLatest, LatestTold}
@@ -14,7 +14,7 @@ use Rattle.rt_desk.specs.Saying.{EventLineTold, FurtherTold, LineTold, MacroTold
 use Rattle.rt_desk.specs.Telling.{Beside, Changed, Counts, CountsAs, Puts, changed, told}
 use Rattle.rt_desk.specs.declared.desk.Desk.{Desk}
 use Rattle.rt_desk.proofs.LimitMacros.{exchange_never, fill_never, query_never, settle_never}
-use Rattle.rt_desk.proofs.Limits.{Never, Unlimited, down_other, each_never, event_never, events_other, choose_never, found_so, gives_never, is_other, limit_other, memory_other, no_message_other, no_node_other, nothing_other, passes_never, refused_so, refuses_never, then_never}
+use Rattle.rt_desk.proofs.Limits.{Never, Unlimited, down_other, each_never, event_never, events_other, choose_never, found_so, gives_never, is_other, limit_other, memory_other, no_message_other, no_node_other, nothing_other, passes_never, refused_so, refuses_never, then_never, tries_never}
 use Rattle.rt_dryrun.specs.Peers.{file_at, file_by, has_server, others_of, meta_in, peer_of}
 use Rattle.rt_dryrun.specs.Rehearsing.{Going as Plan, PlansBy, PlansIf, StepsGoing, StepsOn, after_loaded, capped, is_among, is_fit, loaded_by, loaded_of}
 use Rattle.rt_dryrun.specs.declared.peer_file.PeerFile.{PeerFile}
@@ -26,7 +26,7 @@ use Rattle.rt_events.specs.declared.outcome.Outcome.{Outcome}
 use Rattle.rt_events.specs.declared.refusal.Refusal.{Refusal}
 use Rattle.rt_events.specs.declared.refusal.Refusal.TheVariants.{NoSuchMessage, NoSuchNode, NodeDown, NothingToDo, Limit, Memory}
 use Rattle.rt_hybrid.specs.Table.{OfflineTable}
-use Rattle.rt_macros.specs.Doing.{Gives, Happens, PassesOver}
+use Rattle.rt_macros.specs.Doing.{Act, Gives, Happens, PassesOver, Reached}
 use Rattle.rt_model.specs.Metadata.{metadata_of}
 use Rattle.rt_model.specs.declared.seg_meta.SegMeta.{SegMeta}
 use Rattle.rt_model.specs.declared.status.Status.{Status}
@@ -60,10 +60,10 @@ counts_as_never part text w = then_never PassesOver (λ done. Gives (changed par
 
 -- ---- the desk
 
-beside_never : (desk : Desk) (act : State → State → Result (List ℕ) Refusal → Type 0) (w : State) → Never (act w) → Never (Beside desk act w)
+beside_never : (desk : Desk) (act : Act (List ℕ)) (w : State) → Never (act w) → Never (Beside desk act w)
 beside_never desk act w f = then_never act (λ text. Gives (told desk text)) w f (λ text u. gives_never (told desk text) u)
 
-puts_never : {Part : Type 0} (put : Part → Desk) (act : State → State → Result (Changed Part) Refusal → Type 0) (w : State) → Never (act w) → Never (Puts put act w)
+puts_never : {Part : Type 0} (put : Part → Desk) (act : Act (Changed Part)) (w : State) → Never (act w) → Never (Puts put act w)
 puts_never put act w f = then_never act (λ x. Gives (told (put x.part) x.text)) w f (λ x u. gives_never (told (put x.part) x.text) u)
 
 -- ---- events and macros
@@ -107,19 +107,19 @@ hybrid_never (Some table) (asked.Refused number) w = counts_never (noquery_text 
 -- ---- forces
 
 force_never : (replica : ReplicaSeen) (noted : Noted) (w : State) → Never (ForcesOne replica noted w)
-force_never replica noted w v t = by_told t.told t.came t.further
+force_never replica noted w = tries_never (Happens e) (AfterForce replica noted) w by_told
   where
     e : Event
     e = Force replica.instance replica.partition replica.sequence
 
-    by_told : (told : Result Outcome Refusal) → Happens e w t.between told → AfterForce replica noted told t.between v (Err (Limit Input)) → ⊥
-    by_told (Ok outcome) came h = gives_never _ t.between v h
-    by_told (Err NothingToDo) came h = gives_never noted t.between v h
-    by_told (Err NoSuchMessage) came h = refuses_never NoSuchMessage t.between no_message_other v h
-    by_told (Err NoSuchNode) came h = refuses_never NoSuchNode t.between no_node_other v h
-    by_told (Err NodeDown) came h = refuses_never NodeDown t.between down_other v h
-    by_told (Err (Limit which)) came h = refuses_never (Limit which) t.between (limit_other (Limit which) (Happens e) w t.between (event_never e w) came) v h
-    by_told (Err Memory) came h = refuses_never Memory t.between memory_other v h
+    by_told : (told : Result Outcome Refusal) (u : Reached) → Happens e w u told → Never (AfterForce replica noted told u.world)
+    by_told (Ok outcome) u came = gives_never (noted ++ replica ∷ []) u.world
+    by_told (Err NothingToDo) u came = gives_never noted u.world
+    by_told (Err NoSuchMessage) u came = refuses_never NoSuchMessage u.world no_message_other
+    by_told (Err NoSuchNode) u came = refuses_never NoSuchNode u.world no_node_other
+    by_told (Err NodeDown) u came = refuses_never NodeDown u.world down_other
+    by_told (Err (Limit which)) u came = refuses_never (Limit which) u.world (limit_other (Limit which) (Happens e) w u (event_never e w) came)
+    by_told (Err Memory) u came = refuses_never Memory u.world memory_other
 
 forces_never : (w : State) → Never (ForcesAll w)
 forces_never w = each_never ForcesOne (replicas_seen w) [] w (λ replica noted u. force_never replica noted u)

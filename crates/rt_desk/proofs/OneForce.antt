@@ -1,5 +1,5 @@
 -- The forces of a line are one, and so is what is told of force jobs.
-use Rattle.std.proofs.Common.{◌≡◌, ℕ, true, false, List, [], ◌∷◌, ◌++◌, length, Option, Some, None, Result, Ok, Err, refl, sym, ap, subst, slice_get}
+use Rattle.std.proofs.Common.{ℕ, true, false, List, [], ◌∷◌, ◌++◌, length, Option, Some, None, Result, Ok, Err, refl, ap, slice_get}
 use Rattle.rt_desk.specs.Forcing.{AfterForce, ForceCommitTold, ForcesAll, ForcesOne, ForceStatusTold, GivesPending, Jobs, Noted, PauseTold, ResumeTold, StatusBy, nodes_in, with_job}
 use Rattle.rt_desk.specs.Telling.{changed}
 use Rattle.rt_desk.proofs.OneTelling.{Equal, OneBy, counts_as_by, gives_by, then_by}
@@ -9,29 +9,30 @@ use Rattle.rt_events.specs.declared.refusal.Refusal.{Refusal}
 use Rattle.rt_events.specs.declared.refusal.Refusal.TheVariants.{NoSuchMessage, NoSuchNode, NodeDown, NothingToDo, Limit, Memory}
 use Rattle.rt_exact.specs.Acts.{AreOne}
 use Rattle.rt_exact.specs.Alike.{AreAlike}
-use Rattle.rt_exact.proofs.Acts.{each_one, gives_one, happens_one, passes_over_one, refuses_one, then_one}
+use Rattle.rt_exact.proofs.Acts.{each_one, gives_one, happens_one, passes_over_one, refuses_one, then_one, tries_one}
 use Rattle.rt_exact.proofs.Macros.{reads}
-use Rattle.rt_macros.specs.Doing.{Gives, PassesOver}
+use Rattle.rt_macros.specs.Doing.{Gives, Happens, PassesOver}
 use Rattle.rt_pause.specs.Forced.{Segment, pending_of, segments_of}
 use Rattle.rt_pause.specs.declared.replica_seen.ReplicaSeen.{ReplicaSeen}
 use Rattle.rt_report.specs.FurtherTexts.{forced_text, paused_text, pending_text, resumed_text}
 use Rattle.rt_world.specs.Reading.{replicas_seen}
 use Rattle.rt_state.specs.declared.state.State.{State}
 
-force_one : (replica : ReplicaSeen) (noted : Noted) (w v : State) → AreAlike w v → AreOne (ForcesOne replica noted w) (ForcesOne replica noted v)
-force_one replica noted w v k x y r s h g = by_told h.told h.further (subst (λ t. AfterForce replica noted t g.between y s) (sym z.0) g.further)
-  where
-    z : (h.told ≡ g.told) × AreAlike h.between g.between
-    z = happens_one (event.Force replica.instance replica.partition replica.sequence) w v k tt h.between g.between h.told g.told h.came g.came
+after_force_one : (replica : ReplicaSeen) (noted : Noted) (told : Result Outcome Refusal) (w v : State) → AreAlike w v
+    → AreOne (AfterForce replica noted told w) (AfterForce replica noted told v)
+after_force_one replica noted (Ok outcome) w v k = gives_one (noted ++ replica ∷ []) (noted ++ replica ∷ []) w v k refl
+after_force_one replica noted (Err NothingToDo) w v k = gives_one noted noted w v k refl
+after_force_one replica noted (Err NoSuchMessage) w v k = refuses_one NoSuchMessage w v k
+after_force_one replica noted (Err NoSuchNode) w v k = refuses_one NoSuchNode w v k
+after_force_one replica noted (Err NodeDown) w v k = refuses_one NodeDown w v k
+after_force_one replica noted (Err (Limit which)) w v k = refuses_one (Limit which) w v k
+after_force_one replica noted (Err Memory) w v k = refuses_one Memory w v k
 
-    by_told : (told : Result Outcome Refusal) → AfterForce replica noted told h.between x r → AfterForce replica noted told g.between y s → (r ≡ s) × AreAlike x y
-    by_told (Ok outcome) p q = gives_one (noted ++ replica ∷ []) (noted ++ replica ∷ []) h.between g.between z.1 refl x y r s p q
-    by_told (Err NothingToDo) p q = gives_one noted noted h.between g.between z.1 refl x y r s p q
-    by_told (Err NoSuchMessage) p q = refuses_one NoSuchMessage h.between g.between z.1 x y r s p q
-    by_told (Err NoSuchNode) p q = refuses_one NoSuchNode h.between g.between z.1 x y r s p q
-    by_told (Err NodeDown) p q = refuses_one NodeDown h.between g.between z.1 x y r s p q
-    by_told (Err (Limit which)) p q = refuses_one (Limit which) h.between g.between z.1 x y r s p q
-    by_told (Err Memory) p q = refuses_one Memory h.between g.between z.1 x y r s p q
+force_one : (replica : ReplicaSeen) (noted : Noted) (w v : State) → AreAlike w v → AreOne (ForcesOne replica noted w) (ForcesOne replica noted v)
+force_one replica noted w v k =
+    let e = event.Force replica.instance replica.partition replica.sequence in
+    tries_one (Happens e) (Happens e) (AfterForce replica noted) (AfterForce replica noted) w v (happens_one e w v k tt)
+    (λ told u t l. after_force_one replica noted told u t l)
 
 forces_one : (w v : State) → AreAlike w v → AreOne (ForcesAll w) (ForcesAll v)
 forces_one w v k =

@@ -1,5 +1,5 @@
 -- A line tells one thing.
-use Rattle.std.proofs.Common.{◌≡◌, ℕ, Bool, ◌&&◌, if◌then◌else◌, List, Option, Some, None, Result, refl, ◌∙◌, ap, subst}
+use Rattle.std.proofs.Common.{◌≡◌, ℕ, Bool, ◌&&◌, if◌then◌else◌, List, Option, Some, None, refl, ◌∙◌, ap, subst}
 use Rattle.rt_base.specs.declared.numbers.Instance.{Instance}
 use Rattle.rt_base.specs.declared.numbers.Partition.{Partition}
 use Rattle.rt_base.specs.declared.numbers.Sequence.{Sequence}
@@ -17,7 +17,6 @@ use Rattle.rt_desk.proofs.OneTelling.{Coming, Equal, OneBy, SameDesk, SameRows, 
 use Rattle.rt_events.specs.Fits.{Fits}
 use Rattle.rt_events.specs.declared.event.Event.{Event}
 use Rattle.rt_events.specs.declared.event.Event.TheVariants as event
-use Rattle.rt_events.specs.declared.refusal.Refusal.{Refusal}
 use Rattle.rt_exact.specs.Acts.{AreOne}
 use Rattle.rt_exact.specs.Alike.{AreAlike}
 use Rattle.rt_exact.proofs.Acts.{gives_one, happens_one, then_one}
@@ -25,7 +24,7 @@ use Rattle.rt_exact.proofs.Dues.{due_alike}
 use Rattle.rt_exact.proofs.Exchanges.{exchange_one}
 use Rattle.rt_exact.proofs.Macros.{fill_one, query_one}
 use Rattle.rt_exact.proofs.Settles.{settle_one}
-use Rattle.rt_macros.specs.Doing.{Gives, Happens}
+use Rattle.rt_macros.specs.Doing.{Act, Gives, Happens}
 use Rattle.rt_macros.specs.Settling.{waits_in}
 use Rattle.rt_dryrun.specs.Rehearsing.{Going as Plan}
 use Rattle.rt_hybrid.specs.Table.{OfflineTable}
@@ -120,7 +119,7 @@ plan_told d e act w v desks one x y r s h g =
     (subst (λ (old : Option Plan). Puts (with_plan d) (act old) w x r) desks.rehearsing h) g
 
 -- a line that leaves the desk, by a part of it
-part_told : {P : Type 0} (d e : Desk) (act : P → State → State → Result (List ℕ) Refusal → Type 0) (a b : P) (w v : State) → SameDesk d e → a ≡ b
+part_told : {P : Type 0} (d e : Desk) (act : P → Act (List ℕ)) (a b : P) (w v : State) → SameDesk d e → a ≡ b
     → AreOne (act b w) (act b v) → TellOne (Beside d (act a) w) (Beside e (act b) v)
 part_told {P} d e act a b w v desks same one x y r s h g =
     beside_one (act b) (act b) d e w v desks one x y r s (subst (λ (p : P). Beside d (act p) w x r) same h) g

@@ -12,7 +12,7 @@ use Rattle.rt_dryrun.specs.declared.planned.Planned.{Planned}
 use Rattle.rt_dryrun.specs.declared.stepped.Stepped.{Stepped}
 use Rattle.rt_events.specs.declared.refusal.Refusal.{Refusal}
 use Rattle.rt_events.specs.declared.refusal.Refusal.TheVariants.{NoSuchMessage, NoSuchNode, NodeDown, NothingToDo, Limit, Memory}
-use Rattle.rt_exact.specs.Acts.{AreOne}
+use Rattle.rt_exact.specs.Acts.{AreOne, ReachedAlike}
 use Rattle.rt_exact.specs.Alike.{AreAlike}
 use Rattle.rt_exact.specs.Shown.{shown}
 use Rattle.rt_exact.proofs.Acts.{refuses_one}
@@ -65,7 +65,7 @@ peer_same i p q w v k = sym (peer_shown w i p q) ∙ ap (λ u. peer_of u i p q) 
 pub peer_one : (i : Instance) (p : Partition) (q : Sequence) (w v : State) → AreAlike w v → AreOne (PeerTold i p q w) (PeerTold i p q v)
 peer_one i p q w v k x y r s h g = by_found (peer_of v i p q) (subst (λ o. PeerBy i p q o w x r) (peer_same i p q w v k) h) g
   where
-    by_found : (o : Result (Option PeerFile) Refusal) → PeerBy i p q o w x r → PeerBy i p q o v y s → (r ≡ s) × AreAlike x y
+    by_found : (o : Result (Option PeerFile) Refusal) → PeerBy i p q o w x r → PeerBy i p q o v y s → (r ≡ s) × ReachedAlike x y
     by_found (Ok file) m n = counts_one (found_text i p q file) w v k x y r s m n
     by_found (Err refusal) m n = refuses_one refusal w v k x y r s m n
 
@@ -77,7 +77,7 @@ plan_by : {A : Type 0} (text : A → List ℕ) (plan other : Option Plan) (found
 plan_by {A} text plan other found given w v k plans answers x y r s h g =
     by_found given (subst (λ o. PlanTold text plan o w x r) answers h) g
   where
-    by_found : (o : Result A Refusal) → PlanTold text plan o w x r → PlanTold text other o v y s → Agree Equal r s × AreAlike x y
+    by_found : (o : Result A Refusal) → PlanTold text plan o w x r → PlanTold text other o v y s → Agree Equal r s × ReachedAlike x y
     by_found (Ok a) m n = counts_as_by Equal plan other (text a) (text a) w v k refl plans x y r s m n
     by_found (Err refusal) m n = refuses_by Equal refusal w v k x y r s m n
 

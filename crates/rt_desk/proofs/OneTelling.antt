@@ -3,11 +3,11 @@ use Rattle.std.proofs.Common.{◌≡◌, ℕ, Bool, true, false, List, map, Opti
 use Rattle.rt_desk.specs.Telling.{Beside, Changed, Counts, CountsAs, Puts, changed, told}
 use Rattle.rt_desk.specs.declared.desk.Desk.{Desk}
 use Rattle.rt_events.specs.declared.refusal.Refusal.{Refusal}
-use Rattle.rt_exact.specs.Acts.{AreOne}
+use Rattle.rt_exact.specs.Acts.{AreOne, ReachedAlike}
 use Rattle.rt_exact.specs.Alike.{AreAlike}
-use Rattle.rt_exact.proofs.Acts.{Act, gives_one, passes_over_one, stay, then_one}
+use Rattle.rt_exact.proofs.Acts.{gives_one, go_on, passes_over_one, stay, then_one}
 use Rattle.rt_hybrid.specs.Table.{OfflineTable}
-use Rattle.rt_macros.specs.Doing.{Choose, Further, Gives, PassesOver, Refuses, Then}
+use Rattle.rt_macros.specs.Doing.{Act, Choose, Coming as Coming_of, Further, Gives, PassesOver, Reached, Refuses, Then}
 use Rattle.rt_scan.specs.Filled.{rows_as}
 use Rattle.rt_state.specs.declared.state.State.{State}
 
@@ -49,11 +49,11 @@ Agree R (Err refusal) (Ok b) = ⊥
 Agree R (Err a) (Err b) = a ≡ b
 
 abbrev pub Coming : Type 0 → Type 1
-Coming P = State → Result (Changed P) Refusal → Type 0
+Coming P = Coming_of (Changed P)
 
--- two lines agree, and lead to alike worlds
+-- two lines agree, and lead to alike worlds by the same turns
 abbrev pub OneBy : {P : Type 0} → (P → P → Type 0) → Coming P → Coming P → Type 0
-OneBy {P} R act other = (x y : State) (r s : Result (Changed P) Refusal) → act x r → other y s → Agree R r s × AreAlike x y
+OneBy {P} R act other = (x y : Reached) (r s : Result (Changed P) Refusal) → act x r → other y s → Agree R r s × ReachedAlike x y
 
 abbrev pub Equal : {P : Type 0} → P → P → Type 0
 Equal a b = a ≡ b
@@ -71,20 +71,25 @@ refuses_by R refusal w v k x y r s h g = (agree_by R (Err refusal) (Err refusal)
 
 pub then_by : {A P : Type 0} (R : P → P → Type 0) (first other : Act A) (behind further : A → State → Coming P) (w v : State) → AreOne (first w) (other v)
     → ((a : A) (u t : State) → AreAlike u t → OneBy R (behind a u) (further a t)) → OneBy R (Then first behind w) (Then other further v)
-then_by {A} R first other behind further w v f g x y r s h k = by_told h.told h.further (subst (λ t. Further further k.between y t s) (sym z.0) k.further)
+then_by {A} R first other behind further w v f g x y r s h k =
+    (last.0, go_on h.between k.between h.last k.last x y z.1 last.1 h.whole k.whole)
   where
-    z : (h.told ≡ k.told) × AreAlike h.between k.between
+    z : (h.told ≡ k.told) × ReachedAlike h.between k.between
     z = f h.between k.between h.told k.told h.came k.came
 
-    by_told : (told : Result A Refusal) → Further behind h.between x told r → Further further k.between y told s → Agree R r s × AreAlike x y
-    by_told (Ok a) p q = g a h.between k.between z.1 x y r s p q
-    by_told (Err refusal) p q = refuses_by R refusal h.between k.between z.1 x y r s p q
+    by_told : (told : Result A Refusal) → Further behind h.between.world h.last told r → Further further k.between.world k.last told s
+        → Agree R r s × ReachedAlike h.last k.last
+    by_told (Ok a) p q = g a h.between.world k.between.world z.1.worlds h.last k.last r s p q
+    by_told (Err refusal) p q = refuses_by R refusal h.between.world k.between.world z.1.worlds h.last k.last r s p q
+
+    last : Agree R r s × ReachedAlike h.last k.last
+    last = by_told h.told h.further (subst (λ t. Further further k.between.world k.last t s) (sym z.0) k.further)
 
 pub choose_by : {P : Type 0} (R : P → P → Type 0) (b c : Bool) (act other act' other' : Coming P) → b ≡ c → OneBy R act act' → OneBy R other other'
     → OneBy R (Choose b act other) (Choose c act' other')
 choose_by R b c act other act' other' same f g x y r s h k = by_test c (subst (λ t. Choose t act other x r) same h) k
   where
-    by_test : (t : Bool) → Choose t act other x r → Choose t act' other' y s → Agree R r s × AreAlike x y
+    by_test : (t : Bool) → Choose t act other x r → Choose t act' other' y s → Agree R r s × ReachedAlike x y
     by_test true p q = f x y r s p q
     by_test false p q = g x y r s p q
 
@@ -112,16 +117,21 @@ beside_one act other d e w v desks one =
 -- a line that puts a part on it
 pub puts_one : {P : Type 0} (R : P → P → Type 0) (put put' : P → Desk) (act other : State → Coming P) (w v : State) → OneBy R (act w) (other v)
     → ((a b : P) → R a b → SameDesk (put a) (put' b)) → TellOne (Puts put act w) (Puts put' other v)
-puts_one {P} R put put' act other w v one puts x y r s h k = by_told h.told k.told z.0 h.further k.further
+puts_one {P} R put put' act other w v one puts x y r s h k =
+    (last.0, go_on h.between k.between h.last k.last x y z.1 last.1 h.whole k.whole)
   where
-    z : Agree R h.told k.told × AreAlike h.between k.between
+    z : Agree R h.told k.told × ReachedAlike h.between k.between
     z = one h.between k.between h.told k.told h.came k.came
 
-    by_told : (a b : Result (Changed P) Refusal) → Agree R a b → Further (λ c. Gives (told (put c.part) c.text)) h.between x a r
-        → Further (λ c. Gives (told (put' c.part) c.text)) k.between y b s → Agree SameDesk r s × AreAlike x y
+    by_told : (a b : Result (Changed P) Refusal) → Agree R a b → Further (λ c. Gives (told (put c.part) c.text)) h.between.world h.last a r
+        → Further (λ c. Gives (told (put' c.part) c.text)) k.between.world k.last b s → Agree SameDesk r s × ReachedAlike h.last k.last
     by_told (Ok a) (Ok b) (text, parts) p q =
-        gives_by SameDesk (put a.part) (put' b.part) a.text b.text h.between k.between z.1 text (puts a.part b.part parts) x y r s p q
+        gives_by SameDesk (put a.part) (put' b.part) a.text b.text h.between.world k.between.world z.1.worlds text (puts a.part b.part parts) h.last k.last r s p q
     by_told (Ok a) (Err refusal) none p q = absurd none
     by_told (Err refusal) (Ok b) none p q = absurd none
     by_told (Err a) (Err b) same p q =
-        refuses_by SameDesk b h.between k.between z.1 x y r s (subst (λ (e : Refusal). Refuses e h.between x r) same p) q
+        refuses_by SameDesk b h.between.world k.between.world z.1.worlds h.last k.last r s
+        (subst (λ (e : Refusal). Refuses e h.between.world h.last r) same p) q
+
+    last : Agree SameDesk r s × ReachedAlike h.last k.last
+    last = by_told h.told k.told z.0 h.further k.further

@@ -10,7 +10,7 @@ use Rattle.rt_world.specs.Kept.{Kept}
 use Rattle.rt_state.specs.declared.state.State.{State}
 
 same_schema : (w : State) (new : Kept) → Does (PassesOver w) new (Ok tt) → w.setup.schema ≡ new.state.setup.schema
-same_schema w new d = sym (ap (λ (s : State). s.setup.schema) d.1.by.2)
+same_schema w new d = sym (ap (λ (s : State). s.setup.schema) d.1.came.by.0.2)
 
 pub passed_schema : (schema : Schema) (w : State) (new : Kept) → Does (PassesOver w) new (Ok tt) → schema ≡ w.setup.schema → schema ≡ new.state.setup.schema
 passed_schema schema w new d same = same ∙ same_schema w new d

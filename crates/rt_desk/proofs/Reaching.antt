@@ -1,101 +1,146 @@
--- What is put together of events is reached by turns of the cluster, by which no replica of a paused run begins to consume.
-use Rattle.std.proofs.Common.{◌≡◌, ◌+◌, ℕ, zero, suc, Bool, true, false, List, [], ◌∷◌, ◌++◌, Result, Ok, Err, refl, sym, ◌∙◌, subst}
+-- What is put together of events is reached by its turns, each of which is allowed where each of its events is.
+use Rattle.std.proofs.Common.{◌≡◌, ◌+◌, ℕ, zero, suc, Bool, true, false, List, [], ◌∷◌, ◌++◌, Result, Ok, Err, refl, sym, subst}
 use Rattle.rt_desk.specs.Paused.{Allowed, LeadsBy}
 use Rattle.rt_events.specs.Fits.{Fits}
 use Rattle.rt_events.specs.declared.event.Event.{Event}
+use Rattle.rt_events.specs.declared.event.Event.TheVariants.{Ask, Consume, Produce}
 use Rattle.rt_events.specs.declared.outcome.Outcome.{Outcome}
 use Rattle.rt_events.specs.declared.refusal.Refusal.{Refusal}
 use Rattle.rt_events.specs.declared.refusal.Refusal.TheVariants.{NoSuchMessage, NoSuchNode, NodeDown, NothingToDo, Limit, Memory}
-use Rattle.rt_macros.specs.Doing.{Attempted, AttemptedBy, Choose, Each, EachFrom, Further, Gives, Happens, Passed, PassesOver, Refuses, Then}
-use Rattle.rt_macros.proofs.Doing.{Act}
+use Rattle.rt_macros.specs.Doing.{Act, Attempted, AttemptedBy, Choose, Coming, Each, EachFrom, Further, Gives, Happens, HappensBy, Passed, PassesBy, PassesOver, Reached, Refuses, Then, Tries, after, stays}
 use Rattle.rt_safety.specs.Runs.{Turn, happens, passes, Leads}
 use Rattle.rt_state.specs.declared.state.State.{State}
 
--- such turns lead from one world to another
-abbrev pub Reaches : Bool → State → State → Type 0
-Reaches paused w v = (turns : List Turn) × LeadsBy paused w turns v
+-- ---- what is allowed
 
--- wherever it ends, not being refused, turns lead there
-abbrev pub Goes : {A : Type 0} → Bool → State → (State → Result A Refusal → Type 0) → Type 0
-Goes {A = A} paused w act = (v : State) (x : A) → act v (Ok x) → Reaches paused w v
+-- an event that neither appends, asks nor consumes
+abbrev pub IsCalm : Event → Type 0
+IsCalm (Produce partition message) = ⊥
+IsCalm (Ask query) = ⊥
+IsCalm (Consume instance partition sequence max) = ⊥
+IsCalm event = Unit {0}
 
--- an event by which no replica of a paused run begins
-abbrev pub MayCome : Bool → State → Event → Type 0
-MayCome paused w event = (outcome : Outcome) → Allowed paused w (happens event outcome)
+-- turns that are allowed: a calm event always is, and so is a line that is no event
+pub record Allowance : Type 1 where
+  pub turn : State → Turn → Type 0
+  pub calm : (w : State) (e : Event) (outcome : Outcome) → IsCalm e → turn w (happens e outcome)
+  pub line : (w : State) → turn w passes
+
+pub calm_begins : (paused : Bool) (w : State) (e : Event) (outcome : Outcome) → IsCalm e → Allowed paused w (happens e outcome)
+calm_begins paused w (Consume i p q max) outcome calm = absurd calm
+calm_begins paused w e outcome calm = λ on begins. begins
+
+-- no replica of a paused run begins to consume
+abbrev pub pausing : Bool → Allowance
+pausing paused = record { turn = Allowed paused; calm = calm_begins paused; line = λ w on begins. begins }
+
+-- wherever it ends, its turns lead there
+abbrev pub Goes : {A : Type 0} → Allowance → State → Coming A → Type 0
+Goes {A = A} k w act = (v : Reached) (r : Result A Refusal) → act v r → LeadsBy k.turn w v.turns v.world
+
+-- an event that is allowed
+abbrev pub MayCome : Allowance → State → Event → Type 0
+MayCome k w event = (outcome : Outcome) → k.turn w (happens event outcome)
 
 -- ---- turns
 
-pub leads_by : (paused : Bool) (turns : List Turn) (w v : State) → LeadsBy paused w turns v → Leads w turns v
-leads_by paused [] w v same = same
-leads_by paused (turn ∷ turns) w v (next, t, allowed, further) = (next, t, leads_by paused turns next v further)
+pub leads_by : (allowed : State → Turn → Type 0) (turns : List Turn) (w v : State) → LeadsBy allowed w turns v → Leads w turns v
+leads_by allowed [] w v same = same
+leads_by allowed (turn ∷ turns) w v (next, t, may, further) = (next, t, leads_by allowed turns next v further)
 
-pub stays : (paused : Bool) (w v : State) → v ≡ w → Reaches paused w v
-stays paused w v same = ([], same)
+pub leads_then : (allowed : State → Turn → Type 0) (turns more : List Turn) (w u v : State) → LeadsBy allowed w turns u → LeadsBy allowed u more v
+    → LeadsBy allowed w (turns ++ more) v
+leads_then allowed [] more w u v same rest = subst (λ x. LeadsBy allowed x more v) same rest
+leads_then allowed (turn ∷ turns) more w u v (next, t, may, further) rest = (next, t, may, leads_then allowed turns more next u v further rest)
 
-leads_then : (paused : Bool) (turns more : List Turn) (w u v : State) → LeadsBy paused w turns u → LeadsBy paused u more v → LeadsBy paused w (turns ++ more) v
-leads_then paused [] more w u v same rest = subst (λ x. LeadsBy paused x more v) same rest
-leads_then paused (turn ∷ turns) more w u v (next, t, allowed, further) rest = (next, t, allowed, leads_then paused turns more next u v further rest)
+pub stay_by : (k : Allowance) (w : State) (v : Reached) → v ≡ stays w → LeadsBy k.turn w v.turns v.world
+stay_by k w v e = subst (λ (x : Reached). LeadsBy k.turn w x.turns x.world) (sym e) refl
 
-pub reaches_then : (paused : Bool) (w u v : State) → Reaches paused w u → Reaches paused u v → Reaches paused w v
-reaches_then paused w u v a b = (a.0 ++ b.0, leads_then paused a.0 b.0 w u v a.1 b.1)
+-- by the turns of one thing, and then by those of what comes behind it
+pub goes_then : (k : Allowance) (w : State) (between last v : Reached) → v ≡ after between.turns last → LeadsBy k.turn w between.turns between.world
+    → LeadsBy k.turn between.world last.turns last.world → LeadsBy k.turn w v.turns v.world
+goes_then k w between last v e first rest =
+    subst (λ (x : Reached). LeadsBy k.turn w x.turns x.world) (sym e) (leads_then k.turn between.turns last.turns w between.world last.world first rest)
 
 -- ---- one thing
 
-pub not_refused : {A : Type 0} (x : A) (refusal : Refusal) → Ok x ≡ Err refusal → ⊥
-not_refused x refusal e = cc
+pub gives_goes : {A : Type 0} (k : Allowance) (x : A) (w : State) → Goes k w (Gives x w)
+gives_goes k x w v r h = stay_by k w v h.0
 
-pub gives_goes : {A : Type 0} (paused : Bool) (x : A) (w : State) → Goes paused w (Gives x w)
-gives_goes paused x w v y h = stays paused w v h.0
+pub refuses_goes : {A : Type 0} (k : Allowance) (refusal : Refusal) (w : State) → Goes {A = A} k w (Refuses refusal w)
+refuses_goes k refusal w v r h = stay_by k w v h.0
 
-pub refuses_goes : {A : Type 0} (paused : Bool) (refusal : Refusal) (w : State) → Goes {A = A} paused w (Refuses refusal w)
-refuses_goes paused refusal w v y h = absurd (not_refused y refusal h.1)
+-- a turn that is taken
+one_turn : (k : Allowance) (w : State) (turn : Turn) (v : Reached) → LeadsBy k.turn w (turn ∷ []) v.world → v.turns ≡ turn ∷ [] → LeadsBy k.turn w v.turns v.world
+one_turn k w turn v led e = subst (λ (turns : List Turn). LeadsBy k.turn w turns v.world) (sym e) led
 
-pub event_goes : (paused : Bool) (event : Event) (w : State) → Fits w.setup.schema event → MayCome paused w event → Goes paused w (Happens event w)
-event_goes paused event w fits may v outcome came = (happens event outcome ∷ [], (v, (fits, came.by), may outcome, refl))
+pub event_goes_so : (k : Allowance) (event : Event) (w : State) (v : Reached) (r : Result Outcome Refusal) → Fits w.setup.schema event
+    → ((outcome : Outcome) → r ≡ Ok outcome → k.turn w (happens event outcome)) → Happens event w v r → LeadsBy k.turn w v.turns v.world
+event_goes_so k event w v r fits may came = by_told r may came.by
+  where
+    by_told : (told : Result Outcome Refusal) → ((outcome : Outcome) → told ≡ Ok outcome → k.turn w (happens event outcome)) → HappensBy event w v told
+        → LeadsBy k.turn w v.turns v.world
+    by_told (Ok outcome) may (steps, e) = one_turn k w (happens event outcome) v (v.world, (fits, steps), may outcome refl, refl) e
+    by_told (Err refusal) may (due, e) = stay_by k w v e
 
-pub line_passes : (paused : Bool) (w : State) → Goes paused w (PassesOver w)
-line_passes paused w v x h = (passes ∷ [], (v, h.by, (λ p b. b), refl))
+pub event_goes : (k : Allowance) (event : Event) (w : State) → Fits w.setup.schema event → MayCome k w event → Goes k w (Happens event w)
+event_goes k event w fits may v r came = event_goes_so k event w v r fits (λ outcome e. may outcome) came
+
+pub line_passes : (k : Allowance) (w : State) → Goes k w (PassesOver w)
+line_passes k w v r came = by_told r came.by
+  where
+    by_told : (told : Result (Unit {0}) Refusal) → PassesBy w v told → LeadsBy k.turn w v.turns v.world
+    by_told (Ok done) (steps, e) = one_turn k w passes v (v.world, steps, k.line w, refl) e
+    by_told (Err refusal) (due, e) = stay_by k w v e
 
 -- ---- several things
 
-pub choose_goes : {A : Type 0} (paused b : Bool) (act other : State → Result A Refusal → Type 0) (w : State) → Goes paused w act → Goes paused w other → Goes paused w (Choose b act other)
-choose_goes paused true act other w f g v x h = f v x h
-choose_goes paused false act other w f g v x h = g v x h
+pub choose_goes : {A : Type 0} (k : Allowance) (b : Bool) (act other : Coming A) (w : State) → Goes k w act → Goes k w other → Goes k w (Choose b act other)
+choose_goes k true act other w f g v r h = f v r h
+choose_goes k false act other w f g v r h = g v r h
 
 -- the test is known where its side is taken
-pub choose_goes_if : {A : Type 0} (paused b : Bool) (act other : State → Result A Refusal → Type 0) (w : State) → (b ≡ true → Goes paused w act) → Goes paused w other → Goes paused w (Choose b act other)
-choose_goes_if paused true act other w f g v x h = f refl v x h
-choose_goes_if paused false act other w f g v x h = g v x h
+pub choose_goes_if : {A : Type 0} (k : Allowance) (b : Bool) (act other : Coming A) (w : State) → (b ≡ true → Goes k w act) → Goes k w other
+    → Goes k w (Choose b act other)
+choose_goes_if k true act other w f g v r h = f refl v r h
+choose_goes_if k false act other w f g v r h = g v r h
 
-pub then_goes : {A B : Type 0} (paused : Bool) (first : Act A) (behind : A → Act B) (w : State) → Goes paused w (first w) → ((x : A) (u : State) → Goes paused u (behind x u))
-    → Goes paused w (Then first behind w)
-then_goes {A} {B} paused first behind w f g v y t = by_told t.told t.came t.further
+pub then_goes : {A B : Type 0} (k : Allowance) (first : Act A) (behind : A → Act B) (w : State) → Goes k w (first w) → ((x : A) (u : State) → Goes k u (behind x u))
+    → Goes k w (Then first behind w)
+then_goes {A} {B} k first behind w f g v r t = goes_then k w t.between t.last v t.whole (f t.between t.told t.came) (by_told t.told t.further)
   where
-    by_told : (told : Result A Refusal) → first w t.between told → Further behind t.between v told (Ok y) → Reaches paused w v
-    by_told (Ok x) came further = reaches_then paused w t.between v (f t.between x came) (g x t.between v y further)
-    by_told (Err refusal) came h = absurd (not_refused y refusal h.1)
+    by_told : (told : Result A Refusal) → Further behind t.between.world t.last told r → LeadsBy k.turn t.between.world t.last.turns t.last.world
+    by_told (Ok x) further = g x t.between.world t.last r further
+    by_told (Err refusal) h = refuses_goes {A = B} k refusal t.between.world t.last r h
 
-pub passed_goes : (paused : Bool) (event : Event) (w : State) → Fits w.setup.schema event → MayCome paused w event → Goes paused w (Passed event w)
-passed_goes paused event w fits may = then_goes paused (Happens event) (λ outcome. Gives tt) w (event_goes paused event w fits may) (λ x u. gives_goes paused tt u)
+pub tries_goes : {A B : Type 0} (k : Allowance) (first : Act A) (behind : Result A Refusal → Act B) (w : State) → Goes k w (first w)
+    → ((told : Result A Refusal) (u : State) → Goes k u (behind told u)) → Goes k w (Tries first behind w)
+tries_goes k first behind w f g v r t =
+    goes_then k w t.between t.last v t.whole (f t.between t.told t.came) (g t.told t.between.world t.last r t.further)
 
-pub attempted_goes : (paused : Bool) (event : Event) (busy : Bool) (w : State) → Fits w.setup.schema event → MayCome paused w event → Goes paused w (Attempted event busy w)
-attempted_goes paused event busy w fits may v y t = by_told t.told t.came t.further
-  where
-    by_told : (told : Result Outcome Refusal) → Happens event w t.between told → AttemptedBy t.between told busy v (Ok y) → Reaches paused w v
-    by_told (Ok outcome) came h = subst (Reaches paused w) (sym h.0) (event_goes paused event w fits may t.between outcome came)
-    by_told (Err NothingToDo) came h = stays paused w v (h.0 ∙ came.by.1)
-    by_told (Err NoSuchMessage) came h = absurd (not_refused y NoSuchMessage h.1)
-    by_told (Err NoSuchNode) came h = absurd (not_refused y NoSuchNode h.1)
-    by_told (Err NodeDown) came h = absurd (not_refused y NodeDown h.1)
-    by_told (Err (Limit which)) came h = absurd (not_refused y (Limit which) h.1)
-    by_told (Err Memory) came h = absurd (not_refused y Memory h.1)
+pub passed_goes : (k : Allowance) (event : Event) (w : State) → Fits w.setup.schema event → MayCome k w event → Goes k w (Passed event w)
+passed_goes k event w fits may = then_goes k (Happens event) (λ outcome. Gives tt) w (event_goes k event w fits may) (λ x u. gives_goes k tt u)
 
-pub each_goes : {A S : Type 0} (paused : Bool) (act : A → S → Act S) (xs : List A) (noted : S) (w : State) → ((x : A) (s : S) (u : State) → Goes paused u (act x s u)) → Goes paused w (Each act xs noted w)
-each_goes paused act [] noted w f = gives_goes paused noted w
-each_goes paused act (x ∷ xs) noted w f = then_goes paused (act x noted) (Each act xs) w (f x noted w) (λ s u. each_goes paused act xs s u f)
+attempted_by_goes : (k : Allowance) (busy : Bool) (told : Result Outcome Refusal) (w : State) → Goes k w (AttemptedBy busy told w)
+attempted_by_goes k busy (Ok outcome) w = gives_goes k true w
+attempted_by_goes k busy (Err NothingToDo) w = gives_goes k busy w
+attempted_by_goes k busy (Err NoSuchMessage) w = refuses_goes k NoSuchMessage w
+attempted_by_goes k busy (Err NoSuchNode) w = refuses_goes k NoSuchNode w
+attempted_by_goes k busy (Err NodeDown) w = refuses_goes k NodeDown w
+attempted_by_goes k busy (Err (Limit which)) w = refuses_goes k (Limit which) w
+attempted_by_goes k busy (Err Memory) w = refuses_goes k Memory w
 
-pub each_from_goes : {S : Type 0} (paused : Bool) (act : ℕ → S → Act S) (first count : ℕ) (noted : S) (w : State) → ((n : ℕ) (s : S) (u : State) → Goes paused u (act n s u))
-    → Goes paused w (EachFrom act first count noted w)
-each_from_goes paused act first zero noted w f = gives_goes paused noted w
-each_from_goes paused act first (suc count) noted w f =
-    then_goes paused (act first noted) (EachFrom act (first + 1) count) w (f first noted w) (λ s u. each_from_goes paused act (first + 1) count s u f)
+pub attempted_goes : (k : Allowance) (event : Event) (busy : Bool) (w : State) → Fits w.setup.schema event → MayCome k w event → Goes k w (Attempted event busy w)
+attempted_goes k event busy w fits may =
+    tries_goes k (Happens event) (AttemptedBy busy) w (event_goes k event w fits may) (λ told u. attempted_by_goes k busy told u)
+
+pub each_goes : {A S : Type 0} (k : Allowance) (act : A → S → Act S) (xs : List A) (noted : S) (w : State) → ((x : A) (s : S) (u : State) → Goes k u (act x s u))
+    → Goes k w (Each act xs noted w)
+each_goes k act [] noted w f = gives_goes k noted w
+each_goes k act (x ∷ xs) noted w f = then_goes k (act x noted) (Each act xs) w (f x noted w) (λ s u. each_goes k act xs s u f)
+
+pub each_from_goes : {S : Type 0} (k : Allowance) (act : ℕ → S → Act S) (first count : ℕ) (noted : S) (w : State) → ((n : ℕ) (s : S) (u : State) → Goes k u (act n s u))
+    → Goes k w (EachFrom act first count noted w)
+each_from_goes k act first zero noted w f = gives_goes k noted w
+each_from_goes k act first (suc count) noted w f =
+    then_goes k (act first noted) (EachFrom act (first + 1) count) w (f first noted w) (λ s u. each_from_goes k act (first + 1) count s u f)

@@ -1,5 +1,5 @@
 -- How what is found of a rehearsal is told.
-use Rattle.std.proofs.Common.{◌≡◌, ℕ, Bool, false, List, Option, Result, Ok, Err, refl, ap, subst}
+use Rattle.std.proofs.Common.{◌≡◌, ℕ, Bool, false, List, [], Option, Result, Ok, Err, refl, ap, subst}
 use Rattle.rt_base.specs.declared.numbers.Instance.{Instance}
 use Rattle.rt_base.specs.declared.numbers.Partition.{Partition}
 use Rattle.rt_base.specs.declared.numbers.Sequence.{Sequence}
@@ -10,8 +10,8 @@ use Rattle.rt_dryrun.specs.declared.planned.Planned.{Planned}
 use Rattle.rt_dryrun.specs.declared.stepped.Stepped.{Stepped}
 use Rattle.rt_events.specs.declared.refusal.Refusal.{Refusal}
 use Rattle.rt_events.specs.declared.refusal.Refusal.TheVariants.{NoSuchMessage, NoSuchNode, NodeDown, NothingToDo, Limit, Memory}
-use Rattle.rt_macros.specs.Doing.{Does, DoesText, Further, Gives}
-use Rattle.rt_macros.proofs.Doing.{Coming, does_through}
+use Rattle.rt_macros.specs.Doing.{Comes, Coming, Does, DoesText, Further, Gives, Reached, reached}
+use Rattle.rt_macros.proofs.Doing.{does_through}
 use Rattle.rt_report.specs.FurtherTexts.{rehearsed_text}
 use Rattle.rt_world.specs.Kept.{Kept}
 use Rattle.rt_state.specs.declared.state.State.{State}
@@ -20,25 +20,31 @@ abbrev with_part : {Part : Type 0} → Part → Result (List ℕ) Refusal → Re
 with_part part (Ok text) = Ok (changed part text)
 with_part part (Err refusal) = Err refusal
 
-counts_as : {Part : Type 0} (part : Part) (text : List ℕ) (w v : State) (r : Result (List ℕ) Refusal) → Counts text w v r → CountsAs part text w v (with_part part r)
-counts_as part text w v r h = record { between = h.between; told = h.told; came = h.came; further = by_told h.told h.further }
+counts_as : {Part : Type 0} (part : Part) (text : List ℕ) (w : State) (v : Reached) (r : Result (List ℕ) Refusal) → Counts text w v r → CountsAs part text w v (with_part part r)
+counts_as part text w v r h =
+    record { between = h.between; told = h.told; last = h.last; came = h.came; further = by_told h.told h.further; whole = h.whole }
   where
-    by_told : (t : Result (Unit {0}) Refusal) → Further (λ done. Gives text) h.between v t r
-        → Further (λ done. Gives (changed part text)) h.between v t (with_part part r)
+    by_told : (t : Result (Unit {0}) Refusal) → Further (λ done. Gives text) h.between.world h.last t r
+        → Further (λ done. Gives (changed part text)) h.between.world h.last t (with_part part r)
     by_told (Ok done) f = (f.0, ap (with_part part) f.1)
     by_told (Err refusal) f = (f.0, ap (with_part part) f.1)
+
+comes_as : {Part : Type 0} (part : Part) (text : List ℕ) (w v : State) (r : Result (List ℕ) Refusal) → Comes (Counts text w) v r
+    → Comes (CountsAs part text w) v (with_part part r)
+comes_as part text w v r c = record { turns = c.turns; came = counts_as part text w (reached c.turns v) r c.came }
 
 -- what counts as an event, with the part behind it
 counts_does : {Part : Type 0} (part : Part) (line : List ℕ) (w : State) (new : Kept) (text : List ℕ) (result : Result (Unit {0}) Refusal)
     → DoesText (Counts line w) new text result → DoesChange (CountsAs part line w) new text part result
-counts_does part line w new text (Ok done) d = (d.0, counts_as part line w new.state (Ok text) d.1)
+counts_does part line w new text (Ok done) d = (d.0, comes_as part line w new.state (Ok text) d.1)
 counts_does part line w new text (Err refusal) d =
-    does_through (Counts line w) (CountsAs part line w) new refusal (λ r came. counts_as part line w new.state (Err r) came) d
+    does_through (Counts line w) (CountsAs part line w) new refusal (λ r c. comes_as part line w new.state (Err r) c) d
 
 does_more : {A : Type 0} (P Q : Coming A) (new : Kept) (result : Result A Refusal)
-    → ((v : State) (r : Result A Refusal) → P v r → Q v r) → Does P new result → Does Q new result
-does_more P Q new (Ok x) f d = (d.0, f new.state (Ok x) d.1)
-does_more P Q new (Err refusal) f d = does_through P Q new refusal (λ r came. f new.state (Err r) came) d
+    → ((v : Reached) (r : Result A Refusal) → P v r → Q v r) → Does P new result → Does Q new result
+does_more P Q new (Ok x) f d = (d.0, record { turns = d.1.turns; came = f (reached d.1.turns new.state) (Ok x) d.1.came })
+does_more P Q new (Err refusal) f d =
+    does_through P Q new refusal (λ r c. record { turns = c.turns; came = f (reached c.turns new.state) (Err r) c.came }) d
 
 -- ---- a plan
 
@@ -53,15 +59,15 @@ rehearse_found servers keep old plan found w new text result made d =
 pub rehearse_refused : (servers keep : ℕ) (old plan after : Option Plan) (new : Kept) (text : List ℕ) (refusal : Refusal)
     → new.spent ≡ false → Plans new.state servers keep old plan (Err refusal) → DoesChange (RehearseTold servers keep old new.state) new text after (Err refusal)
 rehearse_refused servers keep old plan after new text NoSuchMessage unspent made =
-    (unspent, record { plan = plan; found = Err NoSuchMessage; named = tt; made = made; tells = (refl, refl) })
+    (unspent, record { turns = []; came = record { plan = plan; found = Err NoSuchMessage; named = tt; made = made; tells = (refl, refl) } })
 rehearse_refused servers keep old plan after new text NoSuchNode unspent made =
-    (unspent, record { plan = plan; found = Err NoSuchNode; named = tt; made = made; tells = (refl, refl) })
+    (unspent, record { turns = []; came = record { plan = plan; found = Err NoSuchNode; named = tt; made = made; tells = (refl, refl) } })
 rehearse_refused servers keep old plan after new text NodeDown unspent made =
-    (unspent, record { plan = plan; found = Err NodeDown; named = tt; made = made; tells = (refl, refl) })
+    (unspent, record { turns = []; came = record { plan = plan; found = Err NodeDown; named = tt; made = made; tells = (refl, refl) } })
 rehearse_refused servers keep old plan after new text NothingToDo unspent made =
-    (unspent, record { plan = plan; found = Err NothingToDo; named = tt; made = made; tells = (refl, refl) })
+    (unspent, record { turns = []; came = record { plan = plan; found = Err NothingToDo; named = tt; made = made; tells = (refl, refl) } })
 rehearse_refused servers keep old plan after new text (Limit which) unspent made =
-    (unspent, record { plan = plan; found = Err (Limit which); named = tt; made = made; tells = (refl, refl) })
+    (unspent, record { turns = []; came = record { plan = plan; found = Err (Limit which); named = tt; made = made; tells = (refl, refl) } })
 rehearse_refused servers keep old plan after new text Memory unspent made = tt
 
 -- ---- what is loaded of it
@@ -80,11 +86,11 @@ loaded_found i p q old plan found w new text result told after d =
 
 refused : {A : Type 0} (text : A → List ℕ) (plan : Option Plan) (new : Kept) (refusal : Refusal) → new.spent ≡ false
     → Does (PlanTold text plan (Err refusal) new.state) new (Err refusal)
-refused text plan new NoSuchMessage unspent = (unspent, (refl, refl))
-refused text plan new NoSuchNode unspent = (unspent, (refl, refl))
-refused text plan new NodeDown unspent = (unspent, (refl, refl))
-refused text plan new NothingToDo unspent = (unspent, (refl, refl))
-refused text plan new (Limit which) unspent = (unspent, (refl, refl))
+refused text plan new NoSuchMessage unspent = (unspent, record { turns = []; came = (refl, refl) })
+refused text plan new NoSuchNode unspent = (unspent, record { turns = []; came = (refl, refl) })
+refused text plan new NodeDown unspent = (unspent, record { turns = []; came = (refl, refl) })
+refused text plan new NothingToDo unspent = (unspent, record { turns = []; came = (refl, refl) })
+refused text plan new (Limit which) unspent = (unspent, record { turns = []; came = (refl, refl) })
 refused text plan new Memory unspent = tt
 
 pub loaded_refused : (i : Instance) (p : Partition) (q : Sequence) (old after : Option Plan) (new : Kept) (text : List ℕ) (refusal : Refusal)
@@ -105,13 +111,13 @@ step_found old plan found w new text result made d =
 pub step_refused : (old plan after : Option Plan) (new : Kept) (text : List ℕ) (refusal : Refusal)
     → new.spent ≡ false → StepsOn old plan (Err refusal) → DoesChange (StepTold old new.state) new text after (Err refusal)
 step_refused old plan after new text NoSuchMessage unspent made =
-    (unspent, record { plan = plan; found = Err NoSuchMessage; named = tt; made = made; tells = (refl, refl) })
+    (unspent, record { turns = []; came = record { plan = plan; found = Err NoSuchMessage; named = tt; made = made; tells = (refl, refl) } })
 step_refused old plan after new text NoSuchNode unspent made =
-    (unspent, record { plan = plan; found = Err NoSuchNode; named = tt; made = made; tells = (refl, refl) })
+    (unspent, record { turns = []; came = record { plan = plan; found = Err NoSuchNode; named = tt; made = made; tells = (refl, refl) } })
 step_refused old plan after new text NodeDown unspent made =
-    (unspent, record { plan = plan; found = Err NodeDown; named = tt; made = made; tells = (refl, refl) })
+    (unspent, record { turns = []; came = record { plan = plan; found = Err NodeDown; named = tt; made = made; tells = (refl, refl) } })
 step_refused old plan after new text NothingToDo unspent made =
-    (unspent, record { plan = plan; found = Err NothingToDo; named = tt; made = made; tells = (refl, refl) })
+    (unspent, record { turns = []; came = record { plan = plan; found = Err NothingToDo; named = tt; made = made; tells = (refl, refl) } })
 step_refused old plan after new text (Limit which) unspent made =
-    (unspent, record { plan = plan; found = Err (Limit which); named = tt; made = made; tells = (refl, refl) })
+    (unspent, record { turns = []; came = record { plan = plan; found = Err (Limit which); named = tt; made = made; tells = (refl, refl) } })
 step_refused old plan after new text Memory unspent made = tt

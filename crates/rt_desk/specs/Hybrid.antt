@@ -9,7 +9,7 @@ use Rattle.rt_events.specs.declared.refusal.Refusal.TheVariants.{Limit}
 use Rattle.rt_hybrid.specs.Pushes.{Pushes}
 use Rattle.rt_hybrid.specs.Table.{OfflineTable, boundary_of}
 use Rattle.rt_hybrid.specs.declared.hybrid_refused.HybridRefused.TheVariants as refused
-use Rattle.rt_macros.specs.Doing.{Choose, Gives, PassesOver, Refuses, Then}
+use Rattle.rt_macros.specs.Doing.{Act, Choose, Gives, PassesOver, Reached, Refuses, Then}
 use Rattle.rt_model.specs.declared.query.Query.{Query}
 use Rattle.rt_report.specs.BrokerTexts.{noquery_text}
 use Rattle.rt_report.specs.FurtherTexts.{hybrid_text, nooffline_text, offline_text}
@@ -35,28 +35,28 @@ pub record Pushed (rows : List ℕ) (old new : OfflineTable) (text : List ℕ) :
   pub pushes : PushesRows rows old new count
   pub told : text ≡ pushed_text count
 
-pub record PushTold (rows : List ℕ) (old : OfflineTable) (done : Unit {0}) (w v : State) (result : Result (Changed OfflineTable) Refusal) : Type 0 where
+pub record PushTold (rows : List ℕ) (old : OfflineTable) (done : Unit {0}) (w : State) (v : Reached) (result : Result (Changed OfflineTable) Refusal) : Type 0 where
   pub new : OfflineTable
   pub text : List ℕ
   pub pushed : Pushed rows old new text
   pub tells : Gives (changed new text) w v result
 
 -- each push counts as an event, so there are never too many of them
-abbrev pub PushLine : List ℕ → OfflineTable → State → State → Result (Changed OfflineTable) Refusal → Type 0
+abbrev pub PushLine : List ℕ → OfflineTable → Act (Changed OfflineTable)
 PushLine rows table w = Choose (nat_lt (length table.files) MOST_EVENTS) (Then PassesOver (PushTold rows table) w) (Refuses (Limit Events) w)
 
 -- ---- hybrid
 
-abbrev pub GivesHybrid : OfflineTable → Query → Unit {0} → State → State → Result (List ℕ) Refusal → Type 0
+abbrev pub GivesHybrid : OfflineTable → Query → Unit {0} → Act (List ℕ)
 GivesHybrid table query done w = Gives (hybrid_text (boundary_of table) (hybrid_answer w table query)) w
 
-abbrev pub HybridQuery : OfflineTable → Query → State → State → Result (List ℕ) Refusal → Type 0
+abbrev pub HybridQuery : OfflineTable → Query → Act (List ℕ)
 HybridQuery table query w = Then PassesOver (GivesHybrid table query) w
 
-abbrev pub HybridBy : OfflineTable → QueryText → State → State → Result (List ℕ) Refusal → Type 0
+abbrev pub HybridBy : OfflineTable → QueryText → Act (List ℕ)
 HybridBy table (asked.Query query) w = HybridQuery table query w
 HybridBy table (asked.Refused number) w = Counts (noquery_text number) w
 
-abbrev pub HybridTold : Option OfflineTable → QueryText → State → State → Result (List ℕ) Refusal → Type 0
+abbrev pub HybridTold : Option OfflineTable → QueryText → Act (List ℕ)
 HybridTold None text w = Counts (nooffline_text 1) w
 HybridTold (Some table) text w = HybridBy table text w

@@ -14,7 +14,7 @@ use Rattle.rt_dryrun.specs.declared.stepped.Stepped.{Stepped}
 use Rattle.rt_dryrun.specs.declared.stepped.Stepped.TheVariants as stepped
 use Rattle.rt_events.specs.declared.refusal.Refusal.{Refusal}
 use Rattle.rt_events.specs.declared.refusal.Refusal.TheVariants.{NoSuchMessage, NoSuchNode, NodeDown, NothingToDo, Limit, Memory}
-use Rattle.rt_macros.specs.Doing.{Refuses}
+use Rattle.rt_macros.specs.Doing.{Act, Reached, Refuses}
 use Rattle.rt_report.specs.FurtherTexts.{at_text, nopeer_text, noplan_text, peer_text, plan_text, rehearsed_text}
 use Rattle.rt_state.specs.declared.state.State.{State}
 
@@ -24,11 +24,11 @@ abbrev pub found_text : Instance → Partition → Sequence → Option PeerFile 
 found_text instance partition sequence None = nopeer_text instance partition sequence
 found_text instance partition sequence (Some file) = peer_text instance partition sequence file.from file.rows
 
-abbrev pub PeerBy : Instance → Partition → Sequence → Result (Option PeerFile) Refusal → State → State → Result (List ℕ) Refusal → Type 0
+abbrev pub PeerBy : Instance → Partition → Sequence → Result (Option PeerFile) Refusal → Act (List ℕ)
 PeerBy instance partition sequence (Ok file) w = Counts (found_text instance partition sequence file) w
 PeerBy instance partition sequence (Err refusal) w = Refuses refusal w
 
-abbrev pub PeerTold : Instance → Partition → Sequence → State → State → Result (List ℕ) Refusal → Type 0
+abbrev pub PeerTold : Instance → Partition → Sequence → Act (List ℕ)
 PeerTold instance partition sequence w = PeerBy instance partition sequence (peer_of w instance partition sequence) w
 
 -- ---- rehearse
@@ -44,7 +44,7 @@ IsNamed (Err (Limit which)) = Unit {0}
 IsNamed (Err Memory) = ⊥
 
 -- what is refused stops the line; what is found is told with the plan behind it, and counts as an event
-abbrev pub PlanTold : {A : Type 0} → (A → List ℕ) → Option Plan → Result A Refusal → State → State → Result (Changed (Option Plan)) Refusal → Type 0
+abbrev pub PlanTold : {A : Type 0} → (A → List ℕ) → Option Plan → Result A Refusal → Act (Changed (Option Plan))
 PlanTold text plan (Ok x) w = CountsAs plan (text x) w
 PlanTold text plan (Err refusal) w = Refuses refusal w
 
@@ -52,14 +52,14 @@ abbrev pub planned_text : Planned → List ℕ
 planned_text (planned.Plan steps moves) = plan_text steps moves
 planned_text (planned.Refused number) = noplan_text number
 
-pub record RehearseTold (servers keep : ℕ) (old : Option Plan) (w v : State) (result : Result (Changed (Option Plan)) Refusal) : Type 0 where
+pub record RehearseTold (servers keep : ℕ) (old : Option Plan) (w : State) (v : Reached) (result : Result (Changed (Option Plan)) Refusal) : Type 0 where
   pub plan : Option Plan
   pub found : Result Planned Refusal
   pub named : IsNamed found
   pub made : Plans w servers keep old plan found
   pub tells : PlanTold planned_text plan found w v result
 
-abbrev pub LoadedTold : Instance → Partition → Sequence → Option Plan → State → State → Result (Changed (Option Plan)) Refusal → Type 0
+abbrev pub LoadedTold : Instance → Partition → Sequence → Option Plan → Act (Changed (Option Plan))
 LoadedTold instance partition sequence old w =
     PlanTold rehearsed_text (after_loaded w old instance partition sequence) (loaded_of w old instance partition sequence) w
 
@@ -67,7 +67,7 @@ abbrev pub stepped_text : Stepped → List ℕ
 stepped_text (stepped.At state steps) = at_text state steps
 stepped_text (stepped.Refused number) = noplan_text number
 
-pub record StepTold (old : Option Plan) (w v : State) (result : Result (Changed (Option Plan)) Refusal) : Type 0 where
+pub record StepTold (old : Option Plan) (w : State) (v : Reached) (result : Result (Changed (Option Plan)) Refusal) : Type 0 where
   pub plan : Option Plan
   pub found : Result Stepped Refusal
   pub named : IsNamed found

@@ -1,5 +1,5 @@
 -- What is reported of a line, from a world and a desk on: a text, and the world and the desk behind it.
-use Rattle.std.specs.Prelude.{ℕ, Bool, true, false, ◌&&◌, List, Option, None, Some, Result, Ok, Err, if◌then◌else◌}
+use Rattle.std.specs.Prelude.{ℕ, Bool, true, false, ◌&&◌, List, Option, None, Some, Ok, Err, if◌then◌else◌}
 use Rattle.rt_base.specs.declared.numbers.Instance.{Instance}
 use Rattle.rt_base.specs.declared.numbers.Partition.{Partition}
 use Rattle.rt_base.specs.declared.numbers.Sequence.{Sequence}
@@ -12,9 +12,8 @@ use Rattle.rt_desk.specs.declared.desk.Desk.{Desk}
 use Rattle.rt_dryrun.specs.Rehearsing.{Going as Plan}
 use Rattle.rt_events.specs.declared.event.Event.{Event}
 use Rattle.rt_events.specs.declared.event.Event.TheVariants.{Consume}
-use Rattle.rt_events.specs.declared.refusal.Refusal.{Refusal}
 use Rattle.rt_hybrid.specs.Table.{OfflineTable}
-use Rattle.rt_macros.specs.Doing.{Gives, Happens, Then}
+use Rattle.rt_macros.specs.Doing.{Act, Gives, Happens, Then}
 use Rattle.rt_macros.specs.Exchanging.{ExchangeTold}
 use Rattle.rt_macros.specs.Filling.{FillTold}
 use Rattle.rt_macros.specs.Querying.{QueryTold}
@@ -34,7 +33,7 @@ use Rattle.rt_state.specs.declared.state.State.{State}
 
 -- ---- macros
 
-abbrev pub MacroTold : Bool → Macro → State → State → Result (List ℕ) Refusal → Type 0
+abbrev pub MacroTold : Bool → Macro → Act (List ℕ)
 MacroTold paused (macro.Fill partition count) w = FillTold partition count w
 MacroTold paused (macro.Query query) w = QueryTold query w
 MacroTold paused (macro.Exchange instance partition sequence controller) w = ExchangeTold instance partition sequence controller w
@@ -42,7 +41,7 @@ MacroTold paused (macro.Settle rounds) w = SettleTold paused rounds w
 
 -- ---- events
 
-abbrev pub EventTold : Event → State → State → Result (List ℕ) Refusal → Type 0
+abbrev pub EventTold : Event → Act (List ℕ)
 EventTold event w = Then (Happens event) (λ outcome. Gives (outcome_text event outcome)) w
 
 abbrev pub is_due : Found → Bool
@@ -58,11 +57,11 @@ held_by w paused (Consume instance partition sequence max) =
 held_by w paused other = None
 
 -- while the run is paused such an event doesn't happen, which is told; it counts as none
-abbrev pub UnlessHeld : Option (Instance × Partition × Sequence) → Event → State → State → Result (List ℕ) Refusal → Type 0
+abbrev pub UnlessHeld : Option (Instance × Partition × Sequence) → Event → Act (List ℕ)
 UnlessHeld None event w = EventTold event w
 UnlessHeld (Some at) event w = Gives (held_text at.0 at.1 at.2) w
 
-abbrev pub EventLineTold : Bool → Event → State → State → Result (List ℕ) Refusal → Type 0
+abbrev pub EventLineTold : Bool → Event → Act (List ℕ)
 EventLineTold paused event w = UnlessHeld (held_by w paused event) event w
 
 -- ---- lines that stand beside the events

@@ -2,14 +2,13 @@
 use Rattle.std.specs.Prelude.{ℕ, List, Result, Ok, Err}
 use Rattle.rt_desk.specs.declared.desk.Desk.{Desk}
 use Rattle.rt_events.specs.declared.refusal.Refusal.{Refusal}
-use Rattle.rt_macros.specs.Doing.{Does, Gives, PassesOver, Then}
-use Rattle.rt_state.specs.declared.state.State.{State}
+use Rattle.rt_macros.specs.Doing.{Act, Coming, Does, Gives, PassesOver, Then}
 use Rattle.rt_world.specs.Kept.{Kept}
 
 -- ---- lines that leave the desk as it was
 
 -- what is told of a line that counts as an event, and changes nothing else of the world
-abbrev pub Counts : List ℕ → State → State → Result (List ℕ) Refusal → Type 0
+abbrev pub Counts : List ℕ → Act (List ℕ)
 Counts text w = Then PassesOver (λ done. Gives text) w
 
 -- ---- lines that change a part of the desk
@@ -23,7 +22,7 @@ abbrev pub changed : {Part : Type 0} → Part → List ℕ → Changed Part
 changed part text = record { text = text; part = part }
 
 -- such a line that counts as an event, and changes nothing else of the world
-abbrev pub CountsAs : {Part : Type 0} → Part → List ℕ → State → State → Result (Changed Part) Refusal → Type 0
+abbrev pub CountsAs : {Part : Type 0} → Part → List ℕ → Act (Changed Part)
 CountsAs part text w = Then PassesOver (λ done. Gives (changed part text)) w
 
 -- a call did this, and made the text and the part that are told of it
@@ -31,7 +30,7 @@ abbrev pub changed_by : {Part : Type 0} → List ℕ → Part → Result (Unit {
 changed_by text part (Ok done) = Ok (changed part text)
 changed_by text part (Err refusal) = Err refusal
 
-abbrev pub DoesChange : {Part : Type 0} → (State → Result (Changed Part) Refusal → Type 0) → Kept → List ℕ → Part → Result (Unit {0}) Refusal → Type 0
+abbrev pub DoesChange : {Part : Type 0} → Coming (Changed Part) → Kept → List ℕ → Part → Result (Unit {0}) Refusal → Type 0
 DoesChange wanted new text part result = Does wanted new (changed_by text part result)
 
 -- ---- all lines
@@ -44,15 +43,15 @@ abbrev pub told : Desk → List ℕ → Told
 told desk text = changed desk text
 
 abbrev pub Telling : Type 1
-Telling = State → State → Result Told Refusal → Type 0
+Telling = Act Told
 
 -- a line leaves the desk as it was
-abbrev pub Beside : Desk → (State → State → Result (List ℕ) Refusal → Type 0) → Telling
+abbrev pub Beside : Desk → Act (List ℕ) → Telling
 Beside desk act w = Then act (λ text. Gives (told desk text)) w
 
 -- a line puts a part on the desk
-abbrev pub Puts : {Part : Type 0} → (Part → Desk) → (State → State → Result (Changed Part) Refusal → Type 0) → Telling
+abbrev pub Puts : {Part : Type 0} → (Part → Desk) → Act (Changed Part) → Telling
 Puts put act w = Then act (λ x. Gives (told (put x.part) x.text)) w
 
-abbrev pub DoesTold : (State → Result Told Refusal → Type 0) → Kept → List ℕ → Desk → Result (Unit {0}) Refusal → Type 0
+abbrev pub DoesTold : Coming Told → Kept → List ℕ → Desk → Result (Unit {0}) Refusal → Type 0
 DoesTold wanted new text desk result = DoesChange wanted new text desk result
