@@ -17,7 +17,7 @@ import running
 # Of each input one allocation in so many is refused, from the first on.
 STEPS = {"eight-replicas": 47, "a-crash-during-a-commit": 199, "everything-at-once": 4001}
 # How many of each input, and in a quick run.
-NUMBERS, QUICK = 100, 10
+NUMBERS, QUICK = 100, 3
 HOW = {"alone": {}, "from it on": {"FROM_THEN_ON": "1"}}
 # The seconds of processor time that a run gets, of which a whole one takes two; and those by the clock, for one that sleeps.
 PROCESSOR, CLOCK = 10, 300

@@ -16,7 +16,7 @@ FIRST = ["three-messages-two-consumed", "three-messages-committed", "a-kept-stor
 GENERATED = ["gen", "1", "2", "40"]
 HOW = {"alone": {}, "from it on": {"FROM_THEN_ON": "1"}}
 # In a quick run one allocation in so many is refused, and the run after the last one is looked for in such steps too.
-QUICK = 101
+QUICK = 199
 
 
 def words_of(path):
