@@ -46,14 +46,19 @@ def is_too_deep(message):
     return deepest > DEEPEST
 
 
+def with_texts(pairs):
+    """An object of its keys and values; serde_json reads no lone surrogate, also where the same key comes again."""
+    json.dumps(pairs, ensure_ascii=False).encode()
+    return dict(pairs)
+
+
 def object_of(message):
     """The object that a message is, or none."""
     if is_too_deep(message):
         return None
     try:
         message.encode()
-        value = json.loads(message, parse_int=whole, parse_float=fraction, parse_constant=refused)
-        json.dumps(value, ensure_ascii=False).encode()
+        value = json.loads(message, parse_int=whole, parse_float=fraction, parse_constant=refused, object_pairs_hook=with_texts)
     except (ValueError, NoRow, RecursionError):
         return None
     return value if isinstance(value, dict) else None
