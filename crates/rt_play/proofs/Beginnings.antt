@@ -103,12 +103,12 @@ beginning_taken script beginning lines e = by (tables_of script) e
 -- ---- the report
 
 pub nothing_behind : (read : Read) → IsFrontBehind read []
-nothing_behind (Ok x) = record { front = []; rest = x.1; last = going_from x.0; whole = refl; run = (refl, refl) }
+nothing_behind (Ok x) = record { front = []; rest = x.1; turns = []; last = going_from x.0; whole = refl; run = (refl, refl, refl) }
 nothing_behind (Err why) = refl
 
 -- nothing was written where memory ran out before the first line
 pub none_told : (lines : List NumberedLine) (g : Going) (s : SinkMeaning) → TellsFront (FrontRuns lines g) s s
-none_told lines g s = record { texts = []; is = record { front = []; rest = lines; last = g; whole = refl; run = (refl, refl) }; puts = nothing_put s }
+none_told lines g s = record { texts = []; is = record { front = []; rest = lines; turns = []; last = g; whole = refl; run = (refl, refl, refl) }; puts = nothing_put s }
 
 abbrev TellsBehind : Read → SinkMeaning → SinkMeaning → Result PlayEnd PlayFault → Type 0
 TellsBehind read old new result = Tells (IsReportBehind read) (IsFrontBehind read) old new result

@@ -9,7 +9,7 @@ use Rattle.rt_lines.specs.Header.{ReadsHeader, Says, header_of}
 use Rattle.rt_lines.specs.Lines.{ScriptLines, script_lines}
 use Rattle.rt_lines.specs.declared.play_fault.PlayFault.{PlayFault}
 use Rattle.rt_lines.specs.declared.play_fault.PlayFault.TheVariants.{Usage, Refused, ReadFault, WriteFault, Memory, Limit}
-use Rattle.rt_macros.specs.Doing.{Does}
+use Rattle.rt_macros.specs.Doing.{Comes, Does, Reached, reached}
 use Rattle.rt_model.specs.declared.setup.Setup.{Setup}
 use Rattle.rt_play.proofs.Tellings.{nothing_put, put_in_part}
 use Rattle.rt_play.specs.Generating.{IsGenerated, IsGeneratedBy, RunsGenerated, TellsGenerated, end_texts, generated_setup, report_by, report_texts, setup_read}
@@ -80,39 +80,58 @@ last_stops texts text old mid new puts fails =
 
 -- ---- the run
 
-is_generated : (asked : Generated) (setup : Setup) (made : Kept) (v : State) (told : Result (List ℕ) Refusal)
-    → generated_setup asked ≡ Ok setup → made ≡ record { state = start setup; spent = false } → RunsGenerated asked made.state v told → IsGenerated asked (report_by asked.partitions v told)
+is_generated : (asked : Generated) (setup : Setup) (made : Kept) (v : Reached) (told : Result (List ℕ) Refusal)
+    → generated_setup asked ≡ Ok setup → made ≡ record { state = start setup; spent = false } → RunsGenerated asked made.state v told → IsGenerated asked (report_by asked.partitions v.world told)
 is_generated asked setup made v told e first run =
-    subst (λ s. IsGeneratedBy asked s (report_by asked.partitions v told)) (sym e)
+    subst (λ s. IsGeneratedBy asked s (report_by asked.partitions v.world told)) (sym e)
     (record { last = v; told = told; run = subst (λ (k : Kept). RunsGenerated asked k.state v told) first run; same = refl })
 
 -- its report was written
-pub generated_told : (asked : Generated) (setup : Setup) (made : Kept) (v : State) (answer : List ℕ) (old new : SinkMeaning)
-    → generated_setup asked ≡ Ok setup → made ≡ record { state = start setup; spent = false } → RunsGenerated asked made.state v (Ok answer)
-    → WritesTexts (report_texts asked.partitions v answer) old new (Ok tt) → TellsGenerated asked old new (Ok (record { lines = asked.partitions + 1 }))
-generated_told asked setup made v answer old new e first run puts = (
-  record { report = report_by asked.partitions v (Ok answer); is = is_generated asked setup made v (Ok answer) e first run; stop = refl; puts = puts },
-  texts_count v asked.partitions answer,
+pub generated_told : (asked : Generated) (setup : Setup) (made : Kept) (w : State) (answer : List ℕ) (old new : SinkMeaning)
+    → generated_setup asked ≡ Ok setup → made ≡ record { state = start setup; spent = false } → Comes (RunsGenerated asked made.state) w (Ok answer)
+    → WritesTexts (report_texts asked.partitions w answer) old new (Ok tt) → TellsGenerated asked old new (Ok (record { lines = asked.partitions + 1 }))
+generated_told asked setup made w answer old new e first c puts = (
+  record {
+    report = report_by asked.partitions w (Ok answer);
+    is = is_generated asked setup made (reached c.turns w) (Ok answer) e first c.came;
+    stop = refl;
+    puts = puts;
+  },
+  texts_count w asked.partitions answer,
 )
 
 -- its report was written in part
-pub generated_stopped : (fault : PlayFault) (asked : Generated) (setup : Setup) (made : Kept) (v : State) (answer : List ℕ) (old new : SinkMeaning)
-    → generated_setup asked ≡ Ok setup → made ≡ record { state = start setup; spent = false } → RunsGenerated asked made.state v (Ok answer)
-    → WritesTexts (report_texts asked.partitions v answer) old new (Err fault) → TellsGenerated asked old new (Err fault)
-generated_stopped WriteFault asked setup made v answer old new e first run h = record {
+pub generated_stopped : (fault : PlayFault) (asked : Generated) (setup : Setup) (made : Kept) (w : State) (answer : List ℕ) (old new : SinkMeaning)
+    → generated_setup asked ≡ Ok setup → made ≡ record { state = start setup; spent = false } → Comes (RunsGenerated asked made.state) w (Ok answer)
+    → WritesTexts (report_texts asked.partitions w answer) old new (Err fault) → TellsGenerated asked old new (Err fault)
+generated_stopped WriteFault asked setup made w answer old new e first c h = record {
   texts = h.front;
-  is = inr (record { report = report_by asked.partitions v (Ok answer); rest = h.rest; is = is_generated asked setup made v (Ok answer) e first run; whole = h.whole });
+  is =
+      inr
+      (record {
+        report = report_by asked.partitions w (Ok answer);
+        rest = h.rest;
+        is = is_generated asked setup made (reached c.turns w) (Ok answer) e first c.came;
+        whole = h.whole;
+      });
   fails = h.fails;
 }
-generated_stopped Memory asked setup made v answer old new e first run h = record {
+generated_stopped Memory asked setup made w answer old new e first c h = record {
   texts = h.front;
-  is = inr (record { report = report_by asked.partitions v (Ok answer); rest = h.rest; is = is_generated asked setup made v (Ok answer) e first run; whole = h.whole });
+  is =
+      inr
+      (record {
+        report = report_by asked.partitions w (Ok answer);
+        rest = h.rest;
+        is = is_generated asked setup made (reached c.turns w) (Ok answer) e first c.came;
+        whole = h.whole;
+      });
   puts = h.puts;
 }
-generated_stopped Usage asked setup made v answer old new e first run h = absurd h
-generated_stopped ReadFault asked setup made v answer old new e first run h = absurd h
-generated_stopped (Refused line reason) asked setup made v answer old new e first run h = absurd h
-generated_stopped (Limit which) asked setup made v answer old new e first run h = absurd h
+generated_stopped Usage asked setup made w answer old new e first c h = absurd h
+generated_stopped ReadFault asked setup made w answer old new e first c h = absurd h
+generated_stopped (Refused line reason) asked setup made w answer old new e first c h = absurd h
+generated_stopped (Limit which) asked setup made w answer old new e first c h = absurd h
 
 -- nothing of it was written where memory ran out
 pub nothing_generated : (asked : Generated) (s : SinkMeaning) → TellsGenerated asked s s (Err Memory)
@@ -121,11 +140,11 @@ nothing_generated asked s = record { texts = []; is = inl refl; puts = nothing_p
 -- an event of it was refused
 pub generated_refused : (why : Refusal) (asked : Generated) (setup : Setup) (made v : Kept) (s : SinkMeaning)
     → generated_setup asked ≡ Ok setup → made ≡ record { state = start setup; spent = false } → Does (RunsGenerated asked made.state) v (Err why) → TellsGenerated asked s s (Err (fault_at 0 why))
-generated_refused refusal.NoSuchMessage asked setup made v s e first d = record { report = stopped (fault_at 0 refusal.NoSuchMessage); is = is_generated asked setup made v.state (Err refusal.NoSuchMessage) e first d.1; stop = refl; puts = nothing_put s }
-generated_refused refusal.NoSuchNode asked setup made v s e first d = record { report = stopped (fault_at 0 refusal.NoSuchNode); is = is_generated asked setup made v.state (Err refusal.NoSuchNode) e first d.1; stop = refl; puts = nothing_put s }
-generated_refused refusal.NodeDown asked setup made v s e first d = record { report = stopped (fault_at 0 refusal.NodeDown); is = is_generated asked setup made v.state (Err refusal.NodeDown) e first d.1; stop = refl; puts = nothing_put s }
-generated_refused refusal.NothingToDo asked setup made v s e first d = record { report = stopped (fault_at 0 refusal.NothingToDo); is = is_generated asked setup made v.state (Err refusal.NothingToDo) e first d.1; stop = refl; puts = nothing_put s }
-generated_refused (refusal.Limit which) asked setup made v s e first d = record { report = stopped (fault_at 0 (refusal.Limit which)); is = is_generated asked setup made v.state (Err (refusal.Limit which)) e first d.1; stop = refl; puts = nothing_put s }
+generated_refused refusal.NoSuchMessage asked setup made v s e first d = record { report = stopped (fault_at 0 refusal.NoSuchMessage); is = is_generated asked setup made (reached d.1.turns v.state) (Err refusal.NoSuchMessage) e first d.1.came; stop = refl; puts = nothing_put s }
+generated_refused refusal.NoSuchNode asked setup made v s e first d = record { report = stopped (fault_at 0 refusal.NoSuchNode); is = is_generated asked setup made (reached d.1.turns v.state) (Err refusal.NoSuchNode) e first d.1.came; stop = refl; puts = nothing_put s }
+generated_refused refusal.NodeDown asked setup made v s e first d = record { report = stopped (fault_at 0 refusal.NodeDown); is = is_generated asked setup made (reached d.1.turns v.state) (Err refusal.NodeDown) e first d.1.came; stop = refl; puts = nothing_put s }
+generated_refused refusal.NothingToDo asked setup made v s e first d = record { report = stopped (fault_at 0 refusal.NothingToDo); is = is_generated asked setup made (reached d.1.turns v.state) (Err refusal.NothingToDo) e first d.1.came; stop = refl; puts = nothing_put s }
+generated_refused (refusal.Limit which) asked setup made v s e first d = record { report = stopped (fault_at 0 (refusal.Limit which)); is = is_generated asked setup made (reached d.1.turns v.state) (Err (refusal.Limit which)) e first d.1.came; stop = refl; puts = nothing_put s }
 generated_refused refusal.Memory asked setup made v s e first d = nothing_generated asked s
 
 -- no cluster was made

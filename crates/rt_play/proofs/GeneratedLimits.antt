@@ -87,7 +87,7 @@ told_never partitions w (Err why) report f h e =
 
 by_setup : (asked : Generated) (s : Result Setup PlayFault) (report : Report) → IsWithin s → IsGeneratedBy asked s report → report.stop ≡ Some (Limit Input) → ⊥
 by_setup asked (Ok setup) report within h e =
-    told_never asked.partitions h.last h.told report
+    told_never asked.partitions h.last.world h.told report
     (λ is. run_never asked (start setup) h.last (subst (λ t. RunsGenerated asked (start setup) h.last t) is h.run)) h.same e
 by_setup asked (Err why) report within h e = stopped_never why report (is_other why within) h e
 

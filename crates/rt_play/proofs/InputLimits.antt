@@ -15,6 +15,7 @@ use Rattle.rt_lines.specs.declared.play_fault.PlayFault.TheVariants.{Limit, Memo
 use Rattle.rt_lines.proofs.HeaderLimits.{IsOther, IsWithin, is_other}
 use Rattle.rt_play.proofs.HeaderLimits.{beginning_within}
 use Rattle.rt_play.specs.Beginning.{beginning_of}
+use Rattle.rt_macros.specs.Doing.{Reached}
 use Rattle.rt_play.specs.Going.{Going}
 use Rattle.rt_play.specs.Report.{IsReport, IsReportBehind, IsStop, Report, Stops, fault_at, said_at, stopped}
 use Rattle.rt_play.specs.declared.beginning.Beginning.{Beginning}
@@ -47,21 +48,21 @@ limit_refused line refusal.NothingToDo e = absurd (refused_other line reason.Not
 limit_refused line (refusal.Limit which) e = ap refusal.Limit (same_limit which Input e)
 limit_refused line refusal.Memory e = absurd (memory_other e)
 
-stops_never : (number : ℕ) (o : Option Line) (g : Going) (why : PlayFault) → Stops number o g why → why ≡ Limit Input → ⊥
-stops_never number None g why h e = refused_other number reason.BadLine (sym h ∙ e)
-stops_never number (Some said) g why (v, r, tells, is) e =
+stops_never : (number : ℕ) (o : Option Line) (g : Going) (v : Reached) (why : PlayFault) → Stops number o g v why → why ≡ Limit Input → ⊥
+stops_never number None g v why h e = refused_other number reason.BadLine (sym h.1 ∙ e)
+stops_never number (Some said) g v why (r, tells, is) e =
     line_never said g.desk g.world v (subst (λ x. LineTold said g.desk g.world v (Err x)) (limit_refused number r (sym is ∙ e)) tells)
 
-stop_never : (lines : List NumberedLine) (g : Going) (stop : Option PlayFault) → IsStop lines g stop → stop ≡ Some (Limit Input) → ⊥
-stop_never [] g stop h e = no_stop (Limit Input) (sym h ∙ e)
-stop_never (line ∷ lines) g stop (why, stops, so) e = stops_never line.0 (said_at g line) g why stops (same_stop why (Limit Input) (sym so ∙ e))
+stop_never : (lines : List NumberedLine) (g : Going) (v : Reached) (stop : Option PlayFault) → IsStop lines g v stop → stop ≡ Some (Limit Input) → ⊥
+stop_never [] g v stop h e = no_stop (Limit Input) (sym h.1 ∙ e)
+stop_never (line ∷ lines) g v stop (why, stops, so) e = stops_never line.0 (said_at g line) g v why stops (same_stop why (Limit Input) (sym so ∙ e))
 
 -- what stops at once does so for its own reason
 pub stopped_never : (why : PlayFault) (report : Report) → IsOther why → report ≡ stopped why → report.stop ≡ Some (Limit Input) → ⊥
 stopped_never why report other h e = other (same_stop why (Limit Input) (sym (ap (λ (r : Report). r.stop) h) ∙ e))
 
 behind_never : (read : Result (Beginning × List NumberedLine) PlayFault) (report : Report) → IsWithin read → IsReportBehind read report → report.stop ≡ Some (Limit Input) → ⊥
-behind_never (Ok x) report within h e = stop_never h.runs.rest h.runs.last report.stop h.stops e
+behind_never (Ok x) report within h e = stop_never h.runs.rest h.runs.last h.stopped_by report.stop h.stops e
 behind_never (Err why) report within h e = stopped_never why report (is_other why within) h e
 
 pub report_never : (input : List ℕ) (report : Report) → IsReport input report → report.stop ≡ Some (Limit Input) → ⊥

@@ -56,7 +56,7 @@ rows_one asked w v k =
 -- ---- the query
 
 -- a query that a line says is one of the table
-said_fits : (schema : Schema) (o : Option Line) (query : Query) → IfSome o (FitsLine schema) → query_said o ≡ Some query → IsQuery schema query
+pub said_fits : (schema : Schema) (o : Option Line) (query : Query) → IfSome o (FitsLine schema) → query_said o ≡ Some query → IsQuery schema query
 said_fits schema None query fits e = absurd (none-some query e)
 said_fits schema (Some (line.Macro (macro.Query other))) query fits e = subst (IsQuery schema) (same_Some other query e) fits
 said_fits schema (Some (line.Macro (macro.Fill p n))) query fits e = absurd (none-some query e)
@@ -111,7 +111,7 @@ within_has true true r has = has
 within_has true false r has = tt
 within_has false short r has = tt
 
-setup_has : (asked : Generated) → IfOk (generated_setup asked) IsSetup
+pub setup_has : (asked : Generated) → IfOk (generated_setup asked) IsSetup
 setup_has asked =
     let script = script_lines (header_text asked.partitions) in
     within_has (nat_le 1 asked.partitions && nat_le asked.partitions MOST_PARTITIONS) (nat_le asked.rows MOST_ROWS) (header_of script)
@@ -131,8 +131,8 @@ from_setup : (asked : Generated) (setup : Setup) → IsSetup setup → (a b : Re
 from_setup asked setup is a b h g =
     let safe = start_safe setup is in
     let z = run_one asked (start setup) (start setup) (record { left = safe; right = safe; same = refl }) h.last g.last h.told g.told h.run g.run in
-    h.same ∙ report_shown asked.partitions h.last h.told ∙ ap (λ u. report_by asked.partitions u h.told) z.1.same
-    ∙ sym (report_shown asked.partitions g.last h.told) ∙ ap (λ t. report_by asked.partitions g.last t) z.0 ∙ sym g.same
+    h.same ∙ report_shown asked.partitions h.last.world h.told ∙ ap (λ u. report_by asked.partitions u h.told) z.1.worlds.same
+    ∙ sym (report_shown asked.partitions g.last.world h.told) ∙ ap (λ t. report_by asked.partitions g.last.world t) z.0 ∙ sym g.same
 
 by_setup : (asked : Generated) (s : Result Setup PlayFault) → IfOk s IsSetup → (a b : Report) → IsGeneratedBy asked s a → IsGeneratedBy asked s b → a ≡ b
 by_setup asked (Ok setup) has a b p q = from_setup asked setup has a b p q

@@ -9,9 +9,11 @@ use Rattle.rt_lines.specs.declared.play_fault.PlayFault.{PlayFault}
 use Rattle.rt_lines.specs.declared.play_fault.PlayFault.TheVariants.{Usage, Refused, ReadFault, WriteFault, Memory, Limit}
 use Rattle.rt_play.specs.declared.play_end.PlayEnd.{PlayEnd}
 use Rattle.rt_play.specs.Going.{Going}
-use Rattle.rt_play.specs.Plays.{TellsFrom, TellsAll, TellsSome, PlaysLine, going}
+use Rattle.rt_play.specs.Plays.{HasRun, HasStopped, TellsFrom, TellsAll, TellsSome, PlaysLine, going}
 use Rattle.rt_writing.specs.Writing.{Puts, FailsWithin}
-use Rattle.rt_play.specs.Report.{FrontRuns, IsReportFrom, RunAll, Runs, Stops, said_at}
+use Rattle.rt_play.specs.Report.{FrontRuns, IsReportFrom, RunAll, Runs, said_at}
+use Rattle.rt_macros.specs.Doing.{stays}
+use Rattle.rt_safety.specs.Runs.{Turn}
 use Rattle.rt_writing.proofs.Writes.{added_more}
 use Rattle.rt_world.specs.Kept.{Kept}
 
@@ -47,22 +49,28 @@ put_in_part old mid new texts text puts fails = record {
 }
 
 -- a line more runs behind those that ran
-pub run_more : (done : List NumberedLine) (line : NumberedLine) (g x h : Going) (texts : List (List ℕ)) (text : List ℕ)
-    → RunAll done g x texts → Runs (said_at x line) x h text → RunAll (done ++ line ∷ []) g h (texts ++ text ∷ [])
-run_more [] line g x h texts text run now = record {
+pub run_more : (done : List NumberedLine) (line : NumberedLine) (g : Going) (turns : List Turn) (x : Going) (own : List Turn) (h : Going) (texts : List (List ℕ)) (text : List ℕ)
+    → RunAll done g turns x texts → Runs (said_at x line) x own h text → RunAll (done ++ line ∷ []) g (turns ++ own) h (texts ++ text ∷ [])
+run_more [] line g turns x own h texts text run now = record {
+  own = own;
   between = h;
   text = text;
+  more = [];
   others = [];
-  first = subst (λ (y : Going). Runs (said_at y line) y h text) run.0 now;
-  then_others = (refl, refl);
-  whole = ap (λ ts. ts ++ text ∷ []) run.1;
+  first = subst (λ (y : Going). Runs (said_at y line) y own h text) run.0 now;
+  then_others = (refl, refl, refl);
+  taken = ap (λ ts. ts ++ own) run.1 ∙ sym (append-nil own);
+  whole = ap (λ ts. ts ++ text ∷ []) run.2;
 }
-run_more (d ∷ done) line g x h texts text run now = record {
+run_more (d ∷ done) line g turns x own h texts text run now = record {
+  own = run.own;
   between = run.between;
   text = run.text;
+  more = run.more ++ own;
   others = run.others ++ text ∷ [];
   first = run.first;
-  then_others = run_more done line run.between x h run.others text run.then_others now;
+  then_others = run_more done line run.between run.more x own h run.others text run.then_others now;
+  taken = ap (λ ts. ts ++ own) run.taken ∙ append_assoc run.own run.more own;
   whole = ap (λ ts. ts ++ text ∷ []) run.whole;
 }
 
@@ -71,46 +79,64 @@ pub one_more : (lines done rest : List NumberedLine) (line : NumberedLine) (left
 one_more lines done rest line left whole e = whole ∙ ap (λ ls. done ++ ls) e ∙ sym (append_assoc done (line ∷ []) left)
 
 -- a run whose lines are at their end
-pub tells_end : (lines done : List NumberedLine) (g x : Going) (texts : List (List ℕ)) (rest : List NumberedLine) (old now : SinkMeaning) (end : PlayEnd)
-    → lines ≡ done ++ rest → rest ≡ [] → RunAll done g x texts → Puts old now (concat texts) → end.lines ≡ length texts → TellsFrom lines g old now (Ok end)
-tells_end lines done g x texts rest old now end whole none run puts count = (
+pub tells_end : (lines done : List NumberedLine) (g : Going) (turns : List Turn) (x : Going) (texts : List (List ℕ)) (rest : List NumberedLine) (old now : SinkMeaning) (end : PlayEnd)
+    → lines ≡ done ++ rest → rest ≡ [] → RunAll done g turns x texts → Puts old now (concat texts) → end.lines ≡ length texts → TellsFrom lines g old now (Ok end)
+tells_end lines done g turns x texts rest old now end whole none run puts count = (
   record {
     report = record { texts = texts; stop = None };
-    is = record { runs = record { front = done; rest = []; last = x; whole = whole ∙ ap (λ ls. done ++ ls) none; run = run }; stops = refl };
+    is =
+        record {
+          runs = record { front = done; rest = []; turns = turns; last = x; whole = whole ∙ ap (λ ls. done ++ ls) none; run = run };
+          stopped_by = stays x.world;
+          stops = (refl, refl);
+        };
     stop = refl;
     puts = puts;
   },
   count,
 )
 
-stops_there : (lines done : List NumberedLine) (g x : Going) (texts : List (List ℕ)) (line : NumberedLine) (left : List NumberedLine) (old now : SinkMeaning) (fault : PlayFault)
-    → lines ≡ done ++ (line ∷ left) → RunAll done g x texts → Puts old now (concat texts) → Stops line.0 (said_at x line) x fault → TellsAll (IsReportFrom lines g) old now (Some fault)
-stops_there lines done g x texts line left old now fault whole run puts stops = record {
+stops_there : (lines done : List NumberedLine) (g : Going) (turns : List Turn) (x : Going) (texts : List (List ℕ)) (line : NumberedLine) (left : List NumberedLine) (old now : SinkMeaning) (fault : PlayFault)
+    → lines ≡ done ++ (line ∷ left) → RunAll done g turns x texts → Puts old now (concat texts) → HasStopped line.0 (said_at x line) x fault → TellsAll (IsReportFrom lines g) old now (Some fault)
+stops_there lines done g turns x texts line left old now fault whole run puts stops = record {
   report = record { texts = texts; stop = Some fault };
-  is = record { runs = record { front = done; rest = line ∷ left; last = x; whole = whole; run = run }; stops = (fault, stops, refl) };
+  is =
+      record {
+        runs = record { front = done; rest = line ∷ left; turns = turns; last = x; whole = whole; run = run };
+        stopped_by = stops.behind;
+        stops = (fault, stops.stops, refl);
+      };
   stop = refl;
   puts = puts;
 }
 
 -- a line that stops the run
-pub tells_stop : (fault : PlayFault) (lines done : List NumberedLine) (g : Going) (x : Kept) (before : Desk) (v : Kept) (after : Desk) (texts : List (List ℕ)) (rest : List NumberedLine) (line : NumberedLine) (left : List NumberedLine) (text : List ℕ) (old now : SinkMeaning)
-    → lines ≡ done ++ rest → rest ≡ line ∷ left → RunAll done g (going x before) texts → Puts old now (concat texts) → PlaysLine line.0 line.1 x before v after text (Err fault) → TellsFrom lines g old now (Err fault)
-tells_stop (Refused at reason) lines done g x before v after texts rest line left text old now whole e run puts plays =
-    stops_there lines done g (going x before) texts line left old now (Refused at reason) (whole ∙ ap (λ ls. done ++ ls) e) run puts plays
-tells_stop (Limit which) lines done g x before v after texts rest line left text old now whole e run puts plays =
-    stops_there lines done g (going x before) texts line left old now (Limit which) (whole ∙ ap (λ ls. done ++ ls) e) run puts plays
-tells_stop Memory lines done g x before v after texts rest line left text old now whole e run puts plays =
-    record { texts = texts; is = record { front = done; rest = rest; last = going x before; whole = whole; run = run }; puts = puts }
-tells_stop Usage lines done g x before v after texts rest line left text old now whole e run puts plays = absurd plays
-tells_stop ReadFault lines done g x before v after texts rest line left text old now whole e run puts plays = absurd plays
-tells_stop WriteFault lines done g x before v after texts rest line left text old now whole e run puts plays = absurd plays
+pub tells_stop : (fault : PlayFault) (lines done : List NumberedLine) (g : Going) (turns : List Turn) (x : Kept) (before : Desk) (v : Kept) (after : Desk) (texts : List (List ℕ)) (rest : List NumberedLine) (line : NumberedLine) (left : List NumberedLine) (text : List ℕ) (old now : SinkMeaning)
+    → lines ≡ done ++ rest → rest ≡ line ∷ left → RunAll done g turns (going x before) texts → Puts old now (concat texts) → PlaysLine line.0 line.1 x before v after text (Err fault) → TellsFrom lines g old now (Err fault)
+tells_stop (Refused at reason) lines done g turns x before v after texts rest line left text old now whole e run puts plays =
+    stops_there lines done g turns (going x before) texts line left old now (Refused at reason) (whole ∙ ap (λ ls. done ++ ls) e) run puts plays
+tells_stop (Limit which) lines done g turns x before v after texts rest line left text old now whole e run puts plays =
+    stops_there lines done g turns (going x before) texts line left old now (Limit which) (whole ∙ ap (λ ls. done ++ ls) e) run puts plays
+tells_stop Memory lines done g turns x before v after texts rest line left text old now whole e run puts plays =
+    record { texts = texts; is = record { front = done; rest = rest; turns = turns; last = going x before; whole = whole; run = run }; puts = puts }
+tells_stop Usage lines done g turns x before v after texts rest line left text old now whole e run puts plays = absurd plays
+tells_stop ReadFault lines done g turns x before v after texts rest line left text old now whole e run puts plays = absurd plays
+tells_stop WriteFault lines done g turns x before v after texts rest line left text old now whole e run puts plays = absurd plays
 
 -- a line that ran, and whose text was written in part
-pub tells_fault : (lines done : List NumberedLine) (g x h : Going) (texts : List (List ℕ)) (rest : List NumberedLine) (line : NumberedLine) (left : List NumberedLine) (text written : List ℕ) (old mid new : SinkMeaning)
-    → lines ≡ done ++ rest → rest ≡ line ∷ left → RunAll done g x texts → Puts old mid (concat texts) → Runs (said_at x line) x h text → written ≡ text → FailsWithin written mid new
+pub tells_fault : (lines done : List NumberedLine) (g : Going) (turns : List Turn) (x h : Going) (texts : List (List ℕ)) (rest : List NumberedLine) (line : NumberedLine) (left : List NumberedLine) (text written : List ℕ) (old mid new : SinkMeaning)
+    → lines ≡ done ++ rest → rest ≡ line ∷ left → RunAll done g turns x texts → Puts old mid (concat texts) → HasRun (said_at x line) x h text → written ≡ text → FailsWithin written mid new
     → TellsSome (FrontRuns lines g) old new
-tells_fault lines done g x h texts rest line left text written old mid new whole e run puts now same fails = record {
+tells_fault lines done g turns x h texts rest line left text written old mid new whole e run puts now same fails = record {
   texts = texts ++ text ∷ [];
-  is = record { front = done ++ line ∷ []; rest = left; last = h; whole = one_more lines done rest line left whole e; run = run_more done line g x h texts text run now };
+  is =
+      record {
+        front = done ++ line ∷ [];
+        rest = left;
+        turns = turns ++ now.turns;
+        last = h;
+        whole = one_more lines done rest line left whole e;
+        run = run_more done line g turns x now.turns h texts text run now.runs;
+      };
   fails = put_in_part old mid new texts text puts (subst (λ t. FailsWithin t mid new) same fails);
 }

@@ -11,7 +11,7 @@ use Rattle.rt_lines.specs.Header.{NumberedLine, header_of}
 use Rattle.rt_lines.specs.Lines.{script_lines}
 use Rattle.rt_lines.specs.declared.play_fault.PlayFault.{PlayFault}
 use Rattle.rt_lines.specs.declared.play_fault.PlayFault.TheVariants.{Limit}
-use Rattle.rt_macros.specs.Doing.{EachFrom, Gives, Passed, Refuses, Then}
+use Rattle.rt_macros.specs.Doing.{Act, EachFrom, Gives, Passed, Reached, Refuses, Then}
 use Rattle.rt_macros.specs.Querying.{QueryTold}
 use Rattle.rt_macros.specs.Settling.{Settles}
 use Rattle.rt_macros.specs.declared.settling.TheConstants.{MOST_ROUNDS}
@@ -70,11 +70,11 @@ abbrev pub row_text : ℕ → List ℕ
 row_text x = row_of_top (x / 8589934592)
 
 -- a row comes to the partition of its place, and its number is noted
-abbrev pub ProducesRow : ℕ → ℕ → ℕ → State → State → Result ℕ Refusal → Type 0
+abbrev pub ProducesRow : ℕ → ℕ → ℕ → Act ℕ
 ProducesRow partitions at x w =
     Then (Passed (Produce (record { 0 = at % partitions }) (row_text (next_number x)))) (λ done. Gives (next_number x)) w
 
-abbrev pub ProducesRows : Generated → State → State → Result ℕ Refusal → Type 0
+abbrev pub ProducesRows : Generated → Act ℕ
 ProducesRows asked w = EachFrom (ProducesRow asked.partitions) 0 asked.rows asked.seed w
 
 -- ---- the query
@@ -87,20 +87,20 @@ query_said None = None
 query_said (Some (line.Macro (macro.Query query))) = Some query
 query_said (Some other) = None
 
-abbrev pub AsksQuery : Option Query → State → State → Result (List ℕ) Refusal → Type 0
+abbrev pub AsksQuery : Option Query → Act (List ℕ)
 AsksQuery (Some query) w = QueryTold query w
 AsksQuery None w = Refuses NothingToDo w
 
-abbrev pub Asks : State → State → Result (List ℕ) Refusal → Type 0
+abbrev pub Asks : Act (List ℕ)
 Asks w = AsksQuery (query_said (line_in w.setup generated_query)) w
 
 -- ---- the run
 
-abbrev pub SettlesAndAsks : State → State → Result (List ℕ) Refusal → Type 0
+abbrev pub SettlesAndAsks : Act (List ℕ)
 SettlesAndAsks w = Then (Settles false MOST_ROUNDS) (λ quiet. Asks) w
 
 -- the rows are produced, the cluster settles, and the line of the query's answer is told
-abbrev pub RunsGenerated : Generated → State → State → Result (List ℕ) Refusal → Type 0
+abbrev pub RunsGenerated : Generated → Act (List ℕ)
 RunsGenerated asked w = Then (ProducesRows asked) (λ x. SettlesAndAsks) w
 
 -- ---- the report
@@ -118,10 +118,10 @@ report_by partitions w (Ok answer) = record { texts = report_texts partitions w 
 report_by partitions w (Err refusal) = stopped (fault_at 0 refusal)
 
 pub record IsGeneratedFrom (asked : Generated) (setup : Setup) (report : Report) : Type 0 where
-  pub last : State
+  pub last : Reached
   pub told : Result (List ℕ) Refusal
   pub run : RunsGenerated asked (start setup) last told
-  pub same : report ≡ report_by asked.partitions last told
+  pub same : report ≡ report_by asked.partitions last.world told
 
 abbrev pub IsGeneratedBy : Generated → Result Setup PlayFault → Report → Type 0
 IsGeneratedBy asked (Ok setup) report = IsGeneratedFrom asked setup report
@@ -131,17 +131,17 @@ IsGeneratedBy asked (Err why) report = report ≡ stopped why
 abbrev pub IsGenerated : Generated → Report → Type 0
 IsGenerated asked report = IsGeneratedBy asked (generated_setup asked) report
 
--- the first lines of such a report
-pub record BeginsGenerated (asked : Generated) (texts : List (List ℕ)) : Type 0 where
+-- the first lines of a report
+pub record Begins (Is : Report → Type 0) (texts : List (List ℕ)) : Type 0 where
   pub report : Report
   pub rest : List (List ℕ)
-  pub is : IsGenerated asked report
+  pub is : Is report
   pub whole : report.texts ≡ texts ++ rest
 
 -- or none of them, where memory ran out before the run's end
-abbrev pub IsFrontOfGenerated : Generated → List (List ℕ) → Type 0
-IsFrontOfGenerated asked texts = (texts ≡ []) ⊎ BeginsGenerated asked texts
+abbrev pub FrontBy : (Report → Type 0) → List (List ℕ) → Type 0
+FrontBy Is texts = (texts ≡ []) ⊎ Begins Is texts
 
 -- what a generated run writes, by its answer
 abbrev pub TellsGenerated : Generated → SinkMeaning → SinkMeaning → Result PlayEnd PlayFault → Type 0
-TellsGenerated asked old new result = Tells (IsGenerated asked) (IsFrontOfGenerated asked) old new result
+TellsGenerated asked old new result = Tells (IsGenerated asked) (FrontBy (IsGenerated asked)) old new result

@@ -3,6 +3,8 @@ pub mod Generating
 pub mod Going
 pub mod Headline
 pub mod Plays
+pub mod Reader
 pub mod Report
+pub mod Shown
 pub mod Words
 pub mod Writing

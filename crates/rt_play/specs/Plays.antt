@@ -11,8 +11,10 @@ use Rattle.rt_desk.specs.declared.desk.Desk.{Desk}
 use Rattle.rt_world.specs.Kept.{Kept}
 use Rattle.rt_lines.specs.Header.{NumberedLine}
 use Rattle.rt_lines.specs.Reading.{FailsToRead, IsTooLong, ReadsInput, Takes, input_limit}
+use Rattle.rt_macros.specs.Doing.{Reached}
 use Rattle.rt_play.specs.Going.{Going}
 use Rattle.rt_play.specs.Report.{FrontRuns, IsFrontOfReport, IsReport, IsReportFrom, Report, Runs, Stops}
+use Rattle.rt_safety.specs.Runs.{Turn}
 use Rattle.rt_script.specs.Line.{line_in}
 use Rattle.rt_script.specs.declared.line.Line.{Line}
 use Rattle.rt_writing.specs.Writing.{FailsWithin, Puts}
@@ -130,12 +132,22 @@ Meets input (Err (Limit Rows)) = IsAnswer input (Err (Limit Rows))
 abbrev pub going : Kept → Desk → Going
 going kept desk = record { world = kept.state; desk = desk }
 
+-- what a line says was run, by some turns
+pub record HasRun (said : Option Line) (g h : Going) (text : List ℕ) : Type 0 where
+  pub turns : List Turn
+  pub runs : Runs said g turns h text
+
+-- it stops the run, behind some turns
+pub record HasStopped (number : ℕ) (said : Option Line) (g : Going) (why : PlayFault) : Type 0 where
+  pub behind : Reached
+  pub stops : Stops number said g behind why
+
 -- what a line says was run, or it stops the run
 abbrev pub PlaysSaid : ℕ → Option Line → Kept → Desk → Kept → Desk → List ℕ → Result Unit PlayFault → Type 0
-PlaysSaid number said old before new after text (Ok done) = (new.spent ≡ false) × Runs said (going old before) (going new after) text
+PlaysSaid number said old before new after text (Ok done) = (new.spent ≡ false) × HasRun said (going old before) (going new after) text
 PlaysSaid number said old before new after text (Err Memory) = Unit {0}
-PlaysSaid number said old before new after text (Err (Refused at reason)) = Stops number said (going old before) (Refused at reason)
-PlaysSaid number said old before new after text (Err (Limit which)) = Stops number said (going old before) (Limit which)
+PlaysSaid number said old before new after text (Err (Refused at reason)) = HasStopped number said (going old before) (Refused at reason)
+PlaysSaid number said old before new after text (Err (Limit which)) = HasStopped number said (going old before) (Limit which)
 PlaysSaid number said old before new after text (Err Usage) = ⊥
 PlaysSaid number said old before new after text (Err ReadFault) = ⊥
 PlaysSaid number said old before new after text (Err WriteFault) = ⊥

@@ -13,7 +13,7 @@ use std::alloc::{AllocError, Global};
 use std::mem;
 
 /// Has the rows of a generated run come to the partitions in turn; the last number of the generator.
-#[tactic(auto, using(rt_macros::proofs::Doing::count_ends, rt_macros::proofs::Doing::leads_itself))]
+#[tactic(auto, using(rt_macros::proofs::Doing::leads_itself))]
 pub(crate) fn produce_rows(
     alloc: Global,
     world: &mut World,

@@ -12,6 +12,7 @@ mod laws;
 mod one_report;
 mod play_end;
 mod player;
+mod reader;
 mod running;
 mod words;
 
@@ -19,3 +20,4 @@ pub use laws::a_script_is_a_run;
 pub use one_report::a_script_has_one_report;
 pub use play_end::PlayEnd;
 pub use player::play;
+pub use reader::{each_answer_counts_what_was_produced, what_is_shown_to_have_ended_stays};

@@ -2,7 +2,7 @@ ghost use Rattle.std.specs.Prelude.{◌≡◌, ◌↔◌, ℕ, List, map, Some, 
 ghost use Rattle.rt_base.specs.Source.{Rises};
 ghost use Rattle.rt_lines.specs.Reading.{IsTooLong};
 ghost use Rattle.rt_play.specs.Generating.{TellsGenerated};
-ghost use Rattle.rt_play.specs.Headline.{PlaysRightly};
+ghost use Rattle.rt_play.specs.Headline.{PlaysRightly, TellsRightly};
 ghost use Rattle.rt_play.specs.Plays.{Meets, PlaysInput};
 ghost use Rattle.rt_play.specs.Words.{asked_of};
 ghost use Rattle.rt_play.specs.declared.generating.Generated.{Generated};
@@ -22,7 +22,7 @@ use std::alloc::Global;
 /// The whole input is read before the first line runs. A line outside the grammar, or whose event is refused, is
 /// `Refused` by its number; the lines before it are reported. A fault of the source or the sink comes
 /// only where its count of faults rose. `Limit` names what goes beyond its limit.
-#[tactic(auto, using(crate::proofs::Headlines::plays_rightly, crate::proofs::Completes::completes, crate::proofs::Completes::long_alone, crate::proofs::GeneratedLimits::unlimited_alone))]
+#[tactic(auto, using(crate::proofs::Headlines::plays_rightly, crate::proofs::Headlines::tells_rightly, crate::proofs::Completes::completes, crate::proofs::Completes::long_alone, crate::proofs::GeneratedLimits::unlimited_alone))]
 pub fn play<S: Source, K: Sink>(
     alloc: Global,
     words: &[&str],
@@ -39,7 +39,8 @@ pub fn play<S: Source, K: Sink>(
     // What is read and written of a script, by the answer: the report is one of the input that was read.
     ensures plays { asked_of (map (λ word. word.now) words.now) ≡ Some Asked.Script → PlaysInput (S.meaning source.old) (S.meaning source.new) (K.meaning sink.old) (K.meaning sink.new) result }
 
-    // The report comes with the run of the cluster of which it tells, and every world on the way is right.
+    // The report comes with the run of its lines, up to the end of that at which it stops: every world on the way is right, and keeps what
+    // those before it had.
     ensures headline { asked_of (map (λ word. word.now) words.now) ≡ Some Asked.Script → PlaysRightly (S.meaning source.old) (S.meaning source.new) (K.meaning sink.old) (K.meaning sink.new) result }
 
     // Where the source tells what is left and no count rises, the answer is one of the script's own, or want of memory.
@@ -52,6 +53,9 @@ pub fn play<S: Source, K: Sink>(
 
     // What it writes, by its answer: the report is that of its rows, its settling and its query.
     ensures generated { (asked : Generated) → asked_of (map (λ word. word.now) words.now) ≡ Some (Asked.Generated asked) → TellsGenerated asked (K.meaning sink.old) (K.meaning sink.new) result }
+
+    // And it comes with its run, in which every world is right.
+    ensures rightly { (asked : Generated) → asked_of (map (λ word. word.now) words.now) ≡ Some (Asked.Generated asked) → TellsRightly asked (K.meaning sink.old) (K.meaning sink.new) result }
 {
     match read_words(words) {
         Some(Asked::Script) => play_source(alloc, source, sink),

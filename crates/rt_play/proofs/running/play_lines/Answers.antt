@@ -12,13 +12,13 @@ use Rattle.rt_play.proofs.running.play_lines.Goals as goal
 pub returns-in-Err : goal.returns-in-Err
 returns-in-Err g c =
     let before = c.loop-number.invariant in
-    tells_stop c.in-Err.fault c.args.lines.now.lines before.done (going c.args.world.now c.args.desk.now) c.loop-number.world c.loop-number.desk c.play_line.new.world c.play_line.new.desk before.written c.loop-number.lines.lines (c.in-Some.number, c.in-Some.line.now) c.next.new.self.lines (string_bytes c.play_line.new.text) _ _
+    tells_stop c.in-Err.fault c.args.lines.now.lines before.done (going c.args.world.now c.args.desk.now) before.turns c.loop-number.world c.loop-number.desk c.play_line.new.world c.play_line.new.desk before.written c.loop-number.lines.lines (c.in-Some.number, c.in-Some.line.now) c.next.new.self.lines (string_bytes c.play_line.new.text) _ _
     before.whole c.in-Some.ensures.line before.run before.puts c.in-Err.ensures.plays
 
 pub returns-in-Err-write_all : goal.returns-in-Err-write_all
 returns-in-Err-write_all g c =
     let before = c.loop-number.invariant in
-    tells_fault c.args.lines.now.lines before.done (going c.args.world.now c.args.desk.now) (going c.loop-number.world c.loop-number.desk) (going c.play_line.new.world c.play_line.new.desk) before.written c.loop-number.lines.lines (c.in-Some.number, c.in-Some.line.now) c.next.new.self.lines (string_bytes c.play_line.new.text) c.as_bytes.result.now _ _ _
+    tells_fault c.args.lines.now.lines before.done (going c.args.world.now c.args.desk.now) before.turns (going c.loop-number.world c.loop-number.desk) (going c.play_line.new.world c.play_line.new.desk) before.written c.loop-number.lines.lines (c.in-Some.number, c.in-Some.line.now) c.next.new.self.lines (string_bytes c.play_line.new.text) c.as_bytes.result.now _ _ _
     before.whole c.in-Some.ensures.line before.run before.puts c.in-Ok.ensures.plays.1 c.as_bytes.ensures.value c.in-Err-write_all.ensures
 
 pub loop-number-preserved : goal.loop-number-preserved
@@ -28,7 +28,8 @@ loop-number-preserved g c =
     let line : NumberedLine = (c.in-Some.number, c.in-Some.line.now) in
     let here = going c.loop-number.world c.loop-number.desk in
     let there = going c.play_line.new.world c.play_line.new.desk in
-    let keeps = line_keeps line here there text before.safe c.in-Ok.ensures.plays.1 in
+    let ran = c.in-Ok.ensures.plays.1 in
+    let keeps = line_keeps line here ran.turns there text before.safe ran.runs in
     record {
       unspent = c.in-Ok.ensures.plays.0;
       safe = keeps.0;
@@ -37,7 +38,8 @@ loop-number-preserved g c =
       done = before.done ++ line ∷ [];
       puts = put_text _ _ _ before.written text before.puts (subst (λ t. Puts (g.K.Sink.meaning c.loop-number.sink) (g.K.Sink.meaning c.write_all.new.sink) t) c.as_bytes.ensures.value c.in-Ok-write_all.ensures);
       whole = one_more c.args.lines.now.lines before.done c.loop-number.lines.lines line c.next.new.self.lines before.whole c.in-Some.ensures.line;
-      run = run_more before.done line (going c.args.world.now c.args.desk.now) here there before.written text before.run c.in-Ok.ensures.plays.1;
+      turns = before.turns ++ ran.turns;
+      run = run_more before.done line (going c.args.world.now c.args.desk.now) before.turns here ran.turns there before.written text before.run ran.runs;
       count = omega (arith, before.count, length-append before.written (text ∷ []));
       few = omega (arith, before.few, ap length c.in-Some.ensures.line);
     }
@@ -51,7 +53,8 @@ loop-number-init g c = record {
   done = [];
   puts = nothing_put (g.K.Sink.meaning c.args.sink.now);
   whole = refl;
-  run = (refl, refl);
+  turns = [];
+  run = (refl, refl, refl);
   count = refl;
   few = omega (arith, c.requires.few);
 }
@@ -59,4 +62,4 @@ loop-number-init g c = record {
 pub returns : goal.returns
 returns g c =
     let before = c.loop-number.invariant in
-    tells_end c.args.lines.now.lines before.done (going c.args.world.now c.args.desk.now) (going c.loop-number.world c.loop-number.desk) before.written c.loop-number.lines.lines _ _ _ before.whole c.in_default.ensures.none.0 before.run before.puts before.count
+    tells_end c.args.lines.now.lines before.done (going c.args.world.now c.args.desk.now) before.turns (going c.loop-number.world c.loop-number.desk) before.written c.loop-number.lines.lines _ _ _ before.whole c.in_default.ensures.none.0 before.run before.puts before.count

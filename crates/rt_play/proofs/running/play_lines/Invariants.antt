@@ -5,6 +5,7 @@ use Rattle.rt_lines.specs.Header.{NumberedLine}
 use Rattle.rt_play.specs.Plays.{going}
 use Rattle.rt_writing.specs.Writing.{Puts}
 use Rattle.rt_play.specs.Report.{RunAll}
+use Rattle.rt_safety.specs.Runs.{Turn}
 use Rattle.rt_play.proofs.running.play_lines.Given as goal
 use Rattle.rt_state.specs.IsSafeWorld.{IsSafeWorld}
 
@@ -17,7 +18,8 @@ invariant-loop-number g l = record {
   done : List NumberedLine;
   puts : Puts (g.K.Sink.meaning l.initial.sink) (g.K.Sink.meaning l.sink) (concat written);
   whole : l.initial.lines.lines ≡ done ++ l.lines.lines;
-  run : RunAll done (going l.initial.world l.initial.desk) (going l.world l.desk) written;
+  turns : List Turn;
+  run : RunAll done (going l.initial.world l.initial.desk) turns (going l.world l.desk) written;
   count : l.count ≡ length written;
   few : l.count + length l.lines.lines < 2 ^ 64;
 }

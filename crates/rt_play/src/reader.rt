@@ -1,0 +1,28 @@
+//! What the reader of a report may take from it, by the script and the report alone. It stands on a function that does nothing: its
+//! clauses are the law.
+ghost use Rattle.std.specs.Prelude.{◌≡◌, ℕ, List, Ok};
+ghost use Rattle.rt_lines.specs.Header.{NumberedLine, header_of};
+ghost use Rattle.rt_lines.specs.Lines.{script_lines};
+ghost use Rattle.rt_model.specs.declared.setup.Setup.{Setup};
+ghost use Rattle.rt_play.specs.Reader.{AnswersCount};
+ghost use Rattle.rt_play.specs.Report.{IsFrontOfReport, IsReport, Report};
+ghost use Rattle.rt_play.specs.Shown.{EndedStays};
+
+/// Each answer counts what was produced: the ranges that it names come in order, each once, within what the `produce` and `fill` lines above it
+/// gave, and its rows are those of its query over exactly the messages that these lines gave at these offsets. So it is of a `query` line, and
+/// of an `answer` line for the query of its number; in a whole report, and in its first lines, where the sink failed or memory ran out.
+pub fn each_answer_counts_what_was_produced()
+    ensures report { (input : List ℕ) (report : Report) (setup : Setup) (lines : List NumberedLine) → IsReport input report
+        → header_of (script_lines input) ≡ Ok (setup, lines) → AnswersCount setup lines report.texts }
+    ensures front { (input : List ℕ) (texts : List (List ℕ)) (setup : Setup) (lines : List NumberedLine) → IsFrontOfReport input texts
+        → header_of (script_lines input) ≡ Ok (setup, lines) → AnswersCount setup lines texts }
+{}
+
+/// A segment's node that a `show meta` line shows DONE or abandoned is the one that each later `show meta` line of that segment shows, until it
+/// is shown to be gone.
+pub fn what_is_shown_to_have_ended_stays()
+    ensures report { (input : List ℕ) (report : Report) (setup : Setup) (lines : List NumberedLine) → IsReport input report
+        → header_of (script_lines input) ≡ Ok (setup, lines) → EndedStays setup lines report.texts }
+    ensures front { (input : List ℕ) (texts : List (List ℕ)) (setup : Setup) (lines : List NumberedLine) → IsFrontOfReport input texts
+        → header_of (script_lines input) ≡ Ok (setup, lines) → EndedStays setup lines texts }
+{}
