@@ -1,5 +1,6 @@
 mod Appends
 mod Finishing
+mod First
 pub mod Fitting
 mod Holding
 mod Merges

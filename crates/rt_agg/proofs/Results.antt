@@ -214,6 +214,17 @@ module _ (query : Query) (rows : List Row) (g : Grouped) (h : Holds query rows g
       let c = Contains-permutation (map (result_at width) g.groups) (map shown sorted) z moved' (contains_has (map (result_at width) g.groups) z there) in
       has_contains (map shown sorted) c.0 z c.1 c.2)
 
+  -- so are the ordered results of the entries
+  pub results_ordered : ordered query.order (map (result_at width) g.groups) ≡ ordered query.order (results_of query rows)
+  results_ordered =
+      let given = map (result_at width) g.groups in
+      let wanted = results_of query rows in
+      ascending_same (result_cmp query.order) (result_total query.order) (ordered query.order given) (ordered query.order wanted)
+      (ordered_ascends query.order given (distinct_apart query.order given (subst (IsDistinct same_key) (sym (keys_of_results width g.groups)) h.apart)))
+      (ordered_ascends query.order wanted (ascending_apart query.order (result_of query rows) (λ k. refl) (row_keys query.groups rows) (row_keys_ascend query.groups rows)))
+      (λ z has. ordered_has query.order wanted z (to_results z (has_ordered query.order given z has)))
+      (λ z has. ordered_has query.order given z (from_results z (has_ordered query.order wanted z has)))
+
 shown_rows : (all : List Ranked) → map (λ r. r.row) all ≡ map (λ r. r.row) (map shown all)
 shown_rows [] = refl
 shown_rows (r ∷ all) = ap (λ t. r.row ∷ t) (shown_rows all)
@@ -226,6 +237,18 @@ pub finishes_from : (g : Grouped) (first sorted : List Ranked) (result : List Re
 finishes_from g first sorted result all moved up is query rows h =
     is ∙ shown_rows (take g.limit sorted) ∙ ap (map (λ r. r.row)) (sym (take-map shown g.limit sorted))
     ∙ (λ j. map (λ r. r.row) (take (h.limit j) (results_same query rows g h first sorted all moved up j)))
+
+-- so are the rows of the first of the ordered results
+pub finishes_first : (g : Grouped) (result : List ResultRow) → result ≡ map (λ r. r.row) (take g.limit (ordered g.order (map (result_at (length g.items)) g.groups))) → Finishes g result
+finishes_first g result is query rows h =
+    is ∙ (λ j. map (λ r. r.row) (take (h.limit j) (ordered (h.order j) (map (result_at (length g.items)) g.groups))))
+    ∙ ap (λ rs. map (λ r. r.row) (take query.limit rs)) (results_ordered query rows g h)
+
+-- the results of entries whose keys are apart
+pub entries_apart : (order : List OrderKey) (width : ℕ) (es : List (List Value × List Accumulator)) → IsDistinct same_key (keys_of es) → Ascends (result_cmp order) (ordered order (map (result_at width) es))
+entries_apart order width es apart =
+    let given = map (result_at width) es in
+    ordered_ascends order given (distinct_apart order given (subst (IsDistinct same_key) (sym (keys_of_results width es)) apart))
 
 -- ---- the results of the entries up to a place and one more
 

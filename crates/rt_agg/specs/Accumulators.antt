@@ -42,6 +42,14 @@ cell_in (Sum place t) = cell.Whole t.sum
 cell_in (Min place s) = scalar_cell s
 cell_in (Max place s) = scalar_cell s
 
+-- the same, but for a value of the key
+abbrev pub bare_cell_in : Accumulator → Cell
+bare_cell_in (Column v) = cell.Null
+bare_cell_in (Count n) = cell.Whole (pos n)
+bare_cell_in (Sum place t) = cell.Whole t.sum
+bare_cell_in (Min place s) = scalar_cell s
+bare_cell_in (Max place s) = scalar_cell s
+
 -- the lesser and the greater of two scalars, where there are two
 abbrev pub least_with : Option Scalar → Option Scalar → Option Scalar
 least_with None t = t

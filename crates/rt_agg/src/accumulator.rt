@@ -196,7 +196,8 @@ fn greater(one: Option<Scalar>, other: Option<Scalar>) -> Option<Scalar>
     }
 }
 
-fn cell_of_scalar(scalar: Option<Scalar>) -> Cell
+/// The cell of a scalar, where there is one.
+pub(crate) fn cell_of_scalar(scalar: Option<Scalar>) -> Cell
     ensures { result ≡ scalar_cell scalar }
 {
     match scalar {
@@ -215,7 +216,7 @@ pub(crate) fn start_all(
 ) -> Result<Items<Accumulator>, AllocError>
     ensures { IfOk result (λ all. all ≡ all_known_of columns.now items.now order.now key.now []) }
 {
-    let mut all = Items::new(alloc);
+    let mut all = Items::of(Vec::with_capacity(alloc, items.len().saturating_add(order.len()))?);
     start_items(alloc, columns, items, key, &mut all)?;
     start_order(alloc, columns, order, key, &mut all)?;
     Ok(all)

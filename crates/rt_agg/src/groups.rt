@@ -4,6 +4,7 @@ ghost use Rattle.rt_agg.specs.Accumulators.{all_known_of};
 ghost use Rattle.rt_agg.specs.Grouped.{Adds, AddsUnder, Finishes, Merges, Holds, KeysStay, first_entries, keys_in_order};
 
 use crate::accumulator::{add_known, start_all};
+use crate::foremost::{first_places, rows_at};
 use crate::keys::key_of_row;
 use crate::merging::{merge_each, start_missing};
 use crate::ranked::{rank_all, rows_of, sort};
@@ -15,6 +16,9 @@ use rt_model::{ColumnAt, Item, OrderKey, Query, ResultRow};
 use rt_schema::{Row, Value};
 use std::alloc::{AllocError, Global};
 use std::marker::Model;
+
+// Up to this limit each group is put among the first ones; above it all are sorted.
+const MOST_PLACED: u32 = 1_024;
 
 /// The groups of a query, in the order in which their first rows came.
 #[derive(Drop)]
@@ -131,6 +135,28 @@ impl Groups {
 
     /// The result rows: one for each group, by ORDER BY and then by the groups' keys, as many as the limit lets stand.
     pub fn finish(&self, alloc: Global) -> Result<Items<ResultRow>, AllocError>
+        ensures { IfOk result (λ rows. Finishes self.now rows) }
+    {
+        if self.limit <= MOST_PLACED {
+            self.finish_few(alloc)
+        } else {
+            self.finish_all(alloc)
+        }
+    }
+
+    // The result rows, where few are asked for: the first groups are found one by one.
+    fn finish_few(&self, alloc: Global) -> Result<Items<ResultRow>, AllocError>
+        ensures { IfOk result (λ rows. Finishes self.now rows) }
+    {
+        let order = self.order.as_slice();
+        let width = self.items.len();
+        let places = first_places(alloc, order, width, &self.table, self.limit as usize)?;
+        let rows = rows_at(alloc, width, &self.table, &places)?;
+        Ok(rows)
+    }
+
+    // The result rows, where many are asked for: all results are sorted.
+    fn finish_all(&self, alloc: Global) -> Result<Items<ResultRow>, AllocError>
         ensures { IfOk result (λ rows. Finishes self.now rows) }
     {
         let mut all = rank_all(alloc, self.items.len(), &self.table)?;

@@ -6,6 +6,8 @@
 
 mod accumulator;
 mod compare;
+mod compare_known;
+mod foremost;
 mod groups;
 mod keys;
 mod laws;

@@ -15,14 +15,15 @@ use rt_schema::Value;
 use std::alloc::{AllocError, Global};
 use std::cmp::Ordering;
 
-fn cells_of(alloc: Global, known: &[Accumulator]) -> Result<Items<Cell>, AllocError>
+/// The cells of what is known.
+pub(crate) fn cells_of(alloc: Global, known: &[Accumulator]) -> Result<Items<Cell>, AllocError>
     ensures { IfOk result (λ cells. cells ≡ map cell_in known.now) }
 {
-    let mut cells = Items::new(alloc);
+    let mut cells = Vec::with_capacity(alloc, known.len())?;
     for accumulator in known {
         cells.push(accumulator.cell(alloc)?)?;
     }
-    Ok(cells)
+    Ok(Items::of(cells))
 }
 
 fn rank_parts(

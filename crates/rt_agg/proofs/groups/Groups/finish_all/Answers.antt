@@ -5,7 +5,7 @@ use Rattle.rt_model.specs.Aggregate.{result_cmp}
 use Rattle.rt_agg.specs.Grouped.{Grouped, Finishes}
 use Rattle.rt_agg.specs.Ranking.{shown, result_at}
 use Rattle.rt_agg.proofs.Results.{finishes_from}
-use Rattle.rt_agg.proofs.groups.Groups.finish.Goals as goal
+use Rattle.rt_agg.proofs.groups.Groups.finish_all.Goals as goal
 
 pub returns : goal.returns
 returns c =
