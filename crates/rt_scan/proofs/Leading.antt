@@ -1,15 +1,17 @@
 -- Groups that are found by ids.
 use Rattle.std.proofs.Common.{Contains, ◌≡◌, ℕ, ◌+◌, ◌<◌, ◌≤◌, false, List, [], ◌∷◌, ◌++◌, length, map, take, get_or, slice_get, Option, None, Some, refl, ap, sym, subst, ◌∙◌, inl, inr, arith}
-use Rattle.std.specs.Prelude.{IfSome}
 use Rattle.std.proofs.lemmas.List.{length-map, length-take-le, get_or_past, take_more, map-append, length_push}
-use Rattle.std.proofs.lemmas.Option.{slice_get_past}
+use Rattle.std.proofs.lemmas.Option.{slice_get_past, slice_get_within}
 use Rattle.rt_schema.specs.declared.value.Value.{Value}
 use Rattle.rt_schema.specs.declared.value.Value.TheVariants.{Bool as Truth}
 use Rattle.rt_model.specs.declared.query_parts.ColumnAt.{ColumnAt}
 use Rattle.rt_model.specs.Aggregate.{key_of}
 use Rattle.rt_model.specs.Match.{value_in}
 use Rattle.rt_agg.specs.Grouped.{Grouped, KeysStay, keys_in_order}
-use Rattle.rt_scan.specs.Grouping.{value_by, value_with, key_by, Leads, LeadsTo}
+use Rattle.rt_scan.specs.GroupIds.{Met}
+use Rattle.rt_scan.specs.Grouping.{value_by, value_with, key_by, Leads}
+use Rattle.rt_scan.specs.IndexById.{IsAt, NotesAtMost}
+use Rattle.rt_scan.proofs.Noted.{met_of}
 use Rattle.std.proofs.lemmas.List.Elements.{Contains-push_cases}
 use Rattle.rt_seek.specs.Table.{cell_at, row_at}
 
@@ -42,19 +44,36 @@ module _ {C : Type 0} (values : C → List Value) (value_of : C → ℕ → Valu
         ∙ ap (λ bs. key_of bs (row_at values columns row)) (sym front)
 
   -- what was met leads on after a new group
-  pub leads_more : (by : List ColumnAt) (old new : Grouped) (met after : List (List ℕ × ℕ)) (ids : List ℕ) (index : ℕ) (key : List Value) →
-      Leads value_of columns by old met → KeysStay old new → slice_get (keys_in_order new) index ≡ Some key → key_by value_of columns by ids ≡ key → after ≡ met ++ (ids, index) ∷ [] → Leads value_of columns by new after
-  leads_more by old new met after ids index key led stay found is last entry at = elim (Contains-push_cases met (ids, index) entry (subst (λ (es : List (List ℕ × ℕ)). Contains es entry) last at)) [
-    | inl before ↦ stay entry.1 (key_by value_of columns by entry.0) (led entry before)
-    | inr this ↦ ap (λ e. slice_get (keys_in_order new) e.1) (sym this) ∙ found ∙ ap Some (sym is) ∙ ap (λ e. Some (key_by value_of columns by e.0)) this
-  ]
+  pub leads_more : (by : List ColumnAt) (old new : Grouped) (met after : Met) (ids : List ℕ) (index : ℕ) (key : List Value) →
+      Leads value_of columns by old met → KeysStay old new → slice_get (keys_in_order new) index ≡ Some key → key_by value_of columns by ids ≡ key → after ≡ met_of (met.by_ids ++ (ids, index) ∷ []) met.by_id → Leads value_of columns by new after
+  leads_more by old new met after ids index key led stay found is last = record {
+    by_ids = λ entry at. elim (Contains-push_cases met.by_ids (ids, index) entry (subst (λ (m : Met). Contains m.by_ids entry) last at)) [
+      | inl before ↦ stay entry.1 (key_by value_of columns by entry.0) (led.by_ids entry before)
+      | inr this ↦ ap (λ e. slice_get (keys_in_order new) e.1) (sym this) ∙ found ∙ ap Some (sym is) ∙ ap (λ e. Some (key_by value_of columns by e.0)) this
+    ];
+    by_id = λ id at h. stay at (key_by value_of columns by (id ∷ [])) (led.by_id id at (subst (λ (m : Met). IsAt m.by_id id at) last h));
+  }
 
-  pub leads_still : (by : List ColumnAt) (old new : Grouped) (met : List (List ℕ × ℕ)) → Leads value_of columns by old met → keys_in_order new ≡ keys_in_order old → Leads value_of columns by new met
-  leads_still by old new met led same entry at = ap (λ ks. slice_get ks entry.1) same ∙ led entry at
+  -- and after one of which one id is noted
+  pub leads_one : (by : List ColumnAt) (old new : Grouped) (met after : Met) (id index : ℕ) (key : List Value) →
+      Leads value_of columns by old met → KeysStay old new → slice_get (keys_in_order new) index ≡ Some key → key_by value_of columns by (id ∷ []) ≡ key → NotesAtMost met.by_id id index after.by_id → after.by_ids ≡ met.by_ids → Leads value_of columns by new after
+  leads_one by old new met after id index key led stay found is notes same = record {
+    by_ids = λ entry at. stay entry.1 (key_by value_of columns by entry.0) (led.by_ids entry (subst (λ (es : List (List ℕ × ℕ)). Contains es entry) same at));
+    by_id = λ i at h. elim (notes i at h) [
+      | inl before ↦ stay at (key_by value_of columns by (i ∷ [])) (led.by_id i at before)
+      | inr this ↦ ap (slice_get (keys_in_order new)) this.1 ∙ found ∙ ap Some (sym is) ∙ ap (λ k. Some (key_by value_of columns by (k ∷ []))) (sym this.0)
+    ];
+  }
 
-  -- what one id leads to
-  pub one_leads : (by : List ColumnAt) (c : ColumnAt) (row id : ℕ) (met : List (List ℕ × ℕ)) (found : Option ℕ) → by ≡ c ∷ [] → value_by value_of columns c id ≡ value_in (row_at values columns row) c →
-      IfSome found (λ index. Contains met (id ∷ [], index)) → IfSome found (LeadsTo value_of columns by met (key_of by (row_at values columns row)))
-  one_leads by c row id met None is value at = tt
-  one_leads by c row id met (Some index) is value at =
-      (id ∷ [], at, ap (λ bs. key_by value_of columns bs (id ∷ [])) is ∙ ap (λ v. v ∷ []) value ∙ ap (λ bs. key_of bs (row_at values columns row)) (sym is))
+  pub leads_still : (by : List ColumnAt) (old new : Grouped) (met : Met) → Leads value_of columns by old met → keys_in_order new ≡ keys_in_order old → Leads value_of columns by new met
+  leads_still by old new met led same = record {
+    by_ids = λ entry at. ap (λ ks. slice_get ks entry.1) same ∙ led.by_ids entry at;
+    by_id = λ id at h. ap (λ ks. slice_get ks at) same ∙ led.by_id id at h;
+  }
+
+  -- nothing was met yet
+  pub leads_none : (by : List ColumnAt) (groups : Grouped) (met : Met) → met ≡ met_of [] [] → Leads value_of columns by groups met
+  leads_none by groups met none = record {
+    by_ids = λ entry at. absurd (omega (arith, (subst (λ (m : Met). Contains m.by_ids entry) none at).1));
+    by_id = λ id at h. absurd (omega (arith, slice_get_within {A = Option ℕ} [] id (Some at) (subst (λ (m : Met). IsAt m.by_id id at) none h)));
+  }

@@ -1,6 +1,5 @@
 pub mod Filters
 pub mod Noted
-pub mod ById
 pub mod Leading
 pub mod Walked
 pub mod SealedRows

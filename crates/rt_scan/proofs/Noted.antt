@@ -1,13 +1,16 @@
 -- Ids and the indices noted for them.
-use Rattle.std.proofs.Common.{◌≡◌, ℕ, zero, suc, ◌<◌, Bool, true, false, cond, List, [], ◌∷◌, ◌++◌, length, get_or, slice_get, None, Some, refl, ap, sym, subst, ◌∙◌, inl, inr, arith}
-use Rattle.std.specs.Prelude.{◌⊎◌, nat_eq, is_some, unwrap_or}
+use Rattle.std.proofs.Common.{◌≡◌, ℕ, zero, suc, ◌<◌, Bool, true, false, cond, List, [], ◌∷◌, ◌++◌, length, get_or, slice_get, Option, None, Some, refl, ap, sym, subst, ◌∙◌, inl, inr, arith}
+use Rattle.std.specs.Prelude.{◌⊎◌, nat_eq, is_some, unwrap_or, Result, Ok, Err, OnOk}
 use Rattle.std.specs.List.{Contains}
 use Rattle.std.specs.Map.{lookup_key}
 use lib.Pointwise.{pointwise}
 use Rattle.std.proofs.lemmas.Bool.{true≢false, false≢true, and_parts, and_from, eqb-true, eq-eqb}
 use Rattle.std.proofs.lemmas.Option.{slice_get_within, get_or_from_slice_get, none-some}
 use Rattle.indexmap.specs.IndexMap.{insert_entry}
-use Rattle.rt_scan.specs.GroupIds.{IsAbsent}
+use Rattle.rt_scan.specs.GroupIds.{IsAbsent, Met}
+
+abbrev pub met_of : List (List ℕ × ℕ) → List (Option ℕ) → Met
+met_of by_ids by_id = record { by_ids = by_ids; by_id = by_id }
 
 exact_ids : (xs ys : List ℕ) → pointwise nat_eq xs ys ≡ true → xs ≡ ys
 exact_ids [] [] e = refl
@@ -64,3 +67,8 @@ last_at k v e es false t none rest = ap (λ xs. e ∷ xs) rest
 pub inserted : (k : List ℕ) (v : ℕ) (es : List (List ℕ × ℕ)) → IsAbsent es k → insert_entry (pointwise nat_eq) es k v ≡ es ++ (k, v) ∷ []
 inserted k v [] none = refl
 inserted k v (e ∷ es) none = last_at k v e es (pointwise nat_eq k e.0) refl none (inserted k v es (λ index at. none index (later e es (k, index) at)))
+
+-- what holds in any case holds at an Ok
+pub on_ok_always : {T E P : Type 0} (result : Result T E) → P → OnOk result P
+on_ok_always (Ok x) p = p
+on_ok_always (Err e) p = tt

@@ -5,6 +5,8 @@ use Rattle.rt_schema.specs.declared.value.Value.{Value}
 use Rattle.rt_schema.specs.declared.value.Value.TheVariants.{Bool as Truth}
 use Rattle.rt_model.specs.declared.query_parts.ColumnAt.{ColumnAt}
 use Rattle.rt_agg.specs.Grouped.{Grouped, keys_in_order}
+use Rattle.rt_scan.specs.GroupIds.{Met}
+use Rattle.rt_scan.specs.IndexById.{IsAt}
 
 module _ {C : Type 0} (value_of : C → ℕ → Value) where
   abbrev pub value_with : Option C → ℕ → Value
@@ -21,11 +23,11 @@ module _ {C : Type 0} (value_of : C → ℕ → Value) where
   key_by columns (c ∷ cs) [] = []
   key_by columns (c ∷ cs) (id ∷ ids) = value_by columns c id ∷ key_by columns cs ids
 
-  -- each index is that of the group whose key its ids stand for
-  abbrev pub Leads : List C → List ColumnAt → Grouped → List (List ℕ × ℕ) → Type 0
-  Leads columns by groups met =
-      (entry : List ℕ × ℕ) → Contains met entry → slice_get (keys_in_order groups) entry.1 ≡ Some (key_by columns by entry.0)
+  -- the index is that of the group whose key the ids stand for
+  abbrev pub LeadsTo : List C → List ColumnAt → Grouped → List ℕ → ℕ → Type 0
+  LeadsTo columns by groups ids index = slice_get (keys_in_order groups) index ≡ Some (key_by columns by ids)
 
-  -- the index is noted for ids that stand for the key
-  abbrev pub LeadsTo : List C → List ColumnAt → List (List ℕ × ℕ) → List Value → ℕ → Type 0
-  LeadsTo columns by met key index = (ids : List ℕ) × Contains met (ids, index) × (key_by columns by ids ≡ key)
+  -- each index is that of the group whose key its ids stand for
+  pub record Leads (columns : List C) (by : List ColumnAt) (groups : Grouped) (met : Met) : Type 0 where
+    pub by_ids : (entry : List ℕ × ℕ) → Contains met.by_ids entry → LeadsTo columns by groups entry.0 entry.1
+    pub by_id : (id index : ℕ) → IsAt met.by_id id index → LeadsTo columns by groups (id ∷ []) index

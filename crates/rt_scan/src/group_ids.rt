@@ -2,6 +2,7 @@
 ghost use Rattle.std.specs.Prelude.{◌≡◌, ◌++◌, ◌∷◌, [], IfSome, IfNone, OnOk};
 ghost use Rattle.std.specs.List.{Contains};
 ghost use Rattle.rt_scan.specs.GroupIds.{IsAbsent};
+ghost use Rattle.rt_scan.specs.IndexById.{IsAt, NotesAtMost};
 
 use crate::index_by_id::IndexById;
 use indexmap::IndexMap;
@@ -9,8 +10,8 @@ use rt_lists::Items;
 use std::alloc::{AllocError, Global};
 use std::marker::Model;
 
-/// For the ids of a row's group columns the index of its group. Where there is one such column, small ids are found without a
-/// hash.
+/// For the ids of a row's group columns the index of its group. Where there is one such column, its id alone is kept, and is
+/// found without a hash.
 #[derive(Drop)]
 pub(crate) struct GroupIds {
     indices: IndexMap<Items<u32>, usize>,
@@ -18,21 +19,17 @@ pub(crate) struct GroupIds {
 }
 
 impl Model for GroupIds {
-    ghost use Rattle.std.specs.Prelude.{ℕ, List};
+    ghost use Rattle.rt_scan.specs.GroupIds.{Met};
 
-    ghost Value = { List (List ℕ × ℕ) };
+    ghost Value = { Met };
 
-    ghost use Rattle.rt_scan.specs.GroupIds.{AreMet};
-
-    ghost view = { λ g. g.indices.entries };
-
-    ghost invariant = { λ g. AreMet g.indices.entries g.by_id };
+    ghost view = { λ g. record { by_ids = g.indices.entries; by_id = g.by_id } };
 }
 
 impl GroupIds {
     /// No ids were met yet.
     pub(crate) fn new(alloc: Global) -> GroupIds
-        ensures { result ≡ [] }
+        ensures { result ≡ record { by_ids = []; by_id = [] } }
     {
         GroupIds {
             indices: IndexMap::new(alloc),
@@ -40,17 +37,17 @@ impl GroupIds {
         }
     }
 
-    /// The index that was noted for one id alone, if the id is small: [`GroupIds::find`] finds the others.
+    /// The index that was noted for one id alone.
     pub(crate) fn find_one(&self, id: u32) -> Option<usize>
-        ensures { IfSome result (λ index. Contains self.now (id ∷ [], index)) }
+        ensures { IfSome result (λ index. IsAt self.now.by_id id index) }
     {
         self.by_id.find(id)
     }
 
     /// The index that was noted for ids.
     pub(crate) fn find(&self, ids: &Items<u32>) -> Option<usize>
-        ensures some { IfSome result (λ index. Contains self.now (ids.now, index)) }
-        ensures none { IfNone result (IsAbsent self.now ids.now) }
+        ensures some { IfSome result (λ index. Contains self.now.by_ids (ids.now, index)) }
+        ensures none { IfNone result (IsAbsent self.now.by_ids ids.now) }
     {
         match self.indices.get_full(ids) {
             Some((_at, _ids, index)) => Some(*index),
@@ -60,24 +57,18 @@ impl GroupIds {
 
     /// Notes the index of ids for which none is noted.
     pub(crate) fn note(&mut self, ids: Items<u32>, index: usize) -> Result<(), AllocError>
-        requires { IsAbsent self.old ids }
-        ensures { OnOk result (self.new ≡ self.old ++ (ids, index) ∷ []) }
+        requires { IsAbsent self.old.by_ids ids }
+        ensures { OnOk result (self.new ≡ record self.old { by_ids = self.old.by_ids ++ (ids, index) ∷ [] }) }
     {
-        let id = only_id(&ids);
         self.indices.insert(ids, index)?;
-        match id {
-            Some(id) => self.by_id.note(id, index),
-            None => Ok(()),
-        }
+        Ok(())
     }
-}
 
-// The id of a list of one.
-fn only_id(ids: &Items<u32>) -> Option<u32>
-    ensures { IfSome result (λ id. ids.now ≡ id ∷ []) }
-{
-    match ids.as_slice() {
-        [id] => Some(*id),
-        _ => None,
+    /// Notes the index of one id alone, unless the id is great.
+    pub(crate) fn note_one(&mut self, id: u32, index: usize) -> Result<(), AllocError>
+        ensures noted { NotesAtMost self.old.by_id id index self.new.by_id }
+        ensures same { self.new.by_ids ≡ self.old.by_ids }
+    {
+        self.by_id.note(id, index)
     }
 }

@@ -4,7 +4,7 @@ ghost use Rattle.rt_model.specs.Aggregate.{key_of, taken};
 ghost use Rattle.rt_model.specs.Match.{passes, value_in};
 ghost use Rattle.rt_agg.specs.Grouped.{AddsUnder, Fits, Holds};
 ghost use Rattle.rt_seek.specs.Table.{row_at, rows_by};
-ghost use Rattle.rt_scan.specs.Grouping.{key_by, value_by, Leads, LeadsTo};
+ghost use Rattle.rt_scan.specs.Grouping.{key_by, value_by, Leads};
 
 use crate::group_ids::GroupIds;
 use crate::row_reader::RowReader;
@@ -15,6 +15,7 @@ use rt_postings::DocSet;
 use rt_schema::Value;
 use rt_seek::ScanColumn;
 use std::alloc::{AllocError, Global};
+use std::slice;
 
 /// The groups of the rows of a set. Fails only where memory is refused.
 pub(crate) fn groups_of<C: ScanColumn>(
@@ -56,29 +57,38 @@ fn add_row<C: ScanColumn>(
     ensures adds { OnOk result (AddsUnder (key_of by.now (row_at C.values columns.now row)) (row_at C.values columns.now row) groups.old groups.new) }
     ensures met { OnOk result (Leads C.value_of columns.now by.now groups.new met.new) }
 {
-    match index_by_one(by, columns, row, met) {
-        Some(index) => {
-            let reader = RowReader { columns, row };
-            groups.add_at(index, &reader);
-            Ok(())
-        }
+    match only_column(by) {
+        Some(column) => add_by_id(alloc, column, columns, row, met, groups),
         None => add_by_ids(alloc, by, columns, row, ids, met, groups),
     }
 }
 
-// The index of a row's group, where one column groups the rows and its id is at hand.
-fn index_by_one<C: ScanColumn>(
-    by: &[ColumnAt],
+// Adds a row to its group, where one column groups the rows.
+fn add_by_id<C: ScanColumn>(
+    alloc: Global,
+    by: &ColumnAt,
     columns: &[C],
     row: u32,
-    met: &GroupIds,
-) -> Option<usize>
-    requires { All (λ column. row < length (C.values column)) columns.now }
-    ensures { IfSome result (LeadsTo C.value_of columns.now by.now met.now (key_of by.now (row_at C.values columns.now row))) }
+    met: &mut GroupIds,
+    groups: &mut Groups,
+) -> Result<(), AllocError>
+    requires row { All (λ column. row < length (C.values column)) columns.now }
+    requires met { Leads C.value_of columns.now (by.now ∷ []) groups.old met.old }
+    ensures adds { OnOk result (AddsUnder (key_of (by.now ∷ []) (row_at C.values columns.now row)) (row_at C.values columns.now row) groups.old groups.new) }
+    ensures met { OnOk result (Leads C.value_of columns.now (by.now ∷ []) groups.new met.new) }
 {
-    match only_column(by) {
-        Some(column) => met.find_one(id_in(columns, row, column)),
-        None => None,
+    let id = id_in(columns, row, by);
+    let reader = RowReader { columns, row };
+    match met.find_one(id) {
+        Some(index) => {
+            groups.add_at(index, &reader);
+            Ok(())
+        }
+        None => {
+            let key = read_key(alloc, slice::from_ref(by), columns, row)?;
+            let index = groups.add(alloc, key, &reader)?;
+            met.note_one(id, index)
+        }
     }
 }
 
@@ -168,11 +178,11 @@ fn read_key<C: ScanColumn>(
     requires { All (λ column. row < length (C.values column)) columns.now }
     ensures { IfOk result (λ key. key ≡ key_of by.now (row_at C.values columns.now row)) }
 {
-    let mut key = Items::new(alloc);
+    let mut key = Vec::with_capacity(alloc, by.len())?;
     for column in by {
         key.push(value_in(alloc, columns, row, column)?)?;
     }
-    Ok(key)
+    Ok(Items::of(key))
 }
 
 fn value_in<C: ScanColumn>(

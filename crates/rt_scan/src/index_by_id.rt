@@ -5,8 +5,8 @@ ghost use Rattle.rt_scan.specs.IndexById.{IsAt, HasNoMore, NotesAtMost};
 use std::alloc::{AllocError, Global};
 use std::marker::Model;
 
-// Ids from here on are not noted, so that the list takes a mebibyte at most.
-const MOST_IDS: u32 = 65_536;
+// Ids from here on are not noted, so that the list takes 16 mebibytes at most. A segment has fewer rows than that.
+const MOST_IDS: u32 = 1_048_576;
 
 /// The indices of small ids, each at its id.
 #[derive(Drop)]

@@ -10,7 +10,7 @@ use Rattle.rt_scan.proofs.grouping.add_by_ids.Goals as goal
 pub returns-in-Some-clause-adds : goal.returns-in-Some-clause-adds
 returns-in-Some-clause-adds g c =
     c.add_at.ensures.adds (key_of c.args.by.now (row_at g.C.ScanColumn.values c.args.columns.now c.args.row))
-    (c.requires.met (c.read_ids.new.ids, c.in-Some.index) c.in-Some.ensures.some ∙ ap Some c.in_ok-read_ids.ensures)
+    (c.requires.met.by_ids (c.read_ids.new.ids, c.in-Some.index) c.in-Some.ensures.some ∙ ap Some c.in_ok-read_ids.ensures)
 
 pub returns-in_ok-copy_of-in-None-clause-met : goal.returns-in_ok-copy_of-in-None-clause-met
 returns-in_ok-copy_of-in-None-clause-met g c =
@@ -21,4 +21,4 @@ returns-in_ok-copy_of-in-None-clause-met g c =
     most) c.note.ensures
 
 pub note-requires : goal.note-requires
-note-requires g c = subst (IsAbsent c.args.met.now) (sym (c.in_ok-copy_of-in-None.ensures {u = tt})) c.in-None.ensures.none
+note-requires g c = subst (IsAbsent c.args.met.now.by_ids) (sym (c.in_ok-copy_of-in-None.ensures {u = tt})) c.in-None.ensures.none

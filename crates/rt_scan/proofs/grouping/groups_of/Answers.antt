@@ -8,8 +8,16 @@ use Rattle.rt_agg.specs.Grouped.{Holds}
 use Rattle.rt_seek.specs.Table.{row_at, rows_by}
 use Rattle.rt_scan.specs.Grouping.{Leads}
 use Rattle.rt_scan.proofs.Filters.{length_rows}
+use Rattle.rt_scan.proofs.Leading.{leads_none}
 use Rattle.rt_scan.proofs.Walked.{next_taken, next_within, all_taken, few_taken}
 use Rattle.rt_scan.proofs.grouping.groups_of.Goals as goal
+
+pub loop-row-init : goal.loop-row-init
+loop-row-init g c = record {
+  holds = c.in_ok-groups.ensures {u = tt};
+  met = leads_none g.C.ScanColumn.values g.C.ScanColumn.value_of c.args.columns.now c.args.query.now.groups c.in_ok-groups.groups c.new-met.result c.new-met.ensures;
+  within = omega arith;
+}
 
 pub loop-row-preserved : goal.loop-row-preserved
 loop-row-preserved g c =

@@ -4,4 +4,4 @@ use Rattle.rt_seek.specs.Table.{row_at}
 use Rattle.rt_scan.proofs.grouping.read_key.Given as goal
 
 abbrev pub invariant-loop-column : goal.invariant-loop-column
-invariant-loop-column g l = l.key ≡ key_of (take l.column-index l.by) (row_at g.C.ScanColumn.values l.columns l.row)
+invariant-loop-column g l = l.key.items ≡ key_of (take l.column-index l.by) (row_at g.C.ScanColumn.values l.columns l.row)
