@@ -5,6 +5,7 @@ pub mod Fitting
 mod Holding
 mod Merges
 mod Orders
+mod Places
 mod Results
 mod Sorting
 mod Tables

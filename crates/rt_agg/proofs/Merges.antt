@@ -137,16 +137,6 @@ merged_found es q key known others now there step = by (same_key q key) refl
         step ∙ (λ j. cond ((keys_equiv.symm key q ∙ e) j) (Some (all_merged known others)) (lookup (same_key q) es))
         ∙ sym ((λ j. merged_at (lookup (same_key q) es) (if e j then Some others else None)) ∙ merged_none (lookup (same_key q) es))
 
-pub merged_missing : (es : Entries) (q key : List Value) (others : List Accumulator) → lookup (same_key key) es ≡ None
-    → lookup (same_key q) es ≡ merged_at (lookup (same_key q) es) (if same_key q key then Some others else None)
-merged_missing es q key others none = by (same_key q key) refl
-  where
-    by : (b : Bool) → same_key q key ≡ b → lookup (same_key q) es ≡ merged_at (lookup (same_key q) es) (if same_key q key then Some others else None)
-    by true e =
-        let absent : lookup (same_key q) es ≡ None = ap (λ k. lookup (same_key k) es) (same_is q key e) ∙ none in
-        absent ∙ sym (λ j. merged_at (absent j) (if same_key q key then Some others else None))
-    by false e = sym ((λ j. merged_at (lookup (same_key q) es) (if e j then Some others else None)) ∙ merged_none (lookup (same_key q) es))
-
 pub started_found : (s : List Accumulator) (es : Entries) (q key : List Value) (known : List Accumulator) → lookup (same_key key) es ≡ Some known
     → lookup (same_key q) es ≡ started_at s (lookup (same_key q) es) (same_key q key)
 started_found s es q key known there = by (same_key q key) refl

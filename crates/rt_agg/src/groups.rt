@@ -122,8 +122,8 @@ impl Groups {
             &mut self.table,
             &other.table,
         ) {
-            Ok(()) => {
-                merge_each(&mut self.table, &other.table);
+            Ok(places) => {
+                merge_each(&mut self.table, &other.table, &places);
                 Ok(())
             }
             Err(error) => {

@@ -1,12 +1,11 @@
-ghost use Rattle.std.specs.Prelude.{◌≡◌, ◌≤◌, [], List, length, take, is_some, Some, None, if◌then◌else◌, OnOk};
+ghost use Rattle.std.specs.Prelude.{◌≡◌, ◌≤◌, [], List, length, take, slice_get, is_some, IfOk, OnOk};
 ghost use Rattle.std.specs.List.{IsDistinct};
 ghost use Rattle.std.specs.Map.{lookup, keys_of};
 ghost use Rattle.rt_schema.specs.declared.value.Value.{Value as AnyValue};
 ghost use Rattle.rt_agg.specs.Accumulators.{all_known_of};
 ghost use Rattle.rt_agg.specs.Grouped.{same_key};
-ghost use Rattle.rt_agg.specs.Merging.{merged_at, started_at};
+ghost use Rattle.rt_agg.specs.Merging.{AreAt, merged_at, started_at};
 
-use crate::Accumulator;
 use crate::accumulator::start_all;
 use crate::table::{Table, index_of, insert_last, merge_at};
 use rt_lists::{Copied, Items};
@@ -14,7 +13,7 @@ use rt_model::{ColumnAt, Item, OrderKey};
 use rt_schema::Value;
 use std::alloc::{AllocError, Global};
 
-/// Starts the group of a key, where it isn't there. What was there stays in its place.
+/// Starts the group of a key, where it isn't there, and gives the place of the group. What was there stays in its place.
 fn start_one(
     alloc: Global,
     columns: &Items<ColumnAt>,
@@ -22,13 +21,14 @@ fn start_one(
     order: &Items<OrderKey>,
     table: &mut Table,
     key: &Items<Value>,
-) -> Result<(), AllocError>
+) -> Result<usize, AllocError>
     ensures known { OnOk result ((q : List AnyValue) → lookup (same_key q) table.new.entries ≡ started_at (all_known_of columns.now items.now order.now q []) (lookup (same_key q) table.old.entries) (same_key q key.now)) }
+    ensures at { IfOk result (λ place. slice_get (keys_of table.new.entries) place ≡ Some key.now) }
     ensures kept { take (length table.old.entries) table.new.entries ≡ table.old.entries }
     ensures grown { length table.old.entries ≤ length table.new.entries }
 {
     match index_of(table, key) {
-        Some(_) => Ok(()),
+        Some(place) => Ok(place),
         None => {
             let known = start_all(
                 alloc,
@@ -38,13 +38,13 @@ fn start_one(
                 key.as_slice(),
             )?;
             let key = key.copied(alloc)?;
-            insert_last(table, key, known)?;
-            Ok(())
+            let place = insert_last(table, key, known)?;
+            Ok(place)
         }
     }
 }
 
-/// Starts each group that others have. What was there stays in its place, also where memory runs out.
+/// Starts each group that others have, and gives the place of each. What was there stays in its place, also where memory runs out.
 pub(crate) fn start_missing(
     alloc: Global,
     columns: &Items<ColumnAt>,
@@ -52,39 +52,34 @@ pub(crate) fn start_missing(
     order: &Items<OrderKey>,
     table: &mut Table,
     others: &Table,
-) -> Result<(), AllocError>
+) -> Result<Vec<usize>, AllocError>
     ensures known { OnOk result ((q : List AnyValue) → lookup (same_key q) table.new.entries ≡ started_at (all_known_of columns.now items.now order.now q []) (lookup (same_key q) table.old.entries) (is_some (lookup (same_key q) others.now.entries))) }
+    ensures places { IfOk result (λ places. AreAt (keys_of table.new.entries) places.items (keys_of others.now.entries)) }
     ensures kept { take (length table.old.entries) table.new.entries ≡ table.old.entries }
 {
+    let mut places = Vec::with_capacity(alloc, others.len())?;
     for i in 0..others.len() {
         match others.get_index(i) {
-            Some((key, _known)) => start_one(alloc, columns, items, order, table, key)?,
-            None => return Ok(()),
+            Some((key, _known)) => {
+                let place = start_one(alloc, columns, items, order, table, key)?;
+                places.push(place)?;
+            }
+            None => return Ok(places),
         }
     }
-    Ok(())
+    Ok(places)
 }
 
-/// Takes what is known of one group into the group with its key, where there is one.
-fn merge_one(table: &mut Table, key: &Items<Value>, known: &[Accumulator])
-    ensures known { (q : List AnyValue) → lookup (same_key q) table.new.entries ≡ merged_at (lookup (same_key q) table.old.entries) (if same_key q key.now then Some known.now else None) }
-    ensures keys { keys_of table.new.entries ≡ keys_of table.old.entries }
-{
-    match index_of(table, key) {
-        Some(index) => merge_at(table, index, known),
-        None => (),
-    }
-}
-
-/// Takes what is known of each group into the group with its key, where there is one.
-pub(crate) fn merge_each(table: &mut Table, others: &Table)
+/// Takes what is known of each group into the group with its key, which is at its place.
+pub(crate) fn merge_each(table: &mut Table, others: &Table, places: &[usize])
+    requires { AreAt (keys_of table.old.entries) places.now (keys_of others.now.entries) }
     ensures known { (q : List AnyValue) → lookup (same_key q) table.new.entries ≡ merged_at (lookup (same_key q) table.old.entries) (lookup (same_key q) others.now.entries) }
     ensures keys { keys_of table.new.entries ≡ keys_of table.old.entries }
     ensures apart { IsDistinct same_key (keys_of table.new.entries) }
 {
     for i in 0..others.len() {
         match others.get_index(i) {
-            Some((key, known)) => merge_one(table, key, known.as_slice()),
+            Some((_key, known)) => merge_at(table, places[i], known.as_slice()),
             None => break,
         }
     }
