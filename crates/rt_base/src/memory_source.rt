@@ -1,4 +1,4 @@
-ghost use Rattle.std.specs.Prelude.{◌≡◌, ◌++◌, length, take, drop, min, OnOk, OnErr, IfOk};
+ghost use Rattle.std.specs.Prelude.{◌≡◌, length, drop, min};
 ghost use Rattle.rt_base.specs.FaultPlan.{planned};
 ghost use Rattle.rt_base.specs.Source.{Reads};
 ghost use Rattle.rt_base.specs.MemorySource.{source_meaning, read_answer, after_read, filled};

@@ -1,4 +1,3 @@
-ghost use Rattle.std.specs.Prelude.{◌≡◌};
 ghost use Rattle.rt_base.specs.Source.{Reads, SourceMeaning};
 
 use crate::Failed;

@@ -53,7 +53,7 @@ deep_goes_told t answer after (Err deep.Failed) e n =
     record { meets = (refl, refl); counts = counted t.faults (fault_of t.faults.plan); answered = e; seen = refl; own = refl }
 deep_goes_told t answer after (Err deep.Memory) e n = absurd n
 
-deep_calls_told : {X Y : Type 0} (t : ToldDeep) (answer : List DeepPut → Result X DeepRefused) (after : List DeepPut → List DeepPut)
+pub deep_calls_told : {X Y : Type 0} (t : ToldDeep) (answer : List DeepPut → Result X DeepRefused) (after : List DeepPut → List DeepPut)
     (tell : Result X DeepRefused → Option Y) (y : Y) → AreOnce t.files → tell (Err deep.Memory) ≡ None
     → tell (of_deep.answer_on t answer) ≡ Some y
     → of_deep.Calls (deep_memory.means t) (deep_memory.means (of_deep.told_on t after)) answer after (of_deep.answer_on t answer)

@@ -1,6 +1,6 @@
 //! What a controller puts, answers and starts, over what the callers of its stores have seen and what it took. Each law is a function
 //! without a body, and its contract is the law.
-ghost use Rattle.std.specs.Prelude.{◌≡◌, ℕ, Some, Result, Ok};
+ghost use Rattle.std.specs.Prelude.{◌≡◌, ℕ, Result, Ok};
 ghost use Rattle.rt_base.specs.declared.numbers.Moment.{Moment};
 ghost use Rattle.rt_lists.specs.Members.{Has};
 ghost use Rattle.rt_model.specs.declared.job_step.JobStep.{JobStep};

@@ -1,4 +1,4 @@
-ghost use Rattle.std.specs.Prelude.{◌≡◌, ℕ, ◌+◌, ◌^◌, ◌<◌, ◌≤◌, ◌↔◌, true, false, not, [], ◌∷◌, ◌++◌, length, All, IfOk, OnOk, OnErr, IsTrue, Some, if◌then◌else◌, slice_get, slice_index, map};
+ghost use Rattle.std.specs.Prelude.{◌≡◌, ℕ, ◌+◌, ◌^◌, ◌<◌, ◌≤◌, ◌↔◌, true, false, [], ◌∷◌, ◌++◌, length, All, IfOk, OnOk, OnErr, IsTrue, Some, if◌then◌else◌, slice_get, slice_index, map};
 ghost use Rattle.std.specs.List.Sorted.{IsPartitionPoint, IsSortedBy};
 ghost use Rattle.rt_dict.specs.Values.{IsAscending, AreDistinctValues, AreIdsOf, is_past_last};
 ghost use Rattle.rt_dict.specs.Range.{starts_by, ends_after, IsWithin};

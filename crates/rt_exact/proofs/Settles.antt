@@ -1,5 +1,5 @@
 -- `settle` has one outcome.
-use Rattle.std.proofs.Common.{◌≡◌, ℕ, zero, suc, Bool, true, false, Option, Some, None, Result, Ok, Err, ◌==◌, nat_lt, ◌||◌, refl, sym, ap, subst}
+use Rattle.std.proofs.Common.{◌≡◌, ℕ, zero, suc, Bool, true, false, Option, Some, None, Result, Ok, Err, ◌==◌, nat_lt, ◌||◌, refl, ap, subst}
 use Rattle.rt_base.specs.declared.gate.NodeId.TheVariants.{Server}
 use Rattle.rt_base.specs.declared.numbers.ControllerId.{ControllerId}
 use Rattle.rt_base.specs.declared.numbers.Instance.{Instance}

@@ -1,15 +1,6 @@
 ghost use Rattle.std.specs.Prelude.{◌≡◌, ◌+◌, ◌-◌, ◌^◌, ◌<◌, [], ◌∷◌, ◌++◌, length, All};
 ghost use Rattle.rt_front.specs.Rules.{keeper_view, front_view, hand, IsSeat};
-ghost use Rattle.rt_front.specs.Histories.{
-  History,
-  Known,
-  history,
-  known,
-  entry,
-  first_of,
-  mine,
-  AreBelow,
-};
+ghost use Rattle.rt_front.specs.Histories.{History, history, known, entry, first_of, mine, AreBelow};
 ghost use Rattle.rt_lists.specs.Members.{IsFront as IsPrefix};
 
 use crate::chronicle::Chronicle;

@@ -1,22 +1,4 @@
-ghost use Rattle.std.specs.Prelude.{
-  ◌≡◌,
-  ◌↔◌,
-  ◌++◌,
-  ◌∷◌,
-  [],
-  ◌<◌,
-  ℕ,
-  List,
-  length,
-  take,
-  drop,
-  slice_get,
-  IfSome,
-  IfNone,
-  OnOk,
-  OnErr,
-  IsTrue,
-};
+ghost use Rattle.std.specs.Prelude.{◌≡◌, ◌↔◌, ◌++◌, ◌∷◌, [], ◌<◌, List, length, take, slice_get, IfSome, IfNone, OnOk, OnErr, IsTrue};
 ghost use Rattle.std.specs.Borrow.{sem};
 ghost use Rattle.rt_lists.specs.Lending.{LendsItem, LendsAll};
 

@@ -1,4 +1,4 @@
-ghost use Rattle.std.specs.Prelude.{◌≡◌, ◌<◌, ◌^◌, IfOk, OnOk, length, option_map, string_bytes, ◌++◌};
+ghost use Rattle.std.specs.Prelude.{◌≡◌, ◌<◌, ◌^◌, IfOk, OnOk, length, string_bytes, ◌++◌};
 ghost use Rattle.rt_live.specs.Printed.{printed, shown_text};
 
 use rt_base::Offset;

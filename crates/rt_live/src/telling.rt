@@ -1,5 +1,5 @@
 //! What a run has come to, once its nodes were joined.
-ghost use Rattle.std.specs.Prelude.{◌≡◌, ◌≤◌, IfOk, IsTrue, length, string_bytes, true};
+ghost use Rattle.std.specs.Prelude.{◌≡◌, IfOk, IsTrue, length, string_bytes, true};
 ghost use Rattle.rt_live.specs.Run.{HasRunBy};
 ghost use Rattle.rt_live_join.specs.Joined.{HasJoined, joined_now};
 ghost use Rattle.rt_live_join.specs.Left.{fronts_by};

@@ -1,4 +1,3 @@
-ghost use Rattle.std.specs.Prelude.{◌≡◌, length};
 ghost use Rattle.rt_live_broker.specs.Acting.{IsEndedBroker, IsOfCluster, IsQuiet};
 ghost use Rattle.rt_live_broker.specs.Feeds.{AreFeeds};
 ghost use Rattle.rt_live_names.specs.Fronts.{fronts};

@@ -1,4 +1,4 @@
-ghost use Rattle.std.specs.Prelude.{◌≡◌, ◌<◌, [], All, IfOk, length};
+ghost use Rattle.std.specs.Prelude.{◌≡◌, ◌<◌, All, length};
 ghost use Rattle.rt_ground.specs.Callers.{new_caller};
 ghost use Rattle.rt_live_broker.specs.Acting.{IsEndedBroker};
 ghost use Rattle.rt_live_broker.specs.Feeds.{AreFeeds};

@@ -1,4 +1,4 @@
-ghost use Rattle.std.specs.Prelude.{◌≡◌, ◌<◌, ◌≤◌, ◌-◌, ◌^◌, [], ◌∷◌, ◌++◌, length, true, false, not, IsTrue};
+ghost use Rattle.std.specs.Prelude.{◌≡◌, ◌<◌, ◌≤◌, ◌-◌, ◌^◌, length, true, false, not, IsTrue};
 ghost use Rattle.rt_base.specs.declared.limits.TheConstants.{LAST_MOMENT};
 ghost use Rattle.rt_ground.specs.Callers.{new_caller};
 ghost use Rattle.rt_live_controller.specs.Repairing.{is_free};

@@ -1,5 +1,5 @@
 -- The lines that are read as rows and queries are those that spell them.
-use Rattle.std.proofs.Common.{◌≡◌, ◌⊎◌, inl, inr, ℕ, ◌<◌, ◌≤◌, Bool, true, false, if◌then◌else◌, List, [], ◌∷◌, ◌++◌, length, Option, Some, None, Result, Ok, Err, refl, sym, ap, subst, ◌∙◌, arith}
+use Rattle.std.proofs.Common.{◌≡◌, ℕ, Bool, true, false, if◌then◌else◌, List, ◌∷◌, ◌++◌, length, Option, Some, None, Result, Ok, Err, refl, sym, ap, subst, ◌∙◌, arith}
 use Rattle.std.specs.Prelude.{codes, nat_le, nat_lt}
 use Rattle.std.specs.Str.{is_utf8}
 use Rattle.std.proofs.lemmas.Bool.{leb-true, leb-false, ltb-true, ltb-false}
@@ -13,15 +13,14 @@ use Rattle.rt_lines.specs.declared.play_fault.PlayFault.{PlayFault}
 use Rattle.rt_lines.specs.declared.play_fault.PlayFault.TheVariants.{Limit, Refused}
 use Rattle.rt_lines.proofs.PartsOfLines.{numeral_lacks, parted_read, parted_said, prefix_read, prefix_said, same_some, then_found}
 use Rattle.rt_live_input.proofs.Chaoses.{bounded_spells, spelled_bounded}
-use Rattle.rt_live_input.specs.Entries.{asked_at, entry_at, entry_by, placed_row, query_at, row_at, row_of, row_parts}
-use Rattle.rt_live_input.specs.Input.{GivesQuery, GivesRow, IsAstray, IsLong, IsNoLine, IsNoQuery, Refuses}
+use Rattle.rt_live_input.specs.Entries.{asked_at, entry_at, entry_by, placed_row, row_of, row_parts}
+use Rattle.rt_live_input.specs.Input.{GivesQuery, GivesRow, Refuses}
 use Rattle.rt_live_input.specs.Lines.{IsQueryLine, IsRowLine}
 use Rattle.rt_live_input.specs.declared.entry.Entry.{Entry}
 use Rattle.rt_live_input.specs.declared.entry.Entry.TheVariants as entry
 use Rattle.rt_model.specs.declared.query.Query.{Query}
 use Rattle.rt_model.specs.declared.setup.Setup.{Setup}
-use Rattle.rt_schema.specs.declared.schema.Schema.{Schema}
-use Rattle.rt_script.specs.QueryTexts.{text_of, text_read}
+use Rattle.rt_script.specs.QueryTexts.{text_read}
 use Rattle.rt_script.specs.declared.query_text.QueryText.{QueryText}
 use Rattle.rt_script.specs.declared.query_text.QueryText.TheVariants as text
 use Rattle.rt_sql.specs.Parsing.{query_of as query_in}

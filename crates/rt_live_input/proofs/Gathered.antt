@@ -9,7 +9,6 @@ use Rattle.rt_live_input.specs.declared.entry.Entry.{Entry}
 use Rattle.rt_live_input.specs.declared.entry.Entry.TheVariants as entry
 use Rattle.rt_live_input.specs.declared.input.Input.{Input}
 use Rattle.rt_model.specs.Setup.{IsSetup}
-use Rattle.rt_model.specs.declared.setup.Setup.{Setup}
 
 -- what a reading that stops leaves behind it stays unread
 pub says_stop : {A B : Type 0} (wanted : Result A PlayFault) (f : A → Result B PlayFault) (fault : PlayFault) → Says wanted (Err fault) → Says (then_ok wanted f) (Err fault)

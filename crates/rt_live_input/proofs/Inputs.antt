@@ -1,6 +1,6 @@
 -- What is read of an input, by its text.
 use Rattle.std.proofs.Common.{◌≡◌, ◌≢◌, ◌⊎◌, inl, inr, ℕ, ◌<◌, ◌≤◌, Bool, true, false, if◌then◌else◌, List, [], ◌∷◌, ◌++◌, All, length, Option, Some, None, Result, Ok, Err, refl, sym, ap, subst, ◌∙◌, arith, append_assoc}
-use Rattle.std.specs.Prelude.{IfOk, IfSome, codes, nat_lt}
+use Rattle.std.specs.Prelude.{IfOk, IfSome, codes}
 use Rattle.std.proofs.lemmas.Bool.{ltb-true, ltb-false}
 use Rattle.std.proofs.lemmas.List.{append-nil}
 use Rattle.std.proofs.lemmas.List.Elements.{All-append, All-cons, All-nil, All-same}
@@ -16,8 +16,8 @@ use Rattle.rt_live_input.proofs.Chaoses.{chaos_spelled, spelled_chaos}
 use Rattle.rt_live_input.proofs.Entered.{IsEntry, Reads, entry_reads}
 use Rattle.rt_live_input.specs.ChaosWords.{chaos_at, chaos_said, chaos_within, crash_within}
 use Rattle.rt_live_input.specs.Entries.{entry_at}
-use Rattle.rt_live_input.specs.Gathering.{added, behind_first, behind_from, behind_of, empty, gathered, with_entry}
-use Rattle.rt_live_input.specs.Input.{BeginsCalm, CrashesOneOf, GiveAll, Gives, HasChaos, IsInput, IsRead, IsRefused, ReadsInput, Refuses, RefusesChaos, StopsAtChaos, StopsAtLine, StopsBehind, calm}
+use Rattle.rt_live_input.specs.Gathering.{added, behind_first, behind_of, empty, gathered, with_entry}
+use Rattle.rt_live_input.specs.Input.{CrashesOneOf, GiveAll, Gives, HasChaos, IsInput, IsRead, ReadsInput, Refuses, RefusesChaos, StopsAtChaos, StopsAtLine, calm}
 use Rattle.rt_live_input.specs.Lines.{IsChaosLine}
 use Rattle.rt_live_input.specs.declared.chaos.Chaos.{Chaos}
 use Rattle.rt_live_input.specs.declared.chaos.Crash.{Crash}

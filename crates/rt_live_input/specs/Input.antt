@@ -1,6 +1,5 @@
 -- What the input of a running cluster is, by its text.
-use Rattle.std.specs.Prelude.{◌≡◌, ◌≢◌, ◌⊎◌, ℕ, ◌<◌, ◌≤◌, List, [], ◌∷◌, ◌++◌, All, length, Option, None, Some, IfSome, Result, Ok, Err, codes}
-use Rattle.rt_base.specs.declared.which.Which.{Which}
+use Rattle.std.specs.Prelude.{◌≡◌, ◌≢◌, ◌⊎◌, ℕ, ◌<◌, ◌≤◌, List, [], ◌∷◌, ◌++◌, All, length, None, Some, IfSome, Result, Ok, Err, codes}
 use Rattle.rt_base.specs.declared.which.Which.TheVariants.{Message}
 use Rattle.rt_ground.specs.declared.appended.Appended.{Appended}
 use Rattle.rt_lines.specs.Header.{NumberedLine, header_of}

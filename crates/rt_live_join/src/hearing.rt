@@ -1,4 +1,4 @@
-ghost use Rattle.std.specs.Prelude.{◌≡◌, true, IfOk};
+ghost use Rattle.std.specs.Prelude.{true, IfOk};
 ghost use Rattle.rt_live_join.specs.Left.{IsShown};
 
 use rt_lists::Items;

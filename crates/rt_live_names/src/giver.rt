@@ -1,5 +1,4 @@
 ghost use Rattle.std.specs.Prelude.{◌≡◌, ◌≤◌, ℕ, Some, IfOk, IfSome, slice_get};
-ghost use Rattle.rt_broker.specs.declared.piece_given.PieceGiven.{PieceGiven as Given};
 ghost use Rattle.rt_ground.specs.Histories.{whats};
 ghost use Rattle.rt_lists.specs.Members.{Has, IsFront};
 ghost use Rattle.rt_model.specs.Checked.{IsQuery};

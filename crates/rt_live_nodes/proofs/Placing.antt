@@ -1,6 +1,6 @@
 -- What the nodes of a cluster are given as it is founded.
 use Rattle.std.proofs.Common.{◌≡◌, ◌∙◌, ℕ, zero, suc, ◌+◌, ◌<◌, ◌⊎◌, inl, inr, List, [], ◌∷◌, ◌++◌, length, map}
-use Rattle.std.proofs.Common.{Some, ap, refl, sym, subst, arith, slice_get}
+use Rattle.std.proofs.Common.{Some, ap, sym, subst, arith, slice_get}
 use Rattle.std.specs.List.{range_with_len}
 use Rattle.std.proofs.lemmas.List.{length-append}
 use Rattle.std.proofs.lemmas.Option.{same_Some, none-some}

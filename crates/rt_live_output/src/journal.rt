@@ -1,4 +1,4 @@
-ghost use Rattle.std.specs.Prelude.{◌≡◌, ◌++◌, OnOk, codes, string_bytes};
+ghost use Rattle.std.specs.Prelude.{◌≡◌, ◌++◌, OnOk, string_bytes};
 ghost use Rattle.rt_live_output.specs.Texts.{heard_lines, journal_text, mid_line, texts, write_line};
 
 use crate::lines::{write_heard_of, write_mid, write_write};

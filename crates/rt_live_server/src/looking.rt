@@ -1,5 +1,5 @@
 //! A server looks what its replicas have to do.
-ghost use Rattle.std.specs.Prelude.{◌≡◌, IfSome, IsTrue};
+ghost use Rattle.std.specs.Prelude.{IfSome, IsTrue};
 ghost use Rattle.rt_live_server.specs.Acting.{HasTakenTo, IsLengthOf, Looks};
 ghost use Rattle.rt_ground.specs.StreamCalls.{seen_by};
 

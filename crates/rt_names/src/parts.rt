@@ -1,4 +1,4 @@
-ghost use Rattle.std.specs.Prelude.{◌≡◌, ◌≢◌, ℕ, IfSome, IfNone};
+ghost use Rattle.std.specs.Prelude.{◌≡◌, IfSome};
 ghost use Rattle.std.specs.Option.{IsSomeAnd};
 ghost use Rattle.rt_names.specs.declared.name.SegmentName.{SegmentName};
 ghost use Rattle.rt_names.specs.Name.{name_text, name_of, IsSegmentName};

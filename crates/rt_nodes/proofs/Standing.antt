@@ -43,7 +43,7 @@ found_again {K} {X} test (e ∷ es) old new found = by (test e.0) refl (λ h. fo
     by true is again h = ap (λ b. cond b (the new) (lookup test es)) is
     by false is again h = ap (λ b. cond b (the e.1) (lookup test (set_value test es new))) is ∙ again h
 
-put_stands : (t : Segments) (p : Partition) (q : Sequence) (r next : Consumer) → replica_of t p q ≡ the r → replica_of (put_back t p q (Replica next)) p q ≡ the next
+pub put_stands : (t : Segments) (p : Partition) (q : Sequence) (r next : Consumer) → replica_of t p q ≡ the r → replica_of (put_back t p q (Replica next)) p q ≡ the next
 put_stands t p q r next found =
     ap replica_at (found_again (is_segment p q) t.entries (Replica r) (Replica next) (replica_found (entry_of t p q) r found))
 

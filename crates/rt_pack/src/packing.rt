@@ -1,5 +1,5 @@
 //! Packing ids, and reading them.
-ghost use Rattle.std.specs.Prelude.{◌≡◌, ℕ, ◌+◌, ◌*◌, ◌^◌, ◌<◌, ◌≤◌, ◌↔◌, List, length, slice_index, All, IfOk};
+ghost use Rattle.std.specs.Prelude.{◌≡◌, ℕ, ◌+◌, ◌*◌, ◌^◌, ◌<◌, ◌≤◌, ◌↔◌, length, slice_index, All, IfOk};
 ghost use Rattle.rt_pack.specs.Packed.{bytes_for, packed, unpacked, id_at, spare_bits};
 
 use crate::bit_reader::{BitReader, number_in};

@@ -1,5 +1,5 @@
 -- The turns of a generated run are a run of its cluster.
-use Rattle.std.proofs.Common.{◌≡◌, ◌%◌, ℕ, Bool, false, List, Option, Some, None, Result, refl}
+use Rattle.std.proofs.Common.{◌≡◌, ◌%◌, ℕ, false, List, Option, Some, None, Result, refl}
 use Rattle.rt_desk.proofs.Reaching.{Allowance, Goes, each_from_goes, gives_goes, leads_by, passed_goes, refuses_goes, then_goes}
 use Rattle.rt_desk.proofs.ReachingMacros.{query_goes, settles_goes}
 use Rattle.rt_events.specs.declared.event.Event.TheVariants.{Produce}

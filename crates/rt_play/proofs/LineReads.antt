@@ -1,15 +1,14 @@
 -- What a line leaves of the stream and of the queries, and what its text tells of an answer.
-use Rattle.std.proofs.Common.{◌≡◌, ℕ, zero, suc, ◌+◌, Bool, true, false, ◌&&◌, List, [], ◌∷◌, ◌++◌, length, Option, Some, None, Result, Ok, Err, ◌==◌, nat_lt, if◌then◌else◌, refl, sym, ◌∙◌, ap, subst, slice_get, append-nil}
-use Rattle.rt_base.specs.declared.numbers.ControllerId.{ControllerId}
+use Rattle.std.proofs.Common.{◌≡◌, ℕ, zero, suc, ◌+◌, Bool, true, false, List, [], ◌∷◌, ◌++◌, length, Option, Some, None, Result, Ok, Err, ◌==◌, nat_lt, refl, sym, ◌∙◌, ap, subst, slice_get}
 use Rattle.rt_base.specs.declared.numbers.Instance.{Instance}
 use Rattle.rt_base.specs.declared.numbers.Partition.{Partition}
 use Rattle.rt_base.specs.declared.numbers.Sequence.{Sequence}
 use Rattle.rt_broker.specs.Asking.{Asking}
-use Rattle.rt_desk.proofs.Reaching.{Allowance, Goes, IsCalm, choose_goes, each_from_goes, each_goes, gives_goes, leads_by, leads_then, passed_goes, then_goes}
+use Rattle.rt_desk.proofs.Reaching.{Allowance, Goes, IsCalm, each_from_goes, leads_by, leads_then, passed_goes}
 use Rattle.rt_desk.proofs.ReachingLines.{line_goes}
 use Rattle.rt_desk.proofs.ReachingMacros.{asks_all_goes}
 use Rattle.rt_desk.specs.Paused.{LeadsBy}
-use Rattle.rt_desk.specs.Saying.{EventLineTold, EventTold, LineTold, MacroTold, UnlessHeld, held_by, is_due}
+use Rattle.rt_desk.specs.Saying.{EventLineTold, EventTold, LineTold, MacroTold, UnlessHeld, held_by}
 use Rattle.rt_desk.specs.Telling.{Beside, Told, told}
 use Rattle.rt_desk.specs.declared.desk.Desk.{Desk}
 use Rattle.rt_events.specs.declared.event.Event.{Event}
@@ -20,7 +19,7 @@ use Rattle.rt_events.specs.declared.refusal.Refusal.{Refusal}
 use Rattle.rt_events.specs.declared.refusal.Refusal.TheVariants.{NoSuchNode, NothingToDo}
 use Rattle.rt_base.specs.declared.numbers.Offset.{Offset}
 use Rattle.rt_lists.proofs.Members.{slice_get-push}
-use Rattle.rt_macros.specs.Doing.{Act, Choose, EachFrom, Further as Behind, Gives, Happens, Reached, Refuses, Then, after, stays}
+use Rattle.rt_macros.specs.Doing.{Act, Choose, EachFrom, Further as Behind, Gives, Happens, Reached, Refuses, Then, after}
 use Rattle.rt_macros.specs.Filling.{FillTold, Fills, FillsOne, TellsLength, numbered_text}
 use Rattle.rt_macros.specs.Outcomes.{answer_in, asked_in}
 use Rattle.rt_macros.specs.Querying.{AfterAsking, AnswersNow, AsksAll, AsksAndAnswers, ByNumber, GivesAnswer, Queries, QueryTold, RoutesAll, RoutesOne}
@@ -40,10 +39,8 @@ use Rattle.rt_safety.specs.IsAnswered.{IsAnswered}
 use Rattle.rt_safety.specs.Produced.{AreAsked, appended, asked_in as asked_by, log_after, queries_after}
 use Rattle.rt_safety.specs.Runs.{Turn, happens, passes, Leads}
 use Rattle.rt_script.specs.Line.{FitsLine}
-use Rattle.rt_script.specs.declared.further.Further.{Further}
 use Rattle.rt_script.specs.declared.line.Line.{Line}
 use Rattle.rt_script.specs.declared.line.Line.TheVariants as line
-use Rattle.rt_script.specs.declared.line.Macro.{Macro}
 use Rattle.rt_script.specs.declared.line.Macro.TheVariants as macro
 use Rattle.rt_state.specs.Finding.{query_at}
 use Rattle.rt_state.specs.IsSafeWorld.{IsSafeWorld}

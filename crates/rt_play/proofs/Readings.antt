@@ -1,8 +1,7 @@
 -- What is read of a report.
-use Rattle.std.proofs.Common.{◌≡◌, ℕ, List, [], ◌∷◌, ◌++◌, length, replicate, Option, Some, None, Result, Ok, Err, refl, sym, ◌∙◌, ap, subst, slice_get}
+use Rattle.std.proofs.Common.{◌≡◌, ℕ, List, [], ◌∷◌, ◌++◌, Option, Some, None, Result, Ok, Err, refl, sym, ◌∙◌, ap, subst}
 use Rattle.std.specs.Prelude.{IfSome}
 use Rattle.std.proofs.lemmas.Option.{none-some}
-use Rattle.rt_broker.specs.Asking.{Asking}
 use Rattle.rt_lines.proofs.Headers.{header_taken}
 use Rattle.rt_lines.specs.Header.{NumberedLine, header_of}
 use Rattle.rt_lines.specs.Lines.{script_lines}
@@ -11,7 +10,7 @@ use Rattle.rt_macros.specs.Doing.{reached}
 use Rattle.rt_model.specs.declared.query.Query.{Query}
 use Rattle.rt_model.specs.declared.setup.Setup.{Setup}
 use Rattle.rt_play.proofs.Beginnings.{beginning_taken}
-use Rattle.rt_play.proofs.LineReads.{LineReads, line_reads}
+use Rattle.rt_play.proofs.LineReads.{line_reads}
 use Rattle.rt_play.proofs.ScriptRuns.{line_keeps}
 use Rattle.rt_play.specs.Beginning.{beginning_of, going_from}
 use Rattle.rt_play.specs.Going.{Going}

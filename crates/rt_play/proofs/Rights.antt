@@ -1,5 +1,5 @@
 -- Every safe world is right, and every run keeps what it had.
-use Rattle.std.proofs.Common.{◌≡◌, ◌<◌, List, ◌++◌, Some, sym, subst, slice_get}
+use Rattle.std.proofs.Common.{◌≡◌, List, Some, slice_get}
 use Rattle.rt_base.specs.declared.numbers.Instance.{Instance}
 use Rattle.rt_model.specs.Setup.{IsSetup}
 use Rattle.rt_model.specs.declared.setup.Setup.{Setup}

@@ -1,13 +1,10 @@
 -- A node that is shown DONE or abandoned stays as it is, until it is gone.
-use Rattle.std.proofs.Common.{◌≡◌, ◌⊎◌, inl, inr, ◌<◌, ℕ, Bool, true, List, [], ◌∷◌, ◌++◌, Option, Some, None, Result, Ok, Err, nat_lt, refl, sym, ◌∙◌, ap, subst}
-use Rattle.std.specs.Prelude.{IfSome}
+use Rattle.std.proofs.Common.{◌≡◌, ◌⊎◌, inl, inr, ◌<◌, ℕ, List, [], ◌∷◌, ◌++◌, Option, Some, None, Ok, refl, sym, ◌∙◌, ap, subst}
 use Rattle.std.proofs.lemmas.Bool.{ltb-true}
 use Rattle.rt_base.specs.declared.numbers.Partition.{Partition}
 use Rattle.rt_base.specs.declared.numbers.Sequence.{Sequence}
-use Rattle.rt_desk.specs.Saying.{EventLineTold, EventTold, LineTold}
+use Rattle.rt_desk.specs.Saying.{EventLineTold, EventTold}
 use Rattle.rt_desk.specs.Telling.{Told, told}
-use Rattle.rt_desk.specs.declared.desk.Desk.{Desk}
-use Rattle.rt_events.specs.declared.event.Event.{Event}
 use Rattle.rt_events.specs.declared.event.Event.TheVariants.{ShowMeta}
 use Rattle.rt_events.specs.declared.outcome.Outcome.{Outcome}
 use Rattle.rt_events.specs.declared.refusal.Refusal.TheVariants.{NoSuchNode}
@@ -45,7 +42,6 @@ use Rattle.rt_state.specs.Room.{no_cost, priced}
 use Rattle.rt_state.specs.Start.{start}
 use Rattle.rt_state.specs.declared.state.State.{State}
 use Rattle.rt_store.specs.Contents.{starting_of}
-use Rattle.rt_world.specs.Step.{Steps}
 
 -- ---- in a world
 

@@ -1,5 +1,5 @@
 -- What the report of a script tells of its answers, by the script and the report alone: each answer counts what was produced.
-use Rattle.std.specs.Prelude.{◌≡◌, ◌<◌, ◌≤◌, ◌+◌, ◌⊎◌, ℕ, zero, suc, List, [], ◌∷◌, ◌++◌, length, replicate, Option, None, Some, slice_get}
+use Rattle.std.specs.Prelude.{◌≡◌, ◌<◌, ◌≤◌, ◌⊎◌, ℕ, zero, suc, List, [], ◌∷◌, ◌++◌, length, replicate, Option, Some, slice_get}
 use Rattle.rt_base.specs.declared.numbers.Partition.{Partition}
 use Rattle.rt_base.specs.declared.range.Range.{Range}
 use Rattle.rt_events.specs.declared.event.Event.TheVariants.{Answer, Ask, Produce}

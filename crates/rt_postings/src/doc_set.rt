@@ -1,5 +1,5 @@
 //! Sets of rows.
-ghost use Rattle.std.specs.Prelude.{◌≡◌, ℕ, ◌<◌, Bool, true, false, List, length, map, not, replicate, IfOk, IfSome, IfNone, slice_set};
+ghost use Rattle.std.specs.Prelude.{◌≡◌, ◌<◌, Bool, true, false, List, length, map, not, replicate, IfOk, IfSome, IfNone, slice_set};
 ghost use Rattle.rt_postings.specs.DocSet.{has_row, both, either, HasNoneFrom, IsNextFrom};
 
 use crate::doc_words::{WORD, and_words, first_marked, not_words, or_words};

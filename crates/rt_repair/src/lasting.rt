@@ -1,5 +1,5 @@
 //! The laws of what lasts of repairs and retirements. Each stands on a function that does nothing: its clause is the law.
-ghost use Rattle.std.specs.Prelude.{◌≡◌, ◌<◌, ◌≤◌, ℕ, List, [], Some};
+ghost use Rattle.std.specs.Prelude.{◌≡◌, ◌<◌, ◌≤◌, ℕ, [], Some};
 ghost use Rattle.rt_base.specs.declared.numbers.Moment.{Moment};
 ghost use Rattle.rt_base.specs.declared.numbers.Partition.{Partition};
 ghost use Rattle.rt_model.specs.declared.node.Listed.{Listed};

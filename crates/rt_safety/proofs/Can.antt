@@ -7,7 +7,6 @@ use Rattle.rt_broker.specs.Asking.{Asking, piece_at}
 use Rattle.rt_broker.specs.Noting.{noted, Notes}
 use Rattle.rt_broker.specs.declared.piece_got.PieceGot.{PieceGot}
 use Rattle.rt_commit.specs.Told.{deep_after, store_after}
-use Rattle.rt_commit.specs.declared.job.Job.{Job}
 use Rattle.rt_controller.proofs.Realized.{made_request, made_work}
 use Rattle.rt_controller.specs.Controller.{Controlling}
 use Rattle.rt_controller.specs.Requests.{handle_call}

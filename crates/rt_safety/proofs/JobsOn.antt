@@ -13,7 +13,6 @@ use Rattle.rt_commit.specs.declared.job.Job.{Job}
 use Rattle.rt_controller.specs.Controller.{believing}
 use Rattle.rt_controller.specs.Right.{job_of}
 use Rattle.rt_controller.proofs.CallsOver.{handles_over}
-use Rattle.rt_model.specs.declared.reply.Reply.{Reply}
 use Rattle.rt_model.specs.declared.request.Request.{Request}
 use Rattle.rt_state.specs.Applying.{Next}
 use Rattle.rt_safety.specs.CommitRun.{job_in, open_job}

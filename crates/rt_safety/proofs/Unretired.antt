@@ -25,7 +25,6 @@ use Rattle.rt_controller.proofs.Telling.{told_request, told_work}
 use Rattle.rt_deep.specs.Meaning.{Told as ToldDeep}
 use Rattle.rt_events.specs.declared.event.Event.{Event}
 use Rattle.rt_events.specs.declared.outcome.Outcome.{Outcome}
-use Rattle.rt_events.specs.declared.outcome.Outcome.TheVariants as told
 use Rattle.rt_lists.specs.Members.{Has}
 use Rattle.rt_lists.proofs.Members.{Has-push_cases}
 use Rattle.rt_model.proofs.Starts.{start_there}
@@ -62,7 +61,6 @@ use Rattle.rt_state.specs.Jobs.{JobSteps, JobStepsAt, noted_set, stepped_by}
 use Rattle.rt_state.specs.Messages.{Delivers, DeliversAt, after_step, handed}
 use Rattle.rt_state.specs.Nodes.{ControllerDoes, ControllerDoesAt, with_controller}
 use Rattle.rt_state.specs.Places.{AreAt}
-use Rattle.rt_state.specs.Queries.{asked}
 use Rattle.rt_state.specs.Repairs.{Repairs, RepairsAt, Retires, RetiresAt, after_upkeep, begun, upkeep_at, upkeep_in}
 use Rattle.rt_state.specs.Room.{counted}
 use Rattle.rt_state.specs.Start.{fresh_controller, fresh_controllers, fresh_upkeep, start}

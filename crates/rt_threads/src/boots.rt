@@ -1,4 +1,4 @@
-ghost use Rattle.std.specs.Prelude.{◌≡◌, IfOk};
+ghost use Rattle.std.specs.Prelude.{IfOk};
 ghost use Rattle.rt_threads.specs.Boots.{BootsBy, BootsAsOwn};
 
 use rt_base::{Instance, Partition};

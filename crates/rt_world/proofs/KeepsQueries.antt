@@ -130,7 +130,7 @@ routed_reads w store a b p (Err broker.NotDue) o r e = absurd (none-some o e)
 routed_reads w store a b p (Err broker.StoreFault) o r e = read_told w.store store _ _ r.1
 routed_reads w store a b p (Err broker.Memory) o r e = absurd (none-some o e)
 
-routed_query : (old new : Meaning) (a b : Asking) (p : Partition) (answer : Result ℕ BrokerRefused) → broker_routes old new a p b answer → b.query ≡ a.query
+pub routed_query : (old new : Meaning) (a b : Asking) (p : Partition) (answer : Result ℕ BrokerRefused) → broker_routes old new a p b answer → b.query ≡ a.query
 routed_query old new a b p (Ok count) r = ap (λ (x : Asking). x.query) r.1.noted
 routed_query old new a b p (Err broker.NotDue) r = ap (λ (x : Asking). x.query) r.1
 routed_query old new a b p (Err broker.StoreFault) r = ap (λ (x : Asking). x.query) r.2

@@ -1,7 +1,6 @@
-use Rattle.std.proofs.Common.{◌∙◌, ap, sym, subst, refl}
+use Rattle.std.proofs.Common.{◌∙◌}
 use Rattle.rt_live_input.proofs.Gathered.{adds_more, adds_setup, gathers_stop}
 use Rattle.rt_live_input.proofs.reading.read_lines.Goals as goal
-use Rattle.rt_model.specs.Setup.{IsSetup}
 
 pub loop-number-preserved : goal.loop-number-preserved
 loop-number-preserved c =
