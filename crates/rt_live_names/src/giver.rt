@@ -1,4 +1,4 @@
-ghost use Rattle.std.specs.Prelude.{◌≡◌, ◌≤◌, ℕ, Some, IfOk, IfSome, slice_get};
+ghost use Rattle.std.specs.Prelude.{◌≡◌, ◌≤◌, ℕ, Some, IfOk, IfSome, OnErr, slice_get};
 ghost use Rattle.rt_ground.specs.Histories.{whats};
 ghost use Rattle.rt_lists.specs.Members.{Has, IsFront};
 ghost use Rattle.rt_model.specs.Checked.{IsQuery};
@@ -39,5 +39,6 @@ pub trait Giver<K: Cluster> {
         ensures name { front.new.chronicle ≡ front.old.chronicle }
         ensures grows { IsFront (whats front.old.seen) (whats front.new.seen) }
         ensures given { IfOk result (λ got. Has (whats front.new.seen)
-            (record { query = at; asking = asking; piece = piece; got = got })) };
+            (record { query = at; asking = asking; piece = piece; got = got })) }
+        ensures err { OnErr result (front.new ≡ front.old) };
 }

@@ -1,12 +1,16 @@
-ghost use Rattle.std.specs.Prelude.{◌≡◌, IfOk, map, string_bytes};
+ghost use Rattle.std.specs.Prelude.{◌≡◌, ◌⊎◌, IfErr, IfOk, map, string_bytes};
+ghost use Rattle.rt_lines.specs.declared.play_fault.PlayFault.{Usage, Memory};
 
 use rt_lines::PlayFault;
 use std::alloc::{Alloc, AllocError, Global};
 use std::env::{self, Env};
 use std::io;
 
-/// The words behind a program's name. One that isn't UTF-8 is none of a program's.
-pub fn words_of<R: Env + Alloc<A = Global>>(rt: &R) -> Result<Vec<String>, PlayFault> {
+/// The words behind a program's name. Fails with Usage where one of them isn't UTF-8, which is none of a program's, and
+/// else only where memory is refused.
+pub fn words_of<R: Env + Alloc<A = Global>>(rt: &R) -> Result<Vec<String>, PlayFault>
+    ensures refused { IfErr result (λ fault. (fault ≡ Usage) ⊎ (fault ≡ Memory)) }
+{
     let mut words = Vec::new(rt.alloc());
     let args = match env::args(rt) {
         Ok(args) => args,

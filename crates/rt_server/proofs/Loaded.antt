@@ -38,7 +38,7 @@ downloads_none m schema old p q found =
 
 -- ---- what is loaded has the schema's columns
 
-committed_found : (o : Option Entry) (c : CommittedSegment) → committed_at o ≡ Some c → o ≡ Some (Committed c)
+pub committed_found : (o : Option Entry) (c : CommittedSegment) → committed_at o ≡ Some c → o ≡ Some (Committed c)
 committed_found None c e = absurd (cc)
 committed_found (Some (Replica r)) c e = absurd (cc)
 committed_found (Some (Committed d)) c e = cc

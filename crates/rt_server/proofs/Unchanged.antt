@@ -3,11 +3,14 @@ use Rattle.std.proofs.Common.{◌≡◌, ℕ, Bool, true, false, Option, Some, N
 use Rattle.rt_base.specs.declared.numbers.Moment.{Moment}
 use Rattle.rt_base.specs.declared.numbers.Partition.{Partition}
 use Rattle.rt_base.specs.declared.numbers.Sequence.{Sequence}
+use Rattle.rt_schema.specs.declared.schema.Schema.{Schema}
 use Rattle.rt_stream.specs.Feed.{FeedMeaning}
+use Rattle.rt_model.specs.declared.commit.Commit.{Commit}
 use Rattle.rt_model.specs.declared.ideal_state.Mode.{Mode}
 use Rattle.rt_model.specs.declared.replica_state.ReplicaState.{ReplicaState}
 use Rattle.rt_model.specs.declared.replica_state.ReplicaState.TheVariants as state
 use Rattle.rt_store.specs.Meaning.{Meaning}
+use Rattle.rt_deep.specs.Meaning as deep
 use Rattle.rt_msgs.specs.Numbered.{Numbered}
 use Rattle.rt_consumer.specs.declared.consumer.Consumer.{Consumer}
 use Rattle.rt_consumer.specs.declared.phase.Phase.{Phase}
@@ -15,14 +18,19 @@ use Rattle.rt_consumer.specs.declared.refused.ReplicaRefused.{ReplicaRefused}
 use Rattle.rt_consumer.specs.declared.refused.ReplicaRefused.TheVariants.{NotDue, Memory}
 use Rattle.rt_consumer.specs.Batch.{Consumes}
 use Rattle.rt_consumer.specs.Requests.{Builds, Does, Extends, Requests, forced, stopped}
-use Rattle.rt_entry.specs.declared.entry.Entry.TheVariants.{Replica}
+use Rattle.rt_entry.specs.declared.entry.CommittedSegment.{CommittedSegment}
+use Rattle.rt_entry.specs.declared.entry.Entry.TheVariants.{Committed, Replica}
+use Rattle.rt_entry.specs.Download.{LoadsOf}
+use Rattle.rt_entry.specs.Entry.{wanted_by}
 use Rattle.rt_entry.specs.declared.refused.ServerRefused.{ServerRefused}
 use Rattle.rt_entry.specs.declared.refused.ServerRefused.TheVariants as server
 use Rattle.rt_server.specs.Calls.{Asks, AsksFor, Forces, RanOut, Restarts, Seals, SeesIdeal, Stops, Takes, ThroughAt, Transits, TransitsIf, TransitsTo, WroteNothing}
 use Rattle.rt_entry.specs.Calls.{Comes, ReplicaCall, Step, answered_as}
 use Rattle.rt_server.specs.Table.{Segments, ServerState, entry_of, put_back, replica_of, target_of}
 use Rattle.rt_server.specs.Transition.{transit_due}
+use Rattle.rt_server.specs.Download.{Downloads, DownloadsAt, committed_at}
 use Rattle.rt_server.proofs.Kept.{replica_found}
+use Rattle.rt_server.proofs.Loaded.{committed_found}
 use Rattle.rt_server.proofs.Through.{put_same}
 
 abbrev refuse : (X : Type 0) → ServerRefused → Result X ServerRefused
@@ -123,3 +131,21 @@ transits_stay before after old new p q now e h = if_stay (transit_due old.table 
 pub restarts_stay : (before after : Meaning) (old new : ServerState) (e : ServerRefused) → Restarts before after old new (Err e)
     → (new ≡ old) × (e ≡ server.Memory → RanOut before after)
 restarts_stay before after old new e h = (comes_refused _ old new e h.2, λ out. subst (λ x. WroteNothing before after (refuse ℕ x)) out h.3)
+
+-- ---- a download
+
+file_stays : (o : Option Commit) (before after : deep.Meaning) (schema : Schema) (p : Partition) (q : Sequence) (old new : CommittedSegment) (e : ServerRefused)
+    → LoadsOf o before after schema p q old new (refuse ℕ e) → new ≡ old
+file_stays None before after schema p q old new e h = h.2
+file_stays (Some commit) before after schema p q old new e h = comes_refused _ old new e h.2
+
+committed_stays : (o : Option CommittedSegment) (before after : deep.Meaning) (schema : Schema) (old new : Segments) (p : Partition) (q : Sequence) (e : ServerRefused)
+    → committed_at (entry_of old p q) ≡ o → DownloadsAt o before after schema old new p q (refuse ℕ e) → new ≡ old
+committed_stays None before after schema old new p q e found h = h.2
+committed_stays (Some c) before after schema old new p q e found h =
+    let same : h.0 ≡ c = file_stays (wanted_by c.file c.done.meta.status) before after schema p q c h.0 e h.1 in
+    h.2 ∙ ap (λ n. put_back old p q (Committed n)) same ∙ put_same old p q (Committed c) (committed_found (entry_of old p q) c found)
+
+pub downloads_stay : (before after : deep.Meaning) (schema : Schema) (old new : Segments) (p : Partition) (q : Sequence) (e : ServerRefused)
+    → Downloads before after schema old new p q (refuse ℕ e) → new ≡ old
+downloads_stay before after schema old new p q e h = committed_stays (committed_at (entry_of old p q)) before after schema old new p q e refl h

@@ -51,9 +51,9 @@ pub fn calls_over_told_stores_are_exact()
         × Comes (restarted_by old (answer_on t (answer_of (λ w. w.version) (bump old.numbers.instance)))) old new result }
 {}
 
-/// A refused call of a segment's replica leaves all entries as they were. A refused call of a store leaves the server as it was,
-/// and a restart that ran out of memory has written nothing.
-#[tactic(auto, using(crate::proofs::Unchanged::takes_stay, crate::proofs::Unchanged::forces_stay, crate::proofs::Unchanged::stops_stay, crate::proofs::Unchanged::seals_stay, crate::proofs::Unchanged::asks_stay, crate::proofs::Unchanged::asks_for_stay))]
+/// A refused call of a segment's replica leaves all entries as they were, and so does a download that is refused. A refused call
+/// of a store leaves the server as it was, and a restart that ran out of memory has written nothing.
+#[tactic(auto, using(crate::proofs::Unchanged::takes_stay, crate::proofs::Unchanged::forces_stay, crate::proofs::Unchanged::stops_stay, crate::proofs::Unchanged::seals_stay, crate::proofs::Unchanged::asks_stay, crate::proofs::Unchanged::asks_for_stay, crate::proofs::Unchanged::downloads_stay))]
 pub fn a_refused_call_changes_nothing()
     ensures takes { (before after : FeedMeaning) (old new : Segments) (p : Partition) (q : Sequence) (max : ℕ) (now : Moment)
         (e : ServerRefused) → Takes before after old new p q max now (Err e) → new ≡ old }
@@ -70,6 +70,8 @@ pub fn a_refused_call_changes_nothing()
         → Transits before after old new p q now (Err e) → new ≡ old }
     ensures restarts { (before after : Meaning) (old new : ServerState) (e : ServerRefused)
         → Restarts before after old new (Err e) → (new ≡ old) × (e ≡ Memory → RanOut before after) }
+    ensures downloads { (before after : deep.Meaning) (schema : Schema) (old new : Segments) (p : Partition) (q : Sequence)
+        (e : ServerRefused) → Downloads before after schema old new p q (Err e) → new ≡ old }
 {}
 
 /// A fault of a store or the deep store is answered only where its count of faults rose in the call.
