@@ -1,6 +1,7 @@
 -- An answer that is given in a safe world is right.
-use Rattle.std.proofs.Common.{◌≡◌, ℕ, ◌<◌, List, Option, Some, None, Result, Ok, refl, sym, ◌∙◌, ap, subst, arith}
+use Rattle.std.proofs.Common.{◌≡◌, ℕ, zero, suc, ◌<◌, ◌≤◌, List, [], ◌∷◌, length, get_or, Option, Some, None, Result, Ok, refl, sym, ◌∙◌, ap, subst, arith}
 use Rattle.rt_assign.specs.Placement.{replicas_of}
+use Rattle.rt_base.specs.declared.numbers.Partition.{Partition}
 use Rattle.rt_broker.specs.Asking.{Asking}
 use Rattle.rt_broker.specs.IsAsked.{messages_in}
 use Rattle.rt_broker.specs.declared.refused.BrokerRefused.{BrokerRefused}
@@ -18,6 +19,7 @@ use Rattle.rt_state.specs.IsSafe.{past_of}
 use Rattle.rt_state.specs.IsSafeWorld.{IsSafeWorld}
 use Rattle.rt_state.specs.Queries.{AnswersAt, IsAnswerOf}
 use Rattle.rt_safety.specs.Runs.{Turn, happens, TurnsTo, Runs}
+use Rattle.rt_stream.specs.Log.{Log, messages_of}
 use Rattle.rt_world.specs.Step.{Steps}
 use Rattle.rt_state.specs.declared.cost.Cost.{Cost}
 use Rattle.rt_state.specs.declared.state.State.{State}
@@ -27,8 +29,16 @@ use Rattle.rt_safety.proofs.Later.{runs_are_safe}
 abbrev given : Answer → Result Answer BrokerRefused
 given answer = Ok answer
 
-few_messages : (w : State) → IsSafeWorld w → messages_in w.log < 9223372036854775808
+pub few_messages : (w : State) → IsSafeWorld w → messages_in w.log < 9223372036854775808
 few_messages w s = omega (arith, s.few.appended, s.few.events)
+
+one_within : (log : Log) (i : ℕ) → length (get_or log i []) ≤ messages_in log
+one_within [] i = omega arith
+one_within (ms ∷ log) zero = omega arith
+one_within (ms ∷ log) (suc i) = omega (arith, one_within log i)
+
+pub few_at : (w : State) (p : Partition) → IsSafeWorld w → length (messages_of w.log p) < 9223372036854775808
+few_at w p s = omega (arith, one_within w.log p.0, few_messages w s)
 
 answer_of : (w : State) (q : ℕ) (a : Asking) (answer : Answer) → IsSafeWorld w → query_at w q ≡ Some a → IsAnswerOf a answer → IsAnswered w q answer
 answer_of w q a answer s there k =

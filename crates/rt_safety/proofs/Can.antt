@@ -52,9 +52,10 @@ use Rattle.rt_nodes.specs.Repairs.{begun, going_on, NodeRepairsAt, NodeRetiresAt
 use Rattle.rt_repair.proofs.Realized.{retire_steps_told, steps_told}
 use Rattle.rt_repair.specs.Told.{repair_at, retire_at}
 use Rattle.rt_safety.proofs.ControllersCan.{repair_gives, request_gives, retire_gives, stands_at, work_gives}
-use Rattle.rt_safety.proofs.QueriesCan.{gives_can, routes_can}
+use Rattle.rt_safety.proofs.QueriesCan.{answers_can, gives_can, routes_can}
+use Rattle.rt_safety.proofs.Sealing.{seals_can}
 use Rattle.rt_safety.proofs.ServersCan.{asks_can, asks_for_can, builds_can, consumes_can, forces_can, loads_can, moves_can, restarts_can, sees_can, stops_can}
-use Rattle.rt_safety.specs.Possible.{IsMade}
+use Rattle.rt_safety.specs.Possible.{IsTyped}
 use Rattle.rt_state.proofs.NeedsNodes.{crash_server_needs, deliver_needs, job_needs, lead_needs, repair_needs, reply_needs, restart_controller_needs, restart_server_needs, retain_needs}
 use Rattle.rt_state.proofs.NeedsQueries.{answer_needs, piece_needs, route_needs}
 use Rattle.rt_state.proofs.NeedsServers.{build_needs, consume_needs, download_needs, extend_needs, force_needs, report_needs, see_needs, stop_needs, transit_needs}
@@ -148,30 +149,30 @@ some_there : {X : Type 0} (o : Option X) → is_some o ≡ true → (x : X) × (
 some_there None e = absurd (cc)
 some_there (Some x) e = (x, refl)
 
-event_can : (w : State) (e : Event) (cost : Cost) → IsSafeWorld w → IsMade w e → due_at w e ≡ Ok cost → CanGo w (way_of w e)
-event_can w (event.Lead c on) cost s made due = let n = stands_at w.controllers c.0 (lead_needs w c cost due).0 in (n.0, n.1, tt)
-event_can w (event.CrashController c) cost s made due = let n = stands_at w.controllers c.0 (lead_needs w c cost due).0 in (n.0, n.1, tt)
-event_can w (event.RestartController c) cost s made due = let n = stands_at w.controllers c.0 (restart_controller_needs w c cost due).0 in (n.0, n.1, tt)
-event_can w (event.Consume i p q max) cost s made due =
+event_can : (w : State) (e : Event) (cost : Cost) → IsSafeWorld w → IsTyped w e → due_at w e ≡ Ok cost → CanGo w (way_of w e)
+event_can w (event.Lead c on) cost s typed due = let n = stands_at w.controllers c.0 (lead_needs w c cost due).0 in (n.0, n.1, tt)
+event_can w (event.CrashController c) cost s typed due = let n = stands_at w.controllers c.0 (lead_needs w c cost due).0 in (n.0, n.1, tt)
+event_can w (event.RestartController c) cost s typed due = let n = stands_at w.controllers c.0 (restart_controller_needs w c cost due).0 in (n.0, n.1, tt)
+event_can w (event.Consume i p q max) cost s typed due =
     let k = consume_needs w i p q max cost s due in
     let n = stands_at w.servers i.0 k.0 in (n.0, n.1, consumes_can n.0 p q w.log max w.moment (k.2 n.0 n.1).1)
-event_can w (event.Force i p q) cost s made due =
+event_can w (event.Force i p q) cost s typed due =
     let k = force_needs w i p q cost due in
     let n = stands_at w.servers i.0 k.0 in (n.0, n.1, forces_can n.0 p q (k.2 n.0 n.1))
-event_can w (event.Stop i p q) cost s made due =
+event_can w (event.Stop i p q) cost s typed due =
     let k = stop_needs w i p q cost due in
     let n = stands_at w.servers i.0 k.0 in (n.0, n.1, stops_can n.0 p q (k.2 n.0 n.1))
-event_can w (event.Build i p q) cost s made due =
+event_can w (event.Build i p q) cost s typed due =
     let k = build_needs w i p q cost due in
     let n = stands_at w.servers i.0 k.0 in
-    (n.0, n.1, builds_can n.0 p q (λ r found. made r (ap (λ o. replica_in o p q) n.1 ∙ found)) (k.2 n.0 n.1))
-event_can w (event.Report i p q) cost s made due =
+    (n.0, n.1, builds_can n.0 p q (λ r found builds. seals_can w i.0 n.0 p q r s n.1 found builds (typed r (ap (λ o. replica_in o p q) n.1 ∙ found))) (k.2 n.0 n.1))
+event_can w (event.Report i p q) cost s typed due =
     let k = report_needs w i p q cost s due in
     let n = stands_at w.servers i.0 k.0 in (n.0, n.1, asks_can n.0 p q (k.2 n.0 n.1).1)
-event_can w (event.Extend i p q millis) cost s made due =
+event_can w (event.Extend i p q millis) cost s typed due =
     let k = extend_needs w i p q cost s due in
     let n = stands_at w.servers i.0 k.0 in (n.0, n.1, asks_for_can n.0 p q millis (k.2 n.0 n.1).1)
-event_can w (event.Deliver m c) cost s made due =
+event_can w (event.Deliver m c) cost s typed due =
     let k = deliver_needs w m c cost s due in
     let q = some_there (request_at w m) k.0 in
     let n = stands_at w.controllers c.0 k.1 in
@@ -190,7 +191,7 @@ event_can w (event.Deliver m c) cost s made due =
         ),
       ),
     )
-event_can w (event.Job c j) cost s made due =
+event_can w (event.Job c j) cost s typed due =
     let k = job_needs w c j cost s due in
     let n = stands_at w.controllers c.0 k.1 in
     let has = subst (λ o. has_job_in o j ≡ true) n.1 k.0 in
@@ -207,23 +208,23 @@ event_can w (event.Job c j) cost s made due =
         made_work w.store w.deep n.0.controller j w.moment x.0 s.safe.past.once x.1,
       ),
     )
-event_can w (event.Reply m) cost s made due =
+event_can w (event.Reply m) cost s typed due =
     let k = reply_needs w m cost due in
     let n = stands_at w.servers k.0.number.instance.0 k.2 in (k.0, k.1, (n.0, n.1, tt))
-event_can w (event.CrashServer i) cost s made due =
+event_can w (event.CrashServer i) cost s typed due =
     let n = stands_at w.servers i.0 (crash_server_needs w i cost due).0 in (n.0, n.1, (node_crashed n.0, told.Down, (refl, refl)))
-event_can w (event.RestartServer i) cost s made due =
+event_can w (event.RestartServer i) cost s typed due =
     let n = stands_at w.servers i.0 (restart_server_needs w i cost due).0 in (n.0, n.1, restarts_can w.store n.0)
-event_can w (event.See i) cost s made due =
+event_can w (event.See i) cost s typed due =
     let n = stands_at w.servers i.0 (see_needs w i cost s due).0 in (n.0, n.1, sees_can w.store n.0)
-event_can w (event.Transit i p q) cost s made due =
+event_can w (event.Transit i p q) cost s typed due =
     let k = transit_needs w i p q cost s due in
     let n = stands_at w.servers i.0 k.0 in (n.0, n.1, moves_can w.store n.0 p q w.moment (k.2 n.0 n.1).2)
-event_can w (event.Download i p q) cost s made due =
+event_can w (event.Download i p q) cost s typed due =
     let k = download_needs w i p q cost s due in
     let n = stands_at w.servers i.0 k.0 in
     let d = k.2 n.0 n.1 in (n.0, n.1, loads_can w.deep n.0 p q s.safe.past.once d.0 d.1)
-event_can w (event.Repair c p) cost s made due =
+event_can w (event.Repair c p) cost s typed due =
     let k = repair_needs w c p cost s due in
     let n = stands_at w.controllers c.0 k.0 in
     let there = k.3 n.0 n.1 in
@@ -241,7 +242,7 @@ event_can w (event.Repair c p) cost s made due =
         (x.0.repair, steps_told w.store r w.moment x.0 r.stage x.1, refl),
       ),
     )
-event_can w (event.Retain c p) cost s made due =
+event_can w (event.Retain c p) cost s typed due =
     let k = retain_needs w c p cost s due in
     let n = stands_at w.controllers c.0 k.0 in
     let there = k.2 n.0 n.1 in
@@ -259,31 +260,31 @@ event_can w (event.Retain c p) cost s made due =
         (x.0.retire, retire_steps_told w.store r w.moment x.0 r.stage x.1, refl),
       ),
     )
-event_can w (event.Route q p) cost s made due =
+event_can w (event.Route q p) cost s typed due =
     let k = route_needs w q p cost s due in
     let o = stands_at w.queries q k.0 in
     let a = k.1 o.0 o.1 in
     let c = routes_can w.store a.0 p a.3 in (a.0, o.1 ∙ ap (λ (x : Option Asking). Some x) a.1, c.0, c.1, c.2, c.3)
-event_can w (event.Piece q p r i) cost s made due =
+event_can w (event.Piece q p r i) cost s typed due =
     let k = (piece_needs w q p r i cost s due).0 in
     let a = k.asks.asked in
     let piece = k.asks.piece in
     let at = query_there w q a k.asks.there in
     let n = stands_at w.servers i.0 k.server in
-    let c = gives_can n.0 piece a.query (made a piece n.0 k.asks.there k.asks.planned n.1) in
+    let c = gives_can w i.0 n.0 piece a.query s n.1 k.asks.ordered (k.asks.read n.0 n.1) in
     let g : GivesPiece w q p r i piece c.0 =
     record { asked = a; node = n.0; there = k.asks.there; stands = n.1; planned = k.asks.planned; gives = c.1 } in
     (a, at, piece, k.asks.planned, (n.0, n.1, (noted a piece i c.0, c.0, c.1, (k.due a piece c.0 at g, refl))))
-event_can w (event.Answer q) cost s made due =
+event_can w (event.Answer q) cost s typed due =
     let a = (answer_needs w q cost s due).0 in
-    let c = made a.0 a.1 in (a.0, a.1, c.0, c.1)
-event_can w e cost s made due = tt
+    let c = answers_can w q a.0 s a.1 a.2 in (a.0, a.1, c.0, c.1)
+event_can w e cost s typed due = tt
 
 dropped_fine : (due : Due) → dropped due ≡ Ok tt → (c : Cost) × (due ≡ Ok c)
 dropped_fine (Ok c) e = (c, refl)
 dropped_fine (Err f) e = absurd (cc)
 
-pub due_happens : (w : State) (e : Event) → IsSafeWorld w → IsMade w e → due_of w e ≡ Ok tt → (y : State) × (outcome : Outcome) × Steps w e y (Ok outcome)
-due_happens w e s made due =
+pub due_happens : (w : State) (e : Event) → IsSafeWorld w → IsTyped w e → due_of w e ≡ Ok tt → (y : State) × (outcome : Outcome) × Steps w e y (Ok outcome)
+due_happens w e s typed due =
     let d = dropped_fine (due_at w e) due in
-    let x = can_go w (way_of w e) d.0 (event_can w e d.0 s made d.1) in (x.0.0, x.0.1, (d.0, d.1, x.1))
+    let x = can_go w (way_of w e) d.0 (event_can w e d.0 s typed d.1) in (x.0.0, x.0.1, (d.0, d.1, x.1))

@@ -3,6 +3,7 @@ pub mod AbsentJobs
 pub mod AbsentNodes
 pub mod Adds
 pub mod AddsEvents
+pub mod Alike
 pub mod AlwaysPresent
 pub mod Answering
 pub mod Can
@@ -12,6 +13,7 @@ pub mod Committed
 pub mod ControllersCan
 pub mod Counting
 pub mod Given
+pub mod Grouping
 pub mod JobsOn
 pub mod Later
 pub mod Marks
@@ -19,6 +21,7 @@ pub mod OwnLimits
 pub mod Produced
 pub mod QueriesCan
 pub mod Runs
+pub mod Sealing
 pub mod ServersCan
 pub mod Setting
 pub mod Spares

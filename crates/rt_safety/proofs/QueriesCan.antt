@@ -1,43 +1,66 @@
 -- A step of the broker that is due can be made, over a store that tells everything.
-use Rattle.std.proofs.Common.{◌≡◌, ◌==◌, Bool, true, false, cond, List, length, map, Option, Some, None, Result, Ok, Err, refl}
+use Rattle.std.proofs.Common.{◌≡◌, ◌==◌, ◌-◌, ◌<◌, ◌≤◌, ℕ, arith, Bool, true, false, cond, List, drop, length, map, Option, Some, None, Result, Ok, Err, refl, slice_get, subst, sym, take}
+use Rattle.std.proofs.lemmas.List.{length-drop, length-take}
+use Rattle.std.specs.Prelude.{IfSome}
+use Rattle.rt_agg.specs.Grouped.{Grouped, Holds}
 use Rattle.rt_base.specs.Faults.{answer_under, fault_of}
-use Rattle.rt_base.specs.declared.fault.Fault.{Fault}
 use Rattle.rt_base.specs.declared.fault.Fault.TheVariants.{Nothing, Lost, Kept}
+use Rattle.rt_base.specs.declared.fault.Fault.{Fault}
 use Rattle.rt_base.specs.declared.numbers.Offset.{Offset}
 use Rattle.rt_base.specs.declared.numbers.Partition.{Partition}
 use Rattle.rt_base.specs.declared.range.Range.{Range}
-use Rattle.rt_broker.specs.Asking.{Asking, is_tried, unasked, with_route}
-use Rattle.rt_broker.specs.declared.piece_got.PieceGot.{PieceGot}
+use Rattle.rt_broker.proofs.Answered.{asked_served}
+use Rattle.rt_broker.proofs.Causes.{answer_caused}
+use Rattle.rt_broker.specs.Answering.{routed_of, rows_held, rows_in_log, served_of}
+use Rattle.rt_broker.specs.Asking.{Asking, is_answer_due, is_tried, unasked, with_route}
 use Rattle.rt_broker.specs.declared.piece_got.PieceGot.TheVariants as got
+use Rattle.rt_broker.specs.declared.piece_got.PieceGot.{PieceGot}
 use Rattle.rt_broker.specs.declared.refused.BrokerRefused.TheVariants as broker
+use Rattle.rt_broker.specs.declared.refused.BrokerRefused.{BrokerRefused}
 use Rattle.rt_broker.specs.declared.route.Route.TheVariants as route
-use Rattle.rt_consumer.specs.declared.phase.Phase.{Phase}
 use Rattle.rt_consumer.specs.declared.phase.Phase.TheVariants as phase
+use Rattle.rt_consumer.specs.declared.phase.Phase.{Phase}
 use Rattle.rt_entry.specs.Serving.{file_end, file_range, range_to, rows_end, rows_range, serve_file, serve_loaded, serve_phase, served_over}
-use Rattle.rt_entry.specs.declared.entry.Entry.{Entry}
 use Rattle.rt_entry.specs.declared.entry.Entry.TheVariants.{Replica, Committed}
-use Rattle.rt_entry.specs.declared.refused.ServeRefused.{ServeRefused}
+use Rattle.rt_entry.specs.declared.entry.Entry.{Entry}
 use Rattle.rt_entry.specs.declared.refused.ServeRefused.TheVariants.{NotServed, Memory}
+use Rattle.rt_entry.specs.declared.refused.ServeRefused.{ServeRefused}
 use Rattle.rt_entry.specs.declared.served_rows.ServedRows.{ServedRows}
-use Rattle.rt_events.specs.declared.outcome.Outcome.{Outcome}
 use Rattle.rt_events.specs.declared.outcome.Outcome.TheVariants as told
+use Rattle.rt_events.specs.declared.outcome.Outcome.{Outcome}
+use Rattle.rt_model.specs.Aggregate.{result_rows, taken}
+use Rattle.rt_model.specs.Checked.{IsQuery}
+use Rattle.rt_model.specs.Match.{passes}
 use Rattle.rt_model.specs.Metadata.{metadata_of}
 use Rattle.rt_model.specs.Plan.{plan_of}
+use Rattle.rt_model.specs.RightAnswer.{missing_of, named_ranges}
+use Rattle.rt_model.specs.declared.answer.Answer.{Answer}
 use Rattle.rt_model.specs.declared.piece.Piece.{Piece}
 use Rattle.rt_model.specs.declared.query.Query.{Query}
+use Rattle.rt_model.specs.declared.setup.Setup.{Setup}
 use Rattle.rt_nodes.specs.Queries.{Gives, GivesIf, GivesUp, QueryRoutes}
 use Rattle.rt_nodes.specs.declared.server_node.ServerNode.{ServerNode}
+use Rattle.rt_safety.proofs.Alike.{alike_answered}
+use Rattle.rt_safety.proofs.Answering.{few_at, few_messages}
 use Rattle.rt_safety.proofs.Given.{given_calls, list_given}
-use Rattle.rt_safety.specs.Possible.{HasGroups}
+use Rattle.rt_safety.proofs.Grouping.{groups_of_messages}
 use Rattle.rt_schema.specs.declared.row.Row.{Row}
 use Rattle.rt_segment.specs.Segment.{SealedSegment}
+use Rattle.rt_server.proofs.LastingServes.{serves_right}
 use Rattle.rt_server.specs.Serving.{serve, serve_at}
 use Rattle.rt_server.specs.Table.{entry_of}
+use Rattle.rt_state.specs.Finding.{query_at}
+use Rattle.rt_state.specs.IsSafe.{past_of}
+use Rattle.rt_state.specs.IsSafeWorld.{IsSafeWorld}
+use Rattle.rt_state.specs.Queries.{IsAnswerOf}
+use Rattle.rt_state.specs.declared.state.State.{State}
 use Rattle.rt_store.specs.Answers.{listing}
 use Rattle.rt_store.specs.Calls.{Lists, told_on}
 use Rattle.rt_store.specs.Meaning.{Told}
 use Rattle.rt_store.specs.Memory.{means}
 use Rattle.rt_store.specs.declared.refused.StoreRefused.TheVariants as store
+use Rattle.rt_stream.specs.Log.{messages_of}
+use Rattle.rt_world.proofs.KeepsQueries.{asked_there}
 
 -- ---- a route
 
@@ -103,15 +126,57 @@ at_served piece None = tt
 at_served piece (Some (Replica r)) = phase_served piece r.phase
 at_served piece (Some (Committed c)) = loaded_served piece c.file
 
-module _ (n : ServerNode) (piece : Piece) (query : Query) where
-  up_can : (r : Result ServedRows ServeRefused) → serve n.server.table piece ≡ r → IsServed r → HasGroups query r → (what : PieceGot) × GivesUp n piece query what
-  up_can (Ok rows) e served g = (got.Served (record { range = rows.range; groups = g.0 }), (rows, e, refl, g.1))
-  up_can (Err (NotServed reached)) e served g = (got.NotServed, (reached, e))
-  up_can (Err Memory) e served g = absurd served
+module _ (n : ServerNode) (piece : Piece) (query : Query) (group : (rows : ServedRows) → serve n.server.table piece ≡ Ok rows → (g : Grouped) × Holds query (taken query rows.rows) g) where
+  up_can : (r : Result ServedRows ServeRefused) → serve n.server.table piece ≡ r → IsServed r → (what : PieceGot) × GivesUp n piece query what
+  up_can (Ok rows) e served =
+      let g = group rows e in
+      (got.Served (record { range = rows.range; groups = g.0 }), (rows, e, refl, g.1))
+  up_can (Err (NotServed reached)) e served = (got.NotServed, (reached, e))
+  up_can (Err Memory) e served = absurd served
 
-  if_can : (b : Bool) → HasGroups query (serve n.server.table piece) → (what : PieceGot) × GivesIf b n piece query what
-  if_can false g = (got.Down, refl)
-  if_can true g = up_can (serve n.server.table piece) refl (at_served piece (entry_of n.server.table piece.partition piece.sequence)) g
+  if_can : (b : Bool) → (what : PieceGot) × GivesIf b n piece query what
+  if_can false = (got.Down, refl)
+  if_can true = up_can (serve n.server.table piece) refl (at_served piece (entry_of n.server.table piece.partition piece.sequence))
 
-  pub gives_can : HasGroups query (serve n.server.table piece) → (what : PieceGot) × Gives n piece query what
-  gives_can g = if_can n.up g
+-- what a server serves are rows of the stream, and the broker asks for what can be read of them
+pub gives_can : (w : State) (i : ℕ) (n : ServerNode) (piece : Piece) (query : Query) → IsSafeWorld w → slice_get w.servers i ≡ Some n
+    → IfSome piece.end (λ end. piece.start.0 ≤ end.0) → IsQuery n.server.setup.schema query → (what : PieceGot) × Gives n piece query what
+gives_can w i n piece query s stands order is_query = if_can n piece query group n.up
+  where
+    group : (rows : ServedRows) → serve n.server.table piece ≡ Ok rows → (g : Grouped) × Holds query (taken query rows.rows) g
+    group rows e =
+        let over = (s.safe.servers i n stands).over in
+        let ms = messages_of w.log piece.partition in
+        let right = serves_right w.setup (past_of w) n.server over piece rows order e in
+        let range = take (rows.range.end.0 - rows.range.start.0) (drop rows.range.start.0 ms) in
+        let of_schema = subst (λ (x : Setup). IsQuery x.schema query) over.of_setup is_query in
+        let few : length range < 9223372036854775808 =
+        omega (
+          arith,
+          length-take (rows.range.end.0 - rows.range.start.0) (drop rows.range.start.0 ms),
+          length-drop rows.range.start.0 ms,
+          few_at w piece.partition s,
+        ) in
+        subst (λ (rs : List Row). (g : Grouped) × Holds query (taken query rs) g) (sym right.rows)
+        (groups_of_messages w.setup.schema query of_schema (passes query.filter) range few)
+
+-- ---- an answer
+
+abbrev given : Answer → Result Answer BrokerRefused
+given answer = Ok answer
+
+-- the served groups hold the rows of the stream, and whatever else they hold is answered alike
+pub answers_can : (w : State) (q : ℕ) (a : Asking) → IsSafeWorld w → query_at w q ≡ Some a → is_answer_due a ≡ true → (answer : Answer) × IsAnswerOf a answer
+answers_can w q a s there due =
+    let served = asked_served w.setup (past_of w) a (asked_there w q a s.safe there).over s.safe.past (few_messages w s) in
+    let rows = rows_in_log w.setup.schema w.log a.query in
+    let answer : Answer =
+    record { ranges = named_ranges (routed_of a); missing = missing_of (routed_of a); rows = result_rows a.query (rows_held rows (served_of a)) } in (
+      answer,
+      record {
+        ranges = refl;
+        missing = refl;
+        rows = λ others held few. alike_answered a.query rows others (served_of a) served.held held;
+        causes = answer_caused a (given answer) due refl;
+      },
+    )

@@ -1,7 +1,6 @@
 -- A server's step that is due can be made, over a store and a deep store that tell everything.
-use Rattle.std.proofs.Common.{◌≡◌, ◌+◌, ◌&&◌, ℕ, Bool, true, false, cond, List, [], ◌∷◌, Option, Some, None, Result, Ok, Err, refl, sym, ◌∙◌, ap, subst, is_some, nat_lt, option_map, ◌||◌}
+use Rattle.std.proofs.Common.{◌≡◌, ◌+◌, ◌&&◌, ℕ, Bool, true, false, cond, List, Option, Some, None, Result, Ok, Err, refl, sym, ◌∙◌, ap, subst, is_some, nat_lt, option_map, ◌||◌}
 use Rattle.std.proofs.lemmas.Option.{none-some}
-use Rattle.std.specs.Map.{lookup, set_value}
 use Rattle.rt_base.specs.declared.header.Header.{Header}
 use Rattle.rt_base.specs.declared.numbers.Moment.{Moment}
 use Rattle.rt_base.specs.declared.numbers.Partition.{Partition}
@@ -32,6 +31,7 @@ use Rattle.rt_model.specs.declared.node.Key.TheVariants as key
 use Rattle.rt_model.specs.declared.node.Seen.{Seen}
 use Rattle.rt_model.specs.declared.replica_state.ReplicaState.{ReplicaState}
 use Rattle.rt_model.specs.declared.request.Request.{Request}
+use Rattle.rt_nodes.proofs.Standing.{put_stands}
 use Rattle.rt_nodes.specs.Lives.{is_answered, NodeRestarts, up_in_incarnation}
 use Rattle.rt_nodes.specs.Refused.{outcome_by}
 use Rattle.rt_nodes.specs.Replicas.{builds_now, built_in, consumed_in, forces_now, NodeBuilds, NodeConsumes, NodeForces, NodeStops, passes, standing_in, stops_in, stops_now, takes_now}
@@ -68,8 +68,7 @@ use Rattle.rt_store.specs.Meaning.{Meaning}
 use Rattle.rt_stream.proofs.Growth.{log_same}
 use Rattle.rt_safety.proofs.Given.{get_given, given_calls, given_deep_calls, Gives, IsGivenDeep, IsGiven, read_given, write_given}
 use Rattle.rt_server.specs.Calls.{answered_by, restarted_in, seen_in, stepped_by, Through, ThroughAt, TransitsIf, TransitsTo}
-use Rattle.rt_server.proofs.Kept.{replica_found}
-use Rattle.rt_server.specs.Table.{is_segment, put_back, replica_at, replica_of, Segments, ServerState, target_of}
+use Rattle.rt_server.specs.Table.{put_back, replica_of, Segments, ServerState, target_of}
 use Rattle.rt_server.specs.Transition.{moved_if, transit_due, transited}
 use Rattle.rt_store.specs.Answers.{after_call, answer_of, reading}
 use Rattle.rt_store.specs.Calls.{answer_on, told_on}
@@ -266,22 +265,6 @@ through quiet call t p q r next x found c =
 abbrev with_replica : ServerNode → Partition → Sequence → Consumer → ServerNode
 with_replica n p q next = record n { server = record n.server { table = put_back n.server.table p q (Replica next) } }
 
-abbrev the : {X : Type 0} → X → Option X
-the x = Some x
-
-found_again : {K X : Type 0} (test : K → Bool) (es : List (K × X)) (old new : X) → lookup test es ≡ the old → lookup test (set_value test es new) ≡ the new
-found_again test [] old new found = absurd (cc)
-found_again {K} {X} test (e ∷ es) old new found = by (test e.0) refl (λ h. found_again test es old new h) found
-  where
-    by : (b : Bool) → test e.0 ≡ b → (lookup test es ≡ the old → lookup test (set_value test es new) ≡ the new)
-        → cond b (the e.1) (lookup test es) ≡ the old → lookup test (cond b ((e.0, new) ∷ es) (e ∷ set_value test es new)) ≡ the new
-    by true is again h = ap (λ b. cond b (the new) (lookup test es)) is
-    by false is again h = ap (λ b. cond b (the e.1) (lookup test (set_value test es new))) is ∙ again h
-
-put_stands : (t : Segments) (p : Partition) (q : Sequence) (r next : Consumer) → replica_of t p q ≡ the r → replica_of (put_back t p q (Replica next)) p q ≡ the next
-put_stands t p q r next found =
-    ap replica_at (found_again (is_segment p q) t.entries (Replica r) (Replica next) (replica_found (entry_of t p q) r found))
-
 told_of : (n : ServerNode) (p : Partition) (q : Sequence) (r next : Consumer) (tell : Option Consumer → Option Outcome) (o : Outcome) → replica_of n.server.table p q ≡ Some r
     → tell (Some next) ≡ Some o → tell (replica_of (with_replica n p q next).server.table p q) ≡ Some o
 told_of n p q r next tell o found tells = ap tell (put_stands n.server.table p q r next found) ∙ tells
@@ -404,11 +387,11 @@ module _ (n : ServerNode) (p : Partition) (q : Sequence) where
         ),
       )
 
-  pub builds_can : ((r : Consumer) → replica_of n.server.table p q ≡ Some r → (file : SealedSegment) × IsSealedOf r r.phase file)
+  pub builds_can : ((r : Consumer) → replica_of n.server.table p q ≡ Some r → builds_now r ≡ true → (file : SealedSegment) × IsSealedOf r r.phase file)
       → passes builds_now (replica_of n.server.table p q) ≡ true → (new : ServerNode) × (o : Outcome) × NodeBuilds p q n new o
   builds_can seals due =
       let r = replica_there builds_now (replica_of n.server.table p q) due in
-      let file = seals r.0 r.1 in
+      let file = seals r.0 r.1 r.2 in
       let next = moved_to r.0 (filed r.0.phase file.0) in
       let o = told.Built (rows_in next.phase) (state_of next.phase) in (
         with_replica n p q next,

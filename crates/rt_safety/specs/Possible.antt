@@ -1,34 +1,42 @@
--- What nodes make of rows, where an event can happen only once that is made.
-use Rattle.std.specs.Prelude.{◌≡◌, slice_get, Some, Result, Ok, Err}
-use Rattle.rt_agg.specs.Grouped.{Grouped, Holds}
-use Rattle.rt_broker.specs.Asking.{Asking, piece_at}
-use Rattle.rt_consumer.specs.Requests.{IsSealedOf}
+-- What an event needs to happen beside being due.
+use Rattle.std.specs.Prelude.{◌≡◌, ◌≤◌, ◌<◌, ◌^◌, FitsSigned, Some, length}
+use Rattle.std.specs.Int.{w32, w64}
+use Rattle.std.specs.List.{All}
+use Rattle.std.specs.Str.{IsUtf8}
 use Rattle.rt_consumer.specs.declared.consumer.Consumer.{Consumer}
-use Rattle.rt_entry.specs.declared.refused.ServeRefused.{ServeRefused}
-use Rattle.rt_entry.specs.declared.served_rows.ServedRows.{ServedRows}
+use Rattle.rt_consumer.specs.declared.phase.Phase.{Phase}
+use Rattle.rt_consumer.specs.declared.phase.Phase.TheVariants as phase
 use Rattle.rt_events.specs.declared.event.Event.{Event}
 use Rattle.rt_events.specs.declared.event.Event.TheVariants as event
-use Rattle.rt_model.specs.Aggregate.{taken}
-use Rattle.rt_model.specs.declared.answer.Answer.{Answer}
-use Rattle.rt_model.specs.declared.piece.Piece.{Piece}
-use Rattle.rt_model.specs.declared.query.Query.{Query}
-use Rattle.rt_nodes.specs.declared.server_node.ServerNode.{ServerNode}
-use Rattle.rt_segment.specs.Segment.{SealedSegment}
-use Rattle.rt_server.specs.Serving.{serve}
-use Rattle.rt_state.specs.Finding.{query_at, replica_at}
-use Rattle.rt_state.specs.Queries.{IsAnswerOf}
+use Rattle.rt_mutable.specs.Column.{Shape}
+use Rattle.rt_mutable.specs.Consuming.{Consuming, Placed}
+use Rattle.rt_schema.specs.declared.value.Value.{Value}
+use Rattle.rt_schema.specs.declared.value.Value.TheVariants as value
+use Rattle.rt_state.specs.Finding.{replica_at}
 use Rattle.rt_state.specs.declared.state.State.{State}
 
--- groups hold the rows that a query takes of what is served
-abbrev pub HasGroups : Query → Result ServedRows ServeRefused → Type 0
-HasGroups query (Ok rows) = (g : Grouped) × Holds query (taken query rows.rows) g
-HasGroups query (Err refused) = Unit {0}
+-- a value as a row of the program has it: a whole number of 32 or of 64 bits, and a text of at most 65,536 bytes
+abbrev pub IsOfTypes : Value → Type 0
+IsOfTypes (value.Int z) = FitsSigned w32 z
+IsOfTypes (value.Long z) = FitsSigned w64 z
+IsOfTypes (value.Text s) = IsUtf8 s × (length s ≤ 65536)
+IsOfTypes (value.Bool b) = Unit {0}
+IsOfTypes (value.Time z) = FitsSigned w64 z
 
--- `build` seals a file of the replica's rows, `piece` groups what is served, and `answer` answers over what was noted
-abbrev pub IsMade : State → Event → Type 0
-IsMade w (event.Build i p q) = (r : Consumer) → replica_at w i p q ≡ Some r → (file : SealedSegment) × IsSealedOf r r.phase file
-IsMade w (event.Piece q p s i) =
-    (a : Asking) (piece : Piece) (n : ServerNode) → query_at w q ≡ Some a → piece_at a p s ≡ Some piece → slice_get w.servers i.0 ≡ Some n
-    → HasGroups a.query (serve n.server.table piece)
-IsMade w (event.Answer q) = (a : Asking) → query_at w q ≡ Some a → (answer : Answer) × IsAnswerOf a answer
-IsMade w other = Unit {0}
+-- rows as a replica of the program has them
+pub record AreOfTypes (rows : Consuming) : Type 0 where
+  pub few : length rows.rows ≤ 1000000
+  pub values : All (λ (placed : Placed). All IsOfTypes placed.row.values) rows.rows
+  pub names : All (λ (shape : Shape). IsUtf8 shape.name) rows.columns
+
+abbrev pub HoldsTypes : Phase → Type 0
+HoldsTypes (phase.Unsealed o) = AreOfTypes o.rows
+HoldsTypes (phase.Retained kept) = Unit {0}
+HoldsTypes (phase.Committed kept) = Unit {0}
+HoldsTypes (phase.Discarded d) = Unit {0}
+
+-- each state of the program meets this: a replica that seals its rows has rows, and a number of its segment, such as their
+-- types hold
+abbrev pub IsTyped : State → Event → Type 0
+IsTyped w (event.Build i p q) = (r : Consumer) → replica_at w i p q ≡ Some r → (r.sequence.0 < 2 ^ 32) × HoldsTypes r.phase
+IsTyped w other = Unit {0}
