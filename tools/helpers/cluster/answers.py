@@ -1,4 +1,5 @@
 """Plans, answers, and what a query makes of rows."""
+import functools
 import json
 
 import query_reader
@@ -18,8 +19,16 @@ def plan(nodes):
 
 def number_of(text, setup):
     """The number by which a text is refused, or none."""
-    said = query_reader.answer(setup.columns, setup.name, text.encode())
-    return None if said.startswith("ok") else 1 if said.startswith("syntax") else int(said)
+    if text not in setup.numbers:
+        said = query_reader.answer(setup.columns, setup.name, text.encode())
+        setup.numbers[text] = None if said.startswith("ok") else 1 if said.startswith("syntax") else int(said)
+    return setup.numbers[text]
+
+
+@functools.lru_cache
+def read(text):
+    """The query of a text that is taken."""
+    return query_reader.Reader(text.encode()).query()
 
 
 def rank(value):
@@ -30,7 +39,7 @@ class Aggregate:
     """A query's text over rows of columns."""
 
     def __init__(self, text, columns):
-        self.query = query_reader.Reader(text.encode()).query()
+        self.query = read(text)
         self.places = {column.name.encode(): place for place, column in enumerate(columns)}
         self.groups = [name for _, name in self.query["groups"]]
 

@@ -39,6 +39,8 @@ class Setup:
     schema_text: str
     table_text: str
     columns: list
+    # The numbers by which texts of queries are refused, as far as they were read; none of one that is taken.
+    numbers: dict = dataclasses.field(default_factory=dict, compare=False, repr=False)
 
     def row_of(self, message):
         return rows.row_of(self.columns, message)

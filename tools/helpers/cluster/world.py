@@ -129,10 +129,10 @@ class World(further.Further):
         return replica.state
 
 
-def play(text):
-    """The report of a script, the world behind it, and what ended it, as standard error tells it, or none."""
+def play(text, read=header.read):
+    """The report of a script, the world behind it, and what ended it, as standard error tells it, or none; `read` reads its header."""
     try:
-        setup, kept = header.read(text)
+        setup, kept = read(text)
     except header.Stopped as stopped:
         return [], None, str(stopped)
     world, report = World(setup), []

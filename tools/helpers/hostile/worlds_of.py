@@ -1,6 +1,7 @@
 """A small cluster's header, and what the model says of a script of bytes."""
 import sys
 
+import header
 import schedules
 import world as worlds
 
@@ -10,9 +11,9 @@ sys.set_int_max_str_digits(0)
 STATUSES = {"": 0, "line": 3, "limit": 7}
 
 
-def played(script):
-    """The report of the model, and what is said on standard error."""
-    report, _, said = worlds.play(script.decode(errors="surrogateescape"))
+def played(script, read=header.read):
+    """The report of the model, which reads the header so, and what is said on standard error."""
+    report, _, said = worlds.play(script.decode(errors="surrogateescape"), read)
     return "".join(f"{line}\n" for line in report).encode(errors="surrogateescape"), said or ""
 
 
