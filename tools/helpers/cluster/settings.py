@@ -117,8 +117,6 @@ def read_column(reader, columns, names, role, spec, where):
             reader.note(UNKNOWN_TYPE, f"{where}.{key}", "it isn't taken")
     if spec.get("singleValueField") is False:
         reader.note(UNKNOWN_TYPE, f"{where}.singleValueField", "columns of many values aren't taken")
-    elif spec.get("singleValueField") not in (None, True):
-        reader.note(MISSING, f"{where}.singleValueField", "it has to be true or false")
     if name is None:
         return
     if name in names:
