@@ -1,0 +1,7 @@
+//! The laws of a cluster that heals: what is whole once nothing is left to do. They are about definitions alone, and stand on
+//! functions that do nothing.
+#![tactic(auto)]
+
+mod laws;
+
+pub use laws::a_partition_without_need_of_repair_goes_on;
