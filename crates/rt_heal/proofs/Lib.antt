@@ -1,2 +1,10 @@
+pub mod Asked
 pub mod Listed
 pub mod Mended
+pub mod Missing
+pub mod Planned
+pub mod Ranges
+pub mod Sequences
+pub mod Served
+pub mod Turned
+pub mod Wholes

@@ -192,30 +192,35 @@ linked_tiles l (m ∷ ls) x k e o =
 
 -- ---- of a partition
 
+first_number : (l : Listed) (ls : List Listed) (a n : ℕ) → map number (l ∷ ls) ≡ range_with_len a n → l.sequence.0 ≡ a
+first_number l ls a zero e = absurd (cc)
+first_number l ls a (suc n) e = (heads l.sequence.0 a (map number ls) (range_with_len (a + 1) n) e).0
+
 module _ (s : Starting) (h : List Seen) (p : Partition) (lawful : IsLawfulHistory s h) (within : p.0 < s.partitions) where
   pub are_linked : AreLinked (metadata_of h p)
   are_linked =
       linked_by (metadata_of h p) (deletions_of h p) (sequences_of h p - deletions_of h p) (has_listings s h lawful p within).run
       (linked s h p lawful within)
 
+  run : map number (metadata_of h p) ≡ range_with_len (deletions_of h p) (sequences_of h p - deletions_of h p)
+  run = (has_listings s h lawful p within).run
+
+  -- the first one begins at the mark
+  pub first_start : (l : Listed) (ls : List Listed) → metadata_of h p ≡ l ∷ ls → mark_of h p ≡ l.seen.meta.start.0
+  first_start l ls e =
+      let M : List Listed → Type 0 = λ ms. Has ms l in
+      let at = first_number l ls (deletions_of h p) (sequences_of h p - deletions_of h p) (sym (ap (map number) e) ∙ run) in
+      lowest_start s h p lawful within l (subst M (sym e) (inl refl)) at
+
   -- the committed ranges tile the offsets from the mark up to the start of the last segment, where that is in progress
   pub tiled_to_last : (x : Listed) → last_listed (metadata_of h p) ≡ Some x → IsInProgress x.seen.meta.status
       → Tiles (mark_of h p) (committed_of h p) x.seen.meta.start.0
   tiled_to_last x last o = by_list (metadata_of h p) refl
     where
-      run : map number (metadata_of h p) ≡ range_with_len (deletions_of h p) (sequences_of h p - deletions_of h p)
-      run = (has_listings s h lawful p within).run
-
-      first : (l : Listed) (ls : List Listed) (a n : ℕ) → map number (l ∷ ls) ≡ range_with_len a n → l.sequence.0 ≡ a
-      first l ls a zero e = absurd (cc)
-      first l ls a (suc n) e = (heads l.sequence.0 a (map number ls) (range_with_len (a + 1) n) e).0
-
       by_list : (ls : List Listed) → metadata_of h p ≡ ls → Tiles (mark_of h p) (committed_of h p) x.seen.meta.start.0
       by_list [] e = absurd (none-some x (sym (ap last_listed e) ∙ last))
       by_list (l ∷ ls) e =
-          let M : List Listed → Type 0 = λ ms. Has ms l in
-          let at = first l ls (deletions_of h p) (sequences_of h p - deletions_of h p) (sym (ap (map number) e) ∙ run) in
-          let mark = lowest_start s h p lawful within l (subst M (sym e) (inl refl)) at in
+          let mark = first_start l ls e in
           let L : List Listed → Type 0 = λ ms. Tiles (mark_of h p) (filter_map range_of ms) x.seen.meta.start.0 in
           let T : ℕ → Type 0 = λ t. Tiles t (filter_map range_of (l ∷ ls)) x.seen.meta.start.0 in
           subst L (sym e) (subst T (sym mark) (linked_tiles l ls x (subst AreLinked e are_linked) (sym (ap last_listed e) ∙ last) o))

@@ -1,1 +1,5 @@
+pub mod Answered
+pub mod AtRest
 pub mod Mended
+pub mod Planned
+pub mod Resting

@@ -1,19 +1,71 @@
 //! What is whole once there is nothing left to do. Each law stands on a function that does nothing: its clause is the law.
-ghost use Rattle.std.specs.Prelude.{◌<◌, ◌≤◌};
+ghost use Rattle.std.specs.Prelude.{◌≡◌, ◌<◌, ◌≤◌, [], Some};
+ghost use Rattle.rt_base.specs.declared.numbers.Instance.{Instance};
 ghost use Rattle.rt_base.specs.declared.numbers.Moment.{Moment};
 ghost use Rattle.rt_base.specs.declared.numbers.Partition.{Partition};
-ghost use Rattle.rt_model.specs.declared.setup.Setup.{Setup};
-ghost use Rattle.rt_model.specs.Metadata.{sequences_of};
+ghost use Rattle.rt_base.specs.declared.numbers.Sequence.{Sequence};
+ghost use Rattle.rt_broker.specs.Asking.{Asking};
+ghost use Rattle.rt_lists.specs.Members.{Has};
+ghost use Rattle.rt_model.specs.Entries.{entries_of};
+ghost use Rattle.rt_model.specs.Ideal.{mode_of};
+ghost use Rattle.rt_model.specs.Metadata.{metadata_of, sequences_of, IsInProgress};
+ghost use Rattle.rt_model.specs.Plan.{plan_of};
 ghost use Rattle.rt_model.specs.Setup.{IsSetup};
+ghost use Rattle.rt_model.specs.declared.answer.Answer.{Answer};
+ghost use Rattle.rt_model.specs.declared.ideal_state.Mode.TheVariants.{Consuming, Online};
+ghost use Rattle.rt_model.specs.declared.node.Listed.{Listed};
+ghost use Rattle.rt_model.specs.declared.piece.Piece.{Piece};
+ghost use Rattle.rt_model.specs.declared.setup.Setup.{Setup};
 ghost use Rattle.rt_past.specs.IsPast.{IsPast};
 ghost use Rattle.rt_past.specs.Past.{Past};
+ghost use Rattle.rt_state.specs.IsSafeWorld.{IsSafeWorld};
+ghost use Rattle.rt_state.specs.Queries.{IsAnswerOf};
+ghost use Rattle.rt_state.specs.declared.state.State.{State};
+ghost use Rattle.rt_heal.specs.Answered.{IsAskedNow, whole_from};
+ghost use Rattle.rt_heal.specs.AtRest.{IsAtRest, IsConsumedAt, IsServedAt};
 ghost use Rattle.rt_heal.specs.Mended.{GoesOn, NeedsNoRepair};
+ghost use Rattle.rt_heal.specs.Planned.{AreOnline, IsGivenWhole, NoneDropped};
 
 /// Where a repair that begins finds nothing to do, and no grace holds it back, the partition goes on: its committed segments tile
-/// the offsets from the mark on up to where the last one starts, which is in progress and which an instance is to consume. The last
-/// sequences of all are left alone.
-#[tactic(auto, using(crate::proofs::Mended::goes_on))]
+/// the offsets from the mark on up to where the last one starts, which is in progress and which an instance is to consume. So it is
+/// over every right past, but that the last sequences of all are left alone; and in every safe world.
+#[tactic(auto, using(crate::proofs::Mended::goes_on, crate::proofs::Wholes::unneeding_goes_on))]
 pub fn a_partition_without_need_of_repair_goes_on()
-    ensures { (setup : Setup) (past : Past) (now : Moment) (p : Partition) → IsSetup setup → IsPast setup past → p.0 < setup.partitions
+    ensures pasts { (setup : Setup) (past : Past) (now : Moment) (p : Partition) → IsSetup setup → IsPast setup past → p.0 < setup.partitions
         → sequences_of past.history p ≤ 4294967290 → NeedsNoRepair setup past.history now p → GoesOn past.history p }
+    ensures worlds { (w : State) (p : Partition) → IsSafeWorld w → p.0 < w.setup.partitions
+        → NeedsNoRepair w.setup w.store.writes w.moment p → GoesOn w.store.writes p }
+{}
+
+/// At rest each instance has what the ideal state asks of it. What it has ONLINE is there and committed, and it serves it whole; of a
+/// segment in progress that it is to consume it has taken every message, and serves them, unless its replica has dropped its rows.
+#[tactic(auto, using(crate::proofs::Wholes::served_whole, crate::proofs::Wholes::consumed_up_to))]
+pub fn at_rest_each_instance_has_what_is_asked()
+    ensures online { (w : State) → IsSafeWorld w → IsAtRest w → (p : Partition) (q : Sequence) (i : Instance)
+        → mode_of (entries_of w.store.writes) p q i ≡ Some Online → IsServedAt w p q i }
+    ensures consuming { (w : State) → IsSafeWorld w → IsAtRest w → (p : Partition) (q : Sequence) (i : Instance) (l : Listed)
+        → Has (metadata_of w.store.writes p) l → l.sequence ≡ q → IsInProgress l.seen.meta.status
+        → mode_of (entries_of w.store.writes) p q i ≡ Some Consuming → IsConsumedAt w p l i }
+{}
+
+/// At rest each piece of a partition's plan is served whole by a replica, the committed ones from their start to their end and the
+/// last one up to the stream's end, with the stream's rows; and they tile the partition's offsets from the mark on. The partition goes
+/// on, each committed segment is ONLINE somewhere, and no replica has dropped its rows that is to consume.
+#[tactic(auto, using(crate::proofs::Planned::pieces_given))]
+pub fn at_rest_each_piece_is_served_whole()
+    ensures { (w : State) → IsSafeWorld w → IsAtRest w → (p : Partition) → p.0 < w.setup.partitions → GoesOn w.store.writes p
+        → AreOnline w.store.writes p → NoneDropped w p → (piece : Piece) → Has (plan_of p (metadata_of w.store.writes p)) piece
+        → IsGivenWhole w piece }
+{}
+
+/// What is asked of a world at rest is answered whole: where each partition was routed by its present plan, and what was noted of
+/// servers is what they give, the answer misses nothing, and names all offsets of each partition from its mark up to the stream's end.
+pub fn at_rest_an_answer_is_whole()
+    ensures missing { (w : State) → IsSafeWorld w → IsAtRest w → ((p : Partition) → p.0 < w.setup.partitions → GoesOn w.store.writes p)
+        → ((p : Partition) → p.0 < w.setup.partitions → AreOnline w.store.writes p)
+        → ((p : Partition) → p.0 < w.setup.partitions → NoneDropped w p) → (a : Asking) → IsAskedNow w a w.setup.partitions
+        → (answer : Answer) → IsAnswerOf a answer → answer.missing ≡ [] }
+    ensures ranges { (w : State) → IsSafeWorld w → IsAtRest w → ((p : Partition) → p.0 < w.setup.partitions → GoesOn w.store.writes p)
+        → (a : Asking) → IsAskedNow w a w.setup.partitions → (answer : Answer) → IsAnswerOf a answer → answer.missing ≡ []
+        → answer.ranges ≡ whole_from w 0 w.setup.partitions }
 {}
