@@ -35,7 +35,7 @@ class Headers:
 
 def schema_of(draws, columns):
     """A schema's text, often with keys that upserts need."""
-    schema = json.loads(random_queries.schema_text(columns))
+    schema = {key: value for key, value in json.loads(random_queries.schema_text(columns)).items() if value}
     if draws.often(0.4):
         schema["primaryKeyColumns"] = [column.name for column in columns if draws.often(0.6)] or [columns[0].name]
     return json.dumps(schema, ensure_ascii=draws.often(0.5), separators=(",", ":"))
@@ -54,6 +54,7 @@ def table_of(draws, columns, servers):
     """The text of a table's settings."""
     rows, time = draws.choice([1, 2, 3, 3, 5, 100]), draws.choice(TIMES)
     stream = {"realtime.segment.flush.threshold.rows": draws.choice([rows, str(rows)]), "realtime.segment.flush.threshold.time": time}
+    stream = {key: value for key, value in stream.items() if draws.often(0.7)}
     index = {"invertedIndexColumns": [column.name for column in columns if draws.often(0.4)], "streamConfigs": stream}
     table = {"tableName": draws.choice(["t", "t", "t_REALTIME"]), "tableType": "REALTIME", "segmentsConfig": segments_of(draws, columns, servers),
              "tableIndexConfig": index}

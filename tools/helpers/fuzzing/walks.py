@@ -20,7 +20,10 @@ LENGTHS = [3, 4, 5, 6, 7, 8, 9, 10, 12, 15]
 LONGER = [30, 60, 120]
 BEGINNINGS = [[], ["fill 0 {}"], ["fill 0 {}", "settle {}"], ["fill 0 {}", "settle {}", "fill 0 {}"]]
 TRIES = [1, 2, 4, 6, 8, 12]
-WORDS = list(forms.FORMS)
+# The words of lines that are due at hardly any moment, and those of lines that are due at most.
+SELDOM = ["force", "stop", "build", "report", "extend", "deliver", "job", "reply", "restart", "transit", "download", "repair", "retain", "route", "piece",
+          "answer", "exchange", "peer", "forceStatus", "rehearse", "consume"]
+OFTEN = [word for word in forms.FORMS if word not in SELDOM]
 SMALL = ["0", "0", "0", "1", "1", "2", "3", "5"]
 NUMBER = re.compile(r"(?<![A-Z])[NPQK](?![A-Z])")
 # How a line begins that is skipped.
@@ -89,13 +92,14 @@ class Walk(schedules.Schedule):
 
     def wrong(self):
         """A line that is due with something changed, or any line of the grammar."""
-        if self.random.often(0.35):
+        line = None if self.random.often(0.35) else self.next_line()
+        if line is None:
             return self.fresh()
-        line = self.next_line() or self.fresh()
-        return self.renumbered(line) if self.random.often(0.8) else self.damaged(line)
+        is_changed = self.random.often(0.1 if line.partition(" ")[0] in OFTEN else 0.85)
+        return self.renumbered(line) if is_changed else self.damaged(line)
 
     def fresh(self):
-        word = self.random.choice(WORDS)
+        word = self.random.choice(SELDOM if self.random.often(0.8) else OFTEN)
         form = self.random.choice(mutations.CHOICES[word]) if word in mutations.CHOICES else forms.FORMS[word]
         form = NUMBER.sub(lambda _: self.random.choice(SMALL), form)
         form = form.replace("TEXT", self.random.choice(self.settings.queries)) if "TEXT" in form else form
