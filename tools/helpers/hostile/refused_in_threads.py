@@ -19,8 +19,9 @@ STEPS = {"eight-replicas": 47, "a-crash-during-a-commit": 199, "everything-at-on
 # How many of each input, and in a quick run.
 NUMBERS, QUICK = 100, 3
 HOW = {"alone": {}, "from it on": {"FROM_THEN_ON": "1"}}
-# The seconds of processor time that a run gets, of which a whole one takes two; and those by the clock, for one that sleeps.
-PROCESSOR, CLOCK = 10, 300
+# The seconds of processor time that a run gets, of which a whole one takes two; and those by the clock, for one that sleeps. Its threads pass
+# turns on by yielding, which other work makes long.
+PROCESSOR, CLOCK = 10, 3_600
 REFUSED = (6, b"", b"out of memory\n")
 
 
