@@ -1,10 +1,15 @@
 pub mod Asked
+pub mod Asking
 pub mod Listed
 pub mod Mended
 pub mod Missing
+pub mod Nothing
+pub mod Noting
 pub mod Planned
+pub mod Quiet
 pub mod Ranges
+pub mod Seeing
 pub mod Sequences
 pub mod Served
-pub mod Turned
+pub mod Whole
 pub mod Wholes

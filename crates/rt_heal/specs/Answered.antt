@@ -8,8 +8,11 @@ use Rattle.rt_broker.specs.declared.piece_asked.PieceAsked.{PieceAsked}
 use Rattle.rt_broker.specs.declared.route.Route.TheVariants.{Planned}
 use Rattle.rt_lists.specs.Members.{Has}
 use Rattle.rt_model.specs.Metadata.{metadata_of}
+use Rattle.rt_model.specs.Aggregate.{aggregate}
 use Rattle.rt_model.specs.Plan.{plan_of}
-use Rattle.rt_model.specs.RightAnswer.{merged}
+use Rattle.rt_model.specs.RightAnswer.{merged, rows_of}
+use Rattle.rt_model.specs.declared.answer.Answer.{Answer}
+use Rattle.rt_model.specs.declared.query.Query.{Query}
 use Rattle.rt_model.specs.Tiled.{mark_of}
 use Rattle.rt_nodes.specs.Queries.{Gives}
 use Rattle.rt_nodes.specs.declared.server_node.ServerNode.{ServerNode}
@@ -49,3 +52,9 @@ whole_in w p = map (λ r. (p, r)) (merged (range_to (record { 0 = mark_of w.stor
 abbrev pub whole_from : State → ℕ → ℕ → List (Partition × Range)
 whole_from w first zero = []
 whole_from w first (suc count) = whole_in w (record { 0 = first }) ++ whole_from w (first + 1) count
+
+-- it misses nothing, names all that, and aggregates the rows of all messages there
+pub record IsAnsweredWhole (w : State) (query : Query) (answer : Answer) : Type 0 where
+  pub missing : answer.missing ≡ []
+  pub ranges : answer.ranges ≡ whole_from w 0 w.setup.partitions
+  pub rows : answer.rows ≡ aggregate query (rows_of w.setup.schema w.log (whole_from w 0 w.setup.partitions))

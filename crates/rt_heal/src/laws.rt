@@ -1,11 +1,15 @@
 //! What is whole once there is nothing left to do. Each law stands on a function that does nothing: its clause is the law.
-ghost use Rattle.std.specs.Prelude.{◌≡◌, ◌<◌, ◌≤◌, [], Some};
+ghost use Rattle.std.specs.Prelude.{◌≡◌, ◌<◌, ◌≤◌, [], Some, Ok, false};
 ghost use Rattle.rt_base.specs.declared.numbers.Instance.{Instance};
 ghost use Rattle.rt_base.specs.declared.numbers.Moment.{Moment};
 ghost use Rattle.rt_base.specs.declared.numbers.Partition.{Partition};
 ghost use Rattle.rt_base.specs.declared.numbers.Sequence.{Sequence};
 ghost use Rattle.rt_broker.specs.Asking.{Asking};
 ghost use Rattle.rt_lists.specs.Members.{Has};
+ghost use Rattle.rt_macros.specs.Doing.{Reached};
+ghost use Rattle.rt_macros.specs.Querying.{Queries};
+ghost use Rattle.rt_macros.specs.Settling.{Round};
+ghost use Rattle.rt_model.specs.Checked.{IsQuery};
 ghost use Rattle.rt_model.specs.Entries.{entries_of};
 ghost use Rattle.rt_model.specs.Ideal.{mode_of};
 ghost use Rattle.rt_model.specs.Metadata.{metadata_of, sequences_of, IsInProgress};
@@ -15,14 +19,16 @@ ghost use Rattle.rt_model.specs.declared.answer.Answer.{Answer};
 ghost use Rattle.rt_model.specs.declared.ideal_state.Mode.TheVariants.{Consuming, Online};
 ghost use Rattle.rt_model.specs.declared.node.Listed.{Listed};
 ghost use Rattle.rt_model.specs.declared.piece.Piece.{Piece};
+ghost use Rattle.rt_model.specs.declared.query.Query.{Query};
 ghost use Rattle.rt_model.specs.declared.setup.Setup.{Setup};
 ghost use Rattle.rt_past.specs.IsPast.{IsPast};
 ghost use Rattle.rt_past.specs.Past.{Past};
 ghost use Rattle.rt_state.specs.IsSafeWorld.{IsSafeWorld};
 ghost use Rattle.rt_state.specs.Queries.{IsAnswerOf};
 ghost use Rattle.rt_state.specs.declared.state.State.{State};
-ghost use Rattle.rt_heal.specs.Answered.{IsAskedNow, whole_from};
-ghost use Rattle.rt_heal.specs.AtRest.{IsAtRest, IsConsumedAt, IsServedAt};
+ghost use Rattle.rt_heal.specs.Answered.{IsAnsweredWhole, IsAskedNow, whole_from};
+ghost use Rattle.rt_heal.specs.AtRest.{AreUp, IsAtRest, IsConsumedAt, IsServedAt};
+ghost use Rattle.rt_heal.specs.Led.{IsLed};
 ghost use Rattle.rt_heal.specs.Mended.{GoesOn, NeedsNoRepair};
 ghost use Rattle.rt_heal.specs.Planned.{AreOnline, IsGivenWhole, NoneDropped};
 
@@ -35,6 +41,14 @@ pub fn a_partition_without_need_of_repair_goes_on()
         → sequences_of past.history p ≤ 4294967290 → NeedsNoRepair setup past.history now p → GoesOn past.history p }
     ensures worlds { (w : State) (p : Partition) → IsSafeWorld w → p.0 < w.setup.partitions
         → NeedsNoRepair w.setup w.store.writes w.moment p → GoesOn w.store.writes p }
+{}
+
+/// After a round of `settle` in which nothing happened but that servers saw the ideal state, every server rests: it has seen the
+/// present ideal state, no transition is due and no file wanted, and its replicas have no message to take and neither build nor
+/// ask. All servers were up, no fault of the store was planned, and there was a controller to ask.
+pub fn a_quiet_round_leaves_all_at_rest()
+    ensures { (w : State) (v : Reached) → IsSafeWorld w → AreUp w → w.store.faults.plan ≡ [] → IsLed w → Round false w v (Ok false)
+        → IsAtRest v.world }
 {}
 
 /// At rest each instance has what the ideal state asks of it. What it has ONLINE is there and committed, and it serves it whole; of a
@@ -68,4 +82,21 @@ pub fn at_rest_an_answer_is_whole()
     ensures ranges { (w : State) → IsSafeWorld w → IsAtRest w → ((p : Partition) → p.0 < w.setup.partitions → GoesOn w.store.writes p)
         → (a : Asking) → IsAskedNow w a w.setup.partitions → (answer : Answer) → IsAnswerOf a answer → answer.missing ≡ []
         → answer.ranges ≡ whole_from w 0 w.setup.partitions }
+{}
+
+/// A query over a world at rest is answered whole: it misses nothing, names all offsets of each partition from its mark up to the
+/// stream's end, and aggregates the rows of all messages there. No fault of the store was planned. So it is after a quiet round, where
+/// no partition needs a repair.
+pub fn at_rest_a_query_is_answered_whole()
+    ensures resting { (w : State) → IsSafeWorld w → IsAtRest w → w.store.faults.plan ≡ []
+        → ((p : Partition) → p.0 < w.setup.partitions → GoesOn w.store.writes p)
+        → ((p : Partition) → p.0 < w.setup.partitions → AreOnline w.store.writes p)
+        → ((p : Partition) → p.0 < w.setup.partitions → NoneDropped w p) → (query : Query) (v : Reached) (answer : Answer)
+        → IsQuery w.setup.schema query → Queries query w v (Ok answer) → IsAnsweredWhole w query answer }
+    ensures settled { (w : State) (v : Reached) → IsSafeWorld w → AreUp w → w.store.faults.plan ≡ [] → IsLed w → Round false w v (Ok false)
+        → ((p : Partition) → p.0 < v.world.setup.partitions → NeedsNoRepair v.world.setup v.world.store.writes v.world.moment p)
+        → ((p : Partition) → p.0 < v.world.setup.partitions → AreOnline v.world.store.writes p)
+        → ((p : Partition) → p.0 < v.world.setup.partitions → NoneDropped v.world p)
+        → (query : Query) (x : Reached) (answer : Answer) → IsQuery v.world.setup.schema query → Queries query v.world x (Ok answer)
+        → IsAnsweredWhole v.world query answer }
 {}
