@@ -11,6 +11,7 @@ import signal
 import subprocess
 import time
 
+import healing
 import peace
 import schedules
 import shortening
@@ -27,6 +28,7 @@ class Trial:
     program: pathlib.Path | None
     settles: bool
     folder: pathlib.Path
+    heals: bool = False
 
 
 @dataclasses.dataclass
@@ -39,6 +41,8 @@ class Outcome:
     wrong: str | None = None
     restless: str | None = None
     kept: str | None = None
+    # The turns that it took to heal.
+    turns: int | None = None
 
 
 def run(program, script):
@@ -80,8 +84,9 @@ def keep(trial, schedule, seed):
 def outcome_of(trial, seed):
     """Makes and runs the schedule of a seed."""
     schedule = schedules.Schedule(seed, trial.settings(seed)).run()
-    restless = peace.settle(schedule) if trial.settles else None
-    found = Outcome(seed, schedule.mood, len(schedule.lines), schedule.world.cells, restless=restless)
+    turns = healing.heal(schedule) if trial.heals else None
+    restless = peace.settle(schedule) if trial.settles else "unhealed" if trial.heals and turns is None else None
+    found = Outcome(seed, schedule.mood, len(schedule.lines), schedule.world.cells, restless=restless, turns=turns)
     if trial.program is not None:
         found.wrong = difference(trial.program, schedule.header, schedule.lines, schedule.report)
     if found.wrong:
@@ -132,11 +137,13 @@ class Sum:
 
     def __init__(self, seed):
         self.next, self.count, self.lines, self.seconds = seed, 0, 0, 0.0
-        self.cells, self.differ, self.restless = collections.Counter(), [], []
+        self.cells, self.differ, self.restless, self.turns = collections.Counter(), [], [], collections.Counter()
 
     def add(self, outcome):
         self.next, self.count, self.lines = outcome.seed + 1, self.count + 1, self.lines + outcome.lines
         self.cells += outcome.cells
+        if outcome.turns:
+            self.turns[str(outcome.turns)] += 1
         if outcome.wrong:
             self.differ.append(outcome.seed)
         if outcome.restless:
@@ -164,6 +171,7 @@ class Sum:
         found = Sum(told["next"])
         found.count, found.lines, found.seconds, found.differ, found.restless = (told[key] for key in ("count", "lines", "seconds", "differ", "restless"))
         found.cells = collections.Counter({tuple(cell[:-1]): cell[-1] for cell in told["cells"]})
+        found.turns = collections.Counter(told["turns"])
         return found
 
 
