@@ -1,5 +1,5 @@
 -- What the present ideal state asks: of whom, and of which segments.
-use Rattle.std.proofs.Common.{◌≡◌, ℕ, zero, suc, ◌+◌, ◌-◌, ◌<◌, ◌≤◌, ◌⊎◌, inl, inr, Bool, true, false, ◌&&◌, cond, List, [], ◌∷◌, Option, Some, None, refl, sym, ◌∙◌, ap, subst, arith, map, length, slice_get}
+use Rattle.std.proofs.Common.{◌≡◌, ℕ, zero, suc, ◌+◌, ◌-◌, ◌<◌, ◌≤◌, ◌⊎◌, inl, inr, Bool, true, false, cond, List, [], ◌∷◌, Option, Some, refl, sym, ◌∙◌, ap, subst, arith, map, slice_get}
 use Rattle.std.specs.Prelude.{◌==◌, IsSome}
 use Rattle.std.specs.List.{range_with_len}
 use Rattle.std.proofs.lemmas.Bool.{and_from, and_parts, cases_lt, cond-true, cond-false, eq-eqb, eqb-true, true≢false}
@@ -14,7 +14,7 @@ use Rattle.rt_model.specs.Entries.{entries_by, entries_in, entries_of}
 use Rattle.rt_model.specs.History.{last_write, value_by, value_in}
 use Rattle.rt_model.specs.Ideal.{has_entry, is_of, is_of_instance, mode_of}
 use Rattle.rt_model.specs.Laws.{IsGoneLast}
-use Rattle.rt_model.specs.Metadata.{listed_write, metadata_of, node_key, sequences_of, IsDeleted, IsDone, IsDoneStatus}
+use Rattle.rt_model.specs.Metadata.{listed_write, metadata_of, node_key, sequences_of, IsDone, IsDoneStatus}
 use Rattle.rt_model.specs.Order.{NamesOnce}
 use Rattle.rt_model.specs.Setup.{IsSetup}
 use Rattle.rt_model.specs.declared.ideal_state.IdealEntry.{IdealEntry}
@@ -28,7 +28,7 @@ use Rattle.rt_model.specs.declared.node.Seen.{Seen}
 use Rattle.rt_model.specs.declared.setup.Setup.{Setup}
 use Rattle.rt_model.proofs.Chains.{IsDone-final}
 use Rattle.rt_model.proofs.Entries.{is_of-true, names_entry}
-use Rattle.rt_model.proofs.Histories.{same_instance, same_partition, same_sequence, value_of-last}
+use Rattle.rt_model.proofs.Histories.{same_instance, same_sequence, value_of-last}
 use Rattle.rt_model.proofs.IdealStates.{has_ordered_entries}
 use Rattle.rt_model.proofs.Kept.{last_write-Has}
 use Rattle.rt_model.proofs.Lawful.{has_chains, has_endings, has_ideal_state, has_passed_deletions}

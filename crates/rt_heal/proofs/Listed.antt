@@ -1,5 +1,5 @@
 -- The listed nodes of a partition are linked: each but the last has ended, and the next one begins where it did.
-use Rattle.std.proofs.Common.{◌≡◌, ℕ, zero, suc, ◌+◌, ◌-◌, ◌<◌, ◌≤◌, ◌⊎◌, inl, inr, List, [], ◌∷◌, length, Option, Some, None, refl, sym, ◌∙◌, ap, subst, arith, filter_map, map}
+use Rattle.std.proofs.Common.{◌≡◌, ℕ, zero, suc, ◌+◌, ◌-◌, ◌<◌, ◌⊎◌, inl, inr, List, [], ◌∷◌, Option, Some, refl, sym, ◌∙◌, ap, subst, arith, filter_map, map}
 use Rattle.std.specs.List.{cons_option, range_with_len}
 use Rattle.std.specs.Prelude.{IsSome}
 use Rattle.std.proofs.lemmas.Option.{none-some, same_Some}
@@ -15,10 +15,10 @@ use Rattle.rt_model.specs.declared.seg_meta.SegMeta.{SegMeta}
 use Rattle.rt_model.specs.declared.status.Status.{Status}
 use Rattle.rt_model.specs.declared.status.Status.TheVariants.{InProgress, Done, Abandoned}
 use Rattle.rt_model.specs.Chain.{deletions_of, start_by, start_in, IsCreation, IsPresent}
-use Rattle.rt_model.specs.History.{last_write, value_of}
+use Rattle.rt_model.specs.History.{last_write}
 use Rattle.rt_model.specs.Lawful.{IsLawfulHistory}
 use Rattle.rt_model.specs.Laws.{IsEnding, IsGoneLast}
-use Rattle.rt_model.specs.Metadata.{life_of, listed_write, metadata_of, node_key, sequences_of, Ends, Follows, IsDone, IsDoneStatus, IsEndFrom, IsFinal, IsFinalStatus, IsInProgress, StartsAfter}
+use Rattle.rt_model.specs.Metadata.{life_of, listed_write, metadata_of, node_key, sequences_of, Ends, Follows, IsDoneStatus, IsEndFrom, IsFinalStatus, IsInProgress, StartsAfter}
 use Rattle.rt_model.specs.Repair.{last_listed}
 use Rattle.rt_model.specs.Starting.{Starting}
 use Rattle.rt_model.specs.Tiled.{committed_of, mark_of, range_by, Tiles}

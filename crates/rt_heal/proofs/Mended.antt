@@ -1,7 +1,7 @@
 -- Where a repair finds nothing to do, the last segment is in progress behind committed ones that tile, and an instance is to consume
 -- it.
-use Rattle.std.proofs.Common.{◌≡◌, ℕ, ◌+◌, ◌<◌, ◌≤◌, ◌⊎◌, inl, inr, Bool, true, false, ◌&&◌, ◌||◌, not, List, [], ◌∷◌, Option, Some, refl, sym, ◌∙◌, ap, subst}
-use Rattle.std.proofs.lemmas.Bool.{cases_Bool, false≢true}
+use Rattle.std.proofs.Common.{◌≡◌, ◌<◌, ◌≤◌, ◌⊎◌, inl, inr, Bool, true, false, ◌&&◌, ◌||◌, not, List, [], ◌∷◌, Some, refl, sym, ◌∙◌, ap, subst}
+use Rattle.std.proofs.lemmas.Bool.{false≢true}
 use Rattle.std.proofs.lemmas.Option.{same_Some}
 use Rattle.rt_base.specs.declared.numbers.Moment.{Moment}
 use Rattle.rt_base.specs.declared.numbers.Partition.{Partition}
@@ -130,6 +130,6 @@ module _ (setup : Setup) (past : Past) (now : Moment) (p : Partition) (is : IsSe
         there = e.1.there;
         is_of = (at.0, same_sequence e.0.sequence l.0.sequence at.1);
         to_consume = consumes_by e.0.mode e.1.mode (λ online.
-        let done = (present_grounded (starting_of setup) past.history k.lawful e.0 e.1.there).done online in
-        open_unended l.0 l.2 s.consumes (done.0, done.1, done.2 ∙ of_key, IsDone-final done.0.node done.3));
+            let done = (present_grounded (starting_of setup) past.history k.lawful e.0 e.1.there).done online in
+            open_unended l.0 l.2 s.consumes (done.0, done.1, done.2 ∙ of_key, IsDone-final done.0.node done.3));
       }

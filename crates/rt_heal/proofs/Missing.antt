@@ -1,13 +1,11 @@
 -- A query that is asked of a world at rest misses nothing.
-use Rattle.std.proofs.Common.{◌≡◌, ℕ, ◌<◌, ◌⊎◌, inl, inr, Bool, true, List, [], ◌∷◌, Option, Some, None, Result, Ok, Err, refl, sym, ◌∙◌, ap, subst, arith, map, length, slice_get}
-use Rattle.std.proofs.lemmas.Option.{none-some, same_Some, slice_get_within}
+use Rattle.std.proofs.Common.{◌≡◌, ℕ, ◌<◌, inl, Bool, true, List, [], ◌∷◌, Option, Some, None, Result, Ok, Err, refl, sym, ◌∙◌, ap, subst, arith, slice_get}
+use Rattle.std.proofs.lemmas.Option.{same_Some, slice_get_within}
 use Rattle.rt_base.specs.declared.numbers.Instance.{Instance}
-use Rattle.rt_base.specs.declared.numbers.Offset.{Offset}
 use Rattle.rt_base.specs.declared.numbers.Partition.{Partition}
 use Rattle.rt_base.specs.declared.numbers.Sequence.{Sequence}
 use Rattle.rt_broker.specs.Answering.{IsMissing, IsRefusal, IsRefused}
-use Rattle.rt_broker.specs.Asking.{Asking, assigned_at, plan_at, plan_in, route_at}
-use Rattle.rt_broker.specs.declared.piece_asked.PieceAnswer.{PieceAnswer}
+use Rattle.rt_broker.specs.Asking.{Asking, assigned_at, plan_in, route_at}
 use Rattle.rt_broker.specs.declared.piece_asked.PieceAsked.{PieceAsked}
 use Rattle.rt_broker.specs.declared.piece_got.PieceGot.{PieceGot}
 use Rattle.rt_broker.specs.declared.piece_got.PieceGot.TheVariants as got
@@ -19,7 +17,6 @@ use Rattle.rt_entry.specs.declared.served_rows.ServedRows.{ServedRows}
 use Rattle.rt_lists.specs.Members.{Has}
 use Rattle.rt_lists.proofs.Members.{map-Has}
 use Rattle.rt_model.specs.Metadata.{metadata_of}
-use Rattle.rt_model.specs.Plan.{plan_of}
 use Rattle.rt_model.specs.declared.answer.Answer.{Answer}
 use Rattle.rt_model.specs.declared.piece.Piece.{Piece}
 use Rattle.rt_model.specs.declared.query.Query.{Query}
@@ -31,7 +28,7 @@ use Rattle.rt_server.specs.Serving.{serve}
 use Rattle.rt_state.specs.IsSafeWorld.{IsSafeWorld}
 use Rattle.rt_state.specs.Queries.{IsAnswerOf}
 use Rattle.rt_state.specs.declared.state.State.{State}
-use Rattle.rt_heal.specs.Answered.{IsAskedNow, IsGivenNow}
+use Rattle.rt_heal.specs.Answered.{IsAskedNow}
 use Rattle.rt_heal.specs.AtRest.{IsAtRest}
 use Rattle.rt_heal.specs.Mended.{GoesOn}
 use Rattle.rt_heal.specs.Planned.{AreOnline, IsGivenWhole, NoneDropped}

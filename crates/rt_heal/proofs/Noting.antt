@@ -8,12 +8,10 @@ use Rattle.rt_base.specs.Faults.{answer_under, fault_of}
 use Rattle.rt_base.specs.declared.numbers.Instance.{Instance}
 use Rattle.rt_base.specs.declared.numbers.Partition.{Partition}
 use Rattle.rt_base.specs.declared.numbers.Sequence.{Sequence}
-use Rattle.rt_assign.specs.Placement.{replica_of}
 use Rattle.rt_broker.specs.Asking.{Asking, answered, asked_for, asking, piece_at, plan_in, route_at, unasked, with_answer, with_route}
-use Rattle.rt_broker.specs.Routing.{Routes, RoutesBy}
+use Rattle.rt_broker.specs.Routing.{Routes}
 use Rattle.rt_broker.specs.declared.piece_asked.PieceAnswer.{PieceAnswer}
 use Rattle.rt_broker.specs.declared.piece_asked.PieceAsked.{PieceAsked}
-use Rattle.rt_broker.specs.declared.piece_got.PieceGot.{PieceGot}
 use Rattle.rt_broker.specs.declared.refused.BrokerRefused.{BrokerRefused}
 use Rattle.rt_broker.specs.declared.refused.BrokerRefused.TheVariants as broker
 use Rattle.rt_broker.specs.declared.route.Route.{Route}
@@ -22,29 +20,22 @@ use Rattle.rt_broker.proofs.Lasting.{got_of_set}
 use Rattle.rt_events.specs.declared.event.Event.TheVariants as event
 use Rattle.rt_events.specs.declared.outcome.Outcome.{Outcome}
 use Rattle.rt_events.specs.declared.outcome.Outcome.TheVariants as told
-use Rattle.rt_events.specs.declared.refusal.Refusal.{Refusal}
 use Rattle.rt_lists.specs.Members.{Has}
 use Rattle.rt_lists.proofs.Members.{Has-push_cases, slice_get-push}
 use Rattle.rt_model.specs.Metadata.{metadata_of}
 use Rattle.rt_model.specs.Plan.{plan_of}
-use Rattle.rt_model.specs.Aggregate.{aggregate}
 use Rattle.rt_model.specs.Checked.{IsQuery}
-use Rattle.rt_model.specs.RightAnswer.{rows_of}
-use Rattle.rt_model.specs.declared.answer.Answer.{Answer}
 use Rattle.rt_model.specs.declared.node.Listed.{Listed}
 use Rattle.rt_model.specs.declared.node.Seen.{Seen}
 use Rattle.rt_model.specs.declared.piece.Piece.{Piece}
 use Rattle.rt_model.specs.declared.query.Query.{Query}
-use Rattle.rt_model.specs.declared.setup.Setup.{Setup}
 use Rattle.rt_model.proofs.Histories.{same_partition}
 use Rattle.rt_nodes.specs.Queries.{Gives, routed_by}
 use Rattle.rt_nodes.specs.declared.server_node.ServerNode.{ServerNode}
 use Rattle.rt_state.specs.Finding.{query_at, query_in}
-use Rattle.rt_safety.proofs.Answering.{answers_right}
 use Rattle.rt_state.specs.IsSafeWorld.{IsSafeWorld}
-use Rattle.rt_state.specs.Queries.{AnswersAt, IsAnswerOf, PiecesAt, PiecesOf, RoutesAt, with_query}
+use Rattle.rt_state.specs.Queries.{PiecesAt, PiecesOf, RoutesAt, with_query}
 use Rattle.rt_state.specs.Room.{counted}
-use Rattle.rt_state.specs.declared.cost.Cost.{Cost}
 use Rattle.rt_state.specs.declared.state.State.{State}
 use Rattle.rt_store.specs.Answers.{listing}
 use Rattle.rt_store.specs.Calls.{IsExact, answer_on}
@@ -54,9 +45,7 @@ use Rattle.rt_store.specs.declared.refused.StoreRefused.{StoreRefused}
 use Rattle.rt_store.specs.declared.refused.StoreRefused.TheVariants as store
 use Rattle.rt_store.proofs.Seeing.{told_exact}
 use Rattle.rt_store.proofs.Told.{read_same}
-use Rattle.rt_stream.specs.Log.{Log}
 use Rattle.rt_world.proofs.SafeSteps.{steps_keep}
-use Rattle.rt_world.specs.Reading.{pieces_of}
 use Rattle.rt_world.specs.Step.{Steps}
 use Rattle.rt_heal.specs.Answered.{IsAskedNow, IsGivenNow, IsRoutedNow}
 use Rattle.rt_safety.proofs.JobsOn.{own_slot}
@@ -349,8 +338,7 @@ module _ (w u : State) (query : Query) (q k : ℕ) (under : IsUnder w u query q 
       had.nodes ∙ ap (λ (g : List Seen). metadata_of g (record { 0 = k })) under.same.writes in
       let more = routed_more w under.asked k route.0 route.1 under.now in
       let put : new ≡ with_route under.asked (record { 0 = k }) (Planned (map unasked (plan_of (record { 0 = k }) (metadata_of w.store.writes (record { 0 = k }))))) =
-      by.noted ∙ ap (λ (ls : List Listed). with_route under.asked (record { 0 = k }) (Planned (map unasked (plan_of (record { 0 = k }) ls)))) nodes in
-      (
+      by.noted ∙ ap (λ (ls : List Listed). with_route under.asked (record { 0 = k }) (Planned (map unasked (plan_of (record { 0 = k }) ls)))) nodes in (
         subst (λ (a : Asking). IsAskedNow w a (k + 1)) (sym put) more,
         had.writes ∙ under.same.writes,
         had.unplanned,

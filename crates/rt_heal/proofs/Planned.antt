@@ -1,7 +1,6 @@
 -- At rest each piece of a partition's plan is served whole.
-use Rattle.std.proofs.Common.{◌≡◌, ℕ, ◌<◌, ◌⊎◌, inl, inr, List, [], ◌∷◌, Option, Some, None, refl, sym, ◌∙◌, ap, subst, slice_get}
-use Rattle.std.specs.Prelude.{unwrap_or}
-use Rattle.std.proofs.lemmas.Option.{none-some, same_Some}
+use Rattle.std.proofs.Common.{◌≡◌, ◌<◌, ◌⊎◌, inl, inr, List, [], ◌∷◌, Some, None, refl, sym, ◌∙◌, ap, subst}
+use Rattle.std.proofs.lemmas.Option.{same_Some}
 use Rattle.rt_base.specs.declared.numbers.Instance.{Instance}
 use Rattle.rt_base.specs.declared.numbers.Offset.{Offset}
 use Rattle.rt_base.specs.declared.numbers.Partition.{Partition}
@@ -10,7 +9,6 @@ use Rattle.rt_lists.specs.Members.{Has}
 use Rattle.rt_model.specs.Entries.{entries_of}
 use Rattle.rt_model.specs.Ideal.{mode_of}
 use Rattle.rt_model.specs.Metadata.{metadata_of, IsDoneStatus, IsInProgress, StartsAfter}
-use Rattle.rt_model.specs.Order.{NamesOnce}
 use Rattle.rt_model.specs.Plan.{piece_of, plan_of, planned}
 use Rattle.rt_model.specs.Repair.{last_listed}
 use Rattle.rt_model.specs.declared.commit.Commit.{Commit}
@@ -20,7 +18,6 @@ use Rattle.rt_model.specs.declared.node.Listed.{Listed}
 use Rattle.rt_model.specs.declared.piece.Piece.{Piece}
 use Rattle.rt_model.specs.declared.status.Status.{Status}
 use Rattle.rt_model.specs.declared.status.Status.TheVariants.{InProgress, Done, Abandoned}
-use Rattle.rt_nodes.specs.declared.server_node.ServerNode.{ServerNode}
 use Rattle.rt_past.specs.Files.{range_to}
 use Rattle.rt_past.specs.Segments.{IsAssignedTo}
 use Rattle.rt_state.specs.IsSafe.{past_of}

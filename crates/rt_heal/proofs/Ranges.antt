@@ -1,13 +1,12 @@
 -- The answer to a query that is asked of a world at rest names all offsets of each partition from the mark on.
-use Rattle.std.proofs.Common.{◌≡◌, ℕ, zero, suc, ◌+◌, ◌<◌, ◌≤◌, ◌⊎◌, inl, inr, Bool, true, false, cond, List, [], ◌∷◌, ◌++◌, Option, Some, None, Result, Ok, refl, sym, ◌∙◌, ap, subst, arith, map, length, slice_get, option_to_list}
+use Rattle.std.proofs.Common.{◌≡◌, ℕ, suc, ◌+◌, ◌<◌, ◌≤◌, ◌⊎◌, inl, inr, Bool, true, false, cond, List, [], ◌∷◌, ◌++◌, Option, Some, None, Ok, refl, sym, ◌∙◌, ap, subst, arith, map, length, slice_get, option_to_list}
 use Rattle.std.specs.Prelude.{◌==◌, option_map, unwrap_or}
 use Rattle.std.proofs.lemmas.Bool.{cases_Bool, cases_lt, cond-false, cond-true, eq-eqb, eqb-false, eqb-true, ne_eqb}
 use Rattle.std.proofs.lemmas.Option.{none-some, same_Some}
 use Rattle.rt_base.specs.declared.numbers.Offset.{Offset}
 use Rattle.rt_base.specs.declared.numbers.Partition.{Partition}
-use Rattle.rt_base.specs.declared.numbers.Sequence.{Sequence}
 use Rattle.rt_base.specs.declared.range.Range.{Range}
-use Rattle.rt_broker.specs.Answering.{asked_piece, pieces_in, routed_from, routed_of}
+use Rattle.rt_broker.specs.Answering.{asked_piece, pieces_in, routed_from}
 use Rattle.rt_broker.specs.Asking.{Asking, first_served, route_at, served_by, served_in}
 use Rattle.rt_broker.specs.declared.piece_asked.PieceAnswer.{PieceAnswer}
 use Rattle.rt_broker.specs.declared.piece_asked.PieceAsked.{PieceAsked}
@@ -20,7 +19,7 @@ use Rattle.rt_lists.specs.Members.{Has}
 use Rattle.rt_model.specs.Metadata.{metadata_of, IsInProgress, StartsAfter}
 use Rattle.rt_model.specs.Plan.{piece_of, plan_of, planned}
 use Rattle.rt_model.specs.Repair.{last_listed}
-use Rattle.rt_model.specs.RightAnswer.{AskedPiece, joined, merged, missing_if, missing_in, missing_of, named_in, named_ranges, served_ranges, unserved}
+use Rattle.rt_model.specs.RightAnswer.{joined, merged, missing_if, missing_in, missing_of, named_in, named_ranges, served_ranges, unserved}
 use Rattle.rt_model.specs.declared.answer.Answer.{Answer}
 use Rattle.rt_model.specs.declared.node.Listed.{Listed}
 use Rattle.rt_model.specs.declared.piece.Piece.{Piece}

@@ -1,11 +1,10 @@
 -- A partition has no more segments than the store has writes.
-use Rattle.std.proofs.Common.{◌≡◌, ℕ, zero, suc, ◌+◌, ◌<◌, ◌≤◌, ◌⊎◌, inl, inr, Bool, true, false, cond, List, [], ◌∷◌, ◌++◌, length, refl, sym, ◌∙◌, ap, arith, length-append}
+use Rattle.std.proofs.Common.{◌≡◌, ℕ, zero, suc, ◌+◌, ◌<◌, ◌≤◌, inl, inr, Bool, true, false, cond, List, [], ◌∷◌, ◌++◌, length, refl, sym, ◌∙◌, ap, arith, length-append}
 use Rattle.std.specs.Prelude.{nat_eq, nat_le}
 use Rattle.std.specs.List.{filter}
 use Rattle.std.proofs.lemmas.Bool.{cond-true, eq-eqb, false≢true, le-leb, leb-true, lt-leb}
 use Rattle.rt_base.specs.declared.numbers.Partition.{Partition}
 use Rattle.rt_lists.specs.Members.{Has}
-use Rattle.rt_model.specs.declared.node.Key.{Key}
 use Rattle.rt_model.specs.declared.node.Seen.{Seen}
 use Rattle.rt_model.specs.Lawful.{IsLawfulHistory}
 use Rattle.rt_model.specs.Metadata.{node_key, past_key, sequences_of}

@@ -2,13 +2,12 @@
 use Rattle.std.proofs.Common.{◌≡◌, ℕ, ◌<◌, ◌≤◌, ◌⊎◌, inl, inr, Bool, true, false, ◌&&◌, ◌||◌, length, Option, Some, None, refl, sym, ◌∙◌, ap, subst, arith}
 use Rattle.std.specs.Prelude.{nat_lt, is_some, IfSome, Result, Ok, Err}
 use Rattle.std.specs.Map.{lookup}
-use Rattle.std.proofs.lemmas.Bool.{and_cases, and_from, eq-eqb, false≢true, lt-ltb, ltb-false, or_parts, true≢false}
-use Rattle.std.proofs.lemmas.Option.{none-some, same_Some}
+use Rattle.std.proofs.lemmas.Bool.{and_cases, eq-eqb, lt-ltb, ltb-false, or_parts, true≢false}
+use Rattle.std.proofs.lemmas.Option.{same_Some}
 use Rattle.rt_base.specs.declared.numbers.Moment.{Moment}
 use Rattle.rt_base.specs.declared.numbers.Offset.{Offset}
 use Rattle.rt_base.specs.declared.numbers.Partition.{Partition}
 use Rattle.rt_base.specs.declared.numbers.Sequence.{Sequence}
-use Rattle.rt_base.specs.declared.range.Range.{Range}
 use Rattle.rt_consumer.specs.Batch.{is_timed_out}
 use Rattle.rt_consumer.specs.Consumer.{IsConsumer, IsKept, IsPhase, at, cur, cur_in, end_in, end_of as done_end, state_at, state_of}
 use Rattle.rt_consumer.specs.Next.{takes_in}
@@ -20,7 +19,7 @@ use Rattle.rt_consumer.specs.declared.phase.Phase.TheVariants as phase
 use Rattle.rt_consumer.specs.declared.stage.Stage.{Stage}
 use Rattle.rt_consumer.specs.declared.stage.Stage.TheVariants.{InitialConsuming, CatchingUp, Holding, ConsumingToOnline, Retaining, Building, Starting, Uploading, Ending}
 use Rattle.rt_entry.specs.Entry.{wanted_by}
-use Rattle.rt_entry.specs.Serving.{serve_entry, serve_file, serve_loaded, serve_phase, serve_rows}
+use Rattle.rt_entry.specs.Serving.{serve_file, serve_loaded, serve_phase, serve_rows}
 use Rattle.rt_entry.specs.Transition.{is_due, is_open}
 use Rattle.rt_entry.specs.declared.entry.Entry.{Entry}
 use Rattle.rt_entry.specs.declared.entry.Entry.TheVariants.{Replica, Committed}
@@ -42,7 +41,6 @@ use Rattle.rt_model.specs.declared.commit.Commit.{Commit}
 use Rattle.rt_model.specs.declared.ideal_state.Mode.{Mode}
 use Rattle.rt_model.specs.declared.ideal_state.Mode.TheVariants as mode
 use Rattle.rt_model.specs.declared.node.Listed.{Listed}
-use Rattle.rt_model.specs.declared.node.Node.{Node}
 use Rattle.rt_model.specs.declared.node.Node.TheVariants as node
 use Rattle.rt_model.specs.declared.node.Seen.{Seen}
 use Rattle.rt_model.specs.declared.piece.Piece.{Piece}
@@ -62,8 +60,7 @@ use Rattle.rt_scan.specs.Scanned.{rows_before}
 use Rattle.rt_segment.specs.Segment.{SealedSegment, rows_of}
 use Rattle.rt_server.specs.Lasting.{IsCommittedOver, IsLoaded, IsServerOver}
 use Rattle.rt_server.specs.Serving.{serve, serve_at}
-use Rattle.rt_server.specs.Table.{Segment, ServerState, segment_of, entry_of, is_segment, replica_at, replica_of, target_of, wants_at}
-use Rattle.rt_server.specs.Calls.{targets_of}
+use Rattle.rt_server.specs.Table.{Segment, ServerState, segment_of, entry_of, is_segment, replica_at, target_of, wants_at}
 use Rattle.rt_server.proofs.Kept.{replica_found}
 use Rattle.rt_server.proofs.LastingPuts.{found_over, replica_held, segment}
 use Rattle.rt_server.proofs.LastingServes.{serves_right}

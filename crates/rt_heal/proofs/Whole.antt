@@ -1,7 +1,6 @@
 -- A query over a world at rest is answered whole.
 use Rattle.std.proofs.Common.{◌≡◌, ◌<◌, [], Ok, false, ◌∙◌, ap}
 use Rattle.rt_base.specs.declared.numbers.Partition.{Partition}
-use Rattle.rt_base.specs.declared.range.Range.{Range}
 use Rattle.rt_macros.specs.Doing.{Reached}
 use Rattle.rt_macros.specs.Querying.{Queries}
 use Rattle.rt_macros.specs.Settling.{Round}
@@ -12,7 +11,7 @@ use Rattle.rt_model.specs.declared.answer.Answer.{Answer}
 use Rattle.rt_model.specs.declared.query.Query.{Query}
 use Rattle.rt_state.specs.IsSafeWorld.{IsSafeWorld}
 use Rattle.rt_state.specs.declared.state.State.{State}
-use Rattle.rt_heal.specs.Answered.{IsAnsweredWhole, whole_from}
+use Rattle.rt_heal.specs.Answered.{IsAnsweredWhole}
 use Rattle.rt_heal.specs.AtRest.{AreUp, IsAtRest}
 use Rattle.rt_heal.specs.Led.{IsLed}
 use Rattle.rt_heal.specs.Mended.{GoesOn, NeedsNoRepair}

@@ -1,5 +1,5 @@
 -- What a world at rest has of each partition.
-use Rattle.std.proofs.Common.{◌≡◌, ℕ, zero, suc, ◌+◌, ◌<◌, ◌≤◌, List, [], ◌∷◌, Some, length, slice_get, refl, ◌∙◌, ap, subst, arith}
+use Rattle.std.proofs.Common.{◌≡◌, ℕ, zero, suc, ◌<◌, ◌≤◌, List, [], ◌∷◌, Some, length, slice_get, refl, ◌∙◌, ap, subst, arith}
 use Rattle.rt_assign.proofs.Ring.{setup_placed}
 use Rattle.rt_assign.specs.Placement.{replicas_of}
 use Rattle.rt_base.specs.declared.numbers.Instance.{Instance}

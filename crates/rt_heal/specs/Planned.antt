@@ -1,7 +1,6 @@
 -- When the segments of a partition are served, each of them whole.
-use Rattle.std.specs.Prelude.{◌≡◌, Some, None, Option, slice_get}
+use Rattle.std.specs.Prelude.{◌≡◌, Some, slice_get}
 use Rattle.rt_base.specs.declared.numbers.Instance.{Instance}
-use Rattle.rt_base.specs.declared.numbers.Offset.{Offset}
 use Rattle.rt_base.specs.declared.numbers.Partition.{Partition}
 use Rattle.rt_lists.specs.Members.{Has}
 use Rattle.rt_model.specs.Entries.{entries_of}
