@@ -20,6 +20,10 @@ LENGTHS = [3, 4, 5, 6, 7, 8, 9, 10, 12, 15]
 LONGER = [30, 60, 120]
 BEGINNINGS = [[], ["fill 0 {}"], ["fill 0 {}", "settle {}"], ["fill 0 {}", "settle {}", "fill 0 {}"]]
 TRIES = [1, 2, 4, 6, 8, 12]
+# Milliseconds about the bounds of a machine's times, beside those of schedules.
+TICKS = [1, 5999, 6000, 6001, 119_999, 120_000, 120_001, 1_800_000, 1_800_001]
+# In every second walk lines are tried at so many of its last steps alone.
+LAST = 4
 # The words of lines that are due at hardly any moment, and those of lines that are due at most.
 SELDOM = ["force", "stop", "build", "report", "extend", "deliver", "job", "reply", "restart", "transit", "download", "repair", "retain", "route", "piece",
           "answer", "exchange", "peer", "forceStatus", "rehearse", "consume"]
@@ -48,11 +52,11 @@ class Walk(schedules.Schedule):
         for line in self.random.choice(BEGINNINGS):
             self.tries(line.format(self.random.randint(1, 6)))
         steps = len(self.lines) + self.random.choice(LENGTHS if self.random.often(0.96) else LONGER)
-        tries = self.random.choice(TRIES)
+        tries, quiet = self.random.choice(TRIES), self.random.choice([0, max(0, steps - LAST)])
         for _ in range(3 * steps):
             if self.is_over or len(self.lines) >= steps:
                 break
-            for line in dict.fromkeys(self.wrong() for _ in range(tries)):
+            for line in dict.fromkeys(self.wrong() for _ in range(tries if len(self.lines) >= quiet else 0)):
                 self.tries(line)
             line = self.next_line()
             if line is not None:
@@ -126,6 +130,9 @@ class Walk(schedules.Schedule):
 
     def to_any_ask(self):
         return f"ask {self.any_text()}"
+
+    def to_tick(self):
+        return f"tick {self.random.choice(TICKS)}" if self.random.often(0.5) else super().to_tick()
 
     def to_hybrid(self):
         return f"hybrid {self.any_text()}"
