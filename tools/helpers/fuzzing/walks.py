@@ -29,7 +29,7 @@ SELDOM = ["force", "stop", "build", "report", "extend", "deliver", "job", "reply
           "answer", "exchange", "peer", "forceStatus", "rehearse", "consume"]
 OFTEN = [word for word in forms.FORMS if word not in SELDOM]
 SMALL = ["0", "0", "0", "1", "1", "2", "3", "5"]
-NUMBER = re.compile(r"(?<![A-Z])[NPQK](?![A-Z])")
+NUMBER = re.compile(r"(?<![A-Z])([scmqjf]?)([NPQK])(?![A-Z])")
 # How a line begins that is skipped.
 SKIPPED = ("", "#")
 BYTES = [chr(number) for number in range(32, 127)] + ["\t", "\0", "\x7f", "\udcff", "\udcc3", "\r", "é", " "]
@@ -105,9 +105,16 @@ class Walk(schedules.Schedule):
     def fresh(self):
         word = self.random.choice(SELDOM if self.random.often(0.8) else OFTEN)
         form = self.random.choice(mutations.CHOICES[word]) if word in mutations.CHOICES else forms.FORMS[word]
-        form = NUMBER.sub(lambda _: self.random.choice(SMALL), form)
+        form = NUMBER.sub(self.number_for, form)
         form = form.replace("TEXT", self.random.choice(self.settings.queries)) if "TEXT" in form else form
         return f"{word} {form}".rstrip(" ") if ".*" not in form else f"{word} {form[:-2]}{self.random.choice(self.settings.messages)}"
+
+    def number_for(self, found):
+        """A number in the place of a form's letter: most often one that there is."""
+        kind, letter = found.groups()
+        counts = {"s": self.world.setup.servers, "c": self.world.setup.controllers, "m": len(self.world.messages), "q": len(self.world.queries)}
+        count = self.settings.partitions if letter == "P" else counts.get(kind, 3)
+        return kind + (self.random.choice(SMALL) if count == 0 or self.random.often(0.15) else str(self.random.randrange(count)))
 
     def renumbered(self, line):
         return mutations.renumbered(self.random, line)
