@@ -118,7 +118,7 @@ pub record WasThen {A B : Type 0} (first : Act A) (behind : A → Act B) (w : St
   pub further : behind told between.world last (Ok y)
   pub whole : v ≡ after between.turns last
 
-told_or : {A : Type 0} (x : A) (refusal : Refusal) → Ok x ≡ Err refusal → ⊥
+pub told_or : {A : Type 0} (x : A) (refusal : Refusal) → Ok x ≡ Err refusal → ⊥
 told_or x refusal e = cc
 
 pub was_then : {A B : Type 0} (first : Act A) (behind : A → Act B) (w : State) (v : Reached) (y : B) → Then first behind w v (Ok y) → WasThen first behind w v y
@@ -212,7 +212,7 @@ record IsAnsweredBehind (w : State) (v : State) (number : ℕ) (answer : Answer)
   steps : Steps world (event.Answer number) last (Ok (came.Answered answer))
   same : v ≡ last
 
-given : (number : ℕ) (u : State) (m last : Reached) (answer : Answer) (o : Outcome) → Happens (event.Answer number) u m (Ok o)
+pub given : (number : ℕ) (u : State) (m last : Reached) (answer : Answer) (o : Outcome) → Happens (event.Answer number) u m (Ok o)
     → GivesAnswer (answer_in o) m.world last (Ok answer) → Steps u (event.Answer number) m.world (Ok (came.Answered answer)) × (last.world ≡ m.world)
 given number u m last answer (came.Answered a) h g =
     (subst (λ (x : Answer). Steps u (event.Answer number) m.world (Ok (came.Answered x))) (sym (same_told answer a g.1)) h.by.0, ap (λ (z : Reached). z.world) g.0)
@@ -254,7 +254,7 @@ by_number (Some number) u v answer h = (number, refl, after_asking number u v an
 by_number None u v answer h = absurd (told_or answer _ h.1)
 
 -- the number of a query that is asked is that of the queries before it
-asked_number : (w v : State) (query : Query) (o : Outcome) (number : ℕ) → Steps w (event.Ask query) v (Ok o) → asked_in o ≡ Some number → number ≡ length w.queries
+pub asked_number : (w v : State) (query : Query) (o : Outcome) (number : ℕ) → Steps w (event.Ask query) v (Ok o) → asked_in o ≡ Some number → number ≡ length w.queries
 asked_number w v query o number (cost, due, is) e =
     let told : o ≡ came.Asked (length w.queries) = ap (λ (z : State × Outcome). z.1) is in
     same_number number (length w.queries) (sym e ∙ ap (λ x. asked_in x) told)
@@ -458,14 +458,27 @@ silent_reads said w v text led log same answers =
       answers = λ queries k. answers queries;
     }
 
+-- what was told beside a desk
+pub record IsBeside (act : Act (List ℕ)) (w : State) (v : Reached) (text : List ℕ) : Type 0 where
+  pub between : Reached
+  pub came : act w between (Ok text)
+  pub same : v.world ≡ between.world
+
+pub beside : (act : Act (List ℕ)) (desk after : Desk) (w : State) (v : Reached) (text : List ℕ) → Beside desk act w v (Ok (told after text)) → IsBeside act w v text
+beside act desk after w v text h =
+    let t = was_then act (λ x. Gives (told desk x)) w v (told after text) h in
+    let own : text ≡ t.told = ap (λ (x : Told). x.text) (same_told (told after text) (told desk t.told) t.further.1) in
+    record {
+      between = t.between;
+      came = subst (λ (x : List ℕ). act w t.between (Ok x)) (sym own) t.came;
+      same = ap world_of t.whole ∙ ap world_of t.further.0;
+    }
+
 -- behind the desk stands what was told
 beside_reads : (said : Line) (act : Act (List ℕ)) (desk after : Desk) (w : State) (v : Reached) (text : List ℕ) → Beside desk act w v (Ok (told after text))
     → ((u : Reached) → act w u (Ok text) → LineReads said w u.world text) → LineReads said w v.world text
 beside_reads said act desk after w v text h f =
-    let t = was_then act (λ x. Gives (told desk x)) w v (told after text) h in
-    let same : v.world ≡ t.between.world = ap world_of t.whole ∙ ap world_of t.further.0 in
-    let own : text ≡ t.told = ap (λ (x : Told). x.text) (same_told (told after text) (told desk t.told) t.further.1) in
-    subst (λ (z : State). LineReads said w z text) (sym same) (f t.between (subst (λ (x : List ℕ). act w t.between (Ok x)) (sym own) t.came))
+    let b = beside act desk after w v text h in subst (λ (z : State). LineReads said w z text) (sym b.same) (f b.between b.came)
 
 pub line_reads : (said : Line) (desk after : Desk) (w : State) (v : Reached) (text : List ℕ) → IsSafeWorld w → FitsLine w.setup.schema said
     → LineTold said desk w v (Ok (told after text)) → LineReads said w v.world text

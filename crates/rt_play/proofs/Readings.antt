@@ -7,13 +7,16 @@ use Rattle.rt_lines.specs.Header.{NumberedLine, header_of}
 use Rattle.rt_lines.specs.Lines.{script_lines}
 use Rattle.rt_lines.specs.declared.play_fault.PlayFault.{PlayFault}
 use Rattle.rt_macros.specs.Doing.{reached}
+use Rattle.rt_model.specs.Setup.{IsSetup}
 use Rattle.rt_model.specs.declared.query.Query.{Query}
 use Rattle.rt_model.specs.declared.setup.Setup.{Setup}
 use Rattle.rt_play.proofs.Beginnings.{beginning_taken}
+use Rattle.rt_play.proofs.Commits.{front_commits, none_told}
 use Rattle.rt_play.proofs.LineReads.{line_reads}
 use Rattle.rt_play.proofs.ScriptRuns.{line_keeps}
 use Rattle.rt_play.specs.Beginning.{beginning_of, going_from}
 use Rattle.rt_play.specs.Going.{Going}
+use Rattle.rt_play.specs.Ledger.{CommitsStay}
 use Rattle.rt_play.specs.Reader.{AllAnswerSo, AnswersCount, AnswersSo, asked_behind, produced_behind}
 use Rattle.rt_play.specs.Report.{FrontRuns, IsFrontBehind, IsFrontOfReport, IsReport, IsReportBehind, Report, RunAll, Runs}
 use Rattle.rt_play.proofs.ShownStays.{front_stays, none_shown}
@@ -63,11 +66,15 @@ lines_read (line ∷ lines) rest g turns h texts queries safe k run =
 none_asked : (setup : Setup) → AreAsked (start setup) []
 none_asked setup = record { count = refl; same = λ q a at. absurd (none-some (Some a) at) }
 
-front_reads : (beginning : Beginning) (lines : List NumberedLine) (texts : List (List ℕ)) → IsSafeWorld (start beginning.setup)
+front_reads : (beginning : Beginning) (lines : List NumberedLine) (texts : List (List ℕ)) → IsSetup beginning.setup
     → FrontRuns lines (going_from beginning) texts → AnswersCount beginning.setup lines texts
-front_reads beginning lines texts safe front =
+front_reads beginning lines texts is front =
     subst (λ ls. AnswersCount beginning.setup ls texts) (sym front.whole)
-    (lines_read front.front front.rest (going_from beginning) front.turns front.last texts [] safe (none_asked beginning.setup) front.run)
+    (lines_read front.front front.rest (going_from beginning) front.turns front.last texts [] (start_safe beginning.setup is) (none_asked beginning.setup) front.run)
+
+front_shows : (beginning : Beginning) (lines : List NumberedLine) (texts : List (List ℕ)) → IsSetup beginning.setup
+    → FrontRuns lines (going_from beginning) texts → EndedStays beginning.setup lines texts
+front_shows beginning lines texts is front = front_stays beginning lines texts (start_safe beginning.setup is) front
 
 no_text : (setup : Setup) (lines : List NumberedLine) (texts : List (List ℕ)) → texts ≡ [] → AnswersCount setup lines texts
 no_text setup lines texts e = subst (AnswersCount setup lines) (sym e) tt
@@ -92,7 +99,7 @@ same_rest a b xs ys f = ap (λ (z : Setup × List NumberedLine). z.1) (same_head
 
 -- what is read of each front that ran behind a header, and of no text, is read of each report and of each front of one
 module _ (Law : Setup → List NumberedLine → List (List ℕ) → Type 0)
-    (reads : (beginning : Beginning) (lines : List NumberedLine) (texts : List (List ℕ)) → IsSafeWorld (start beginning.setup) → FrontRuns lines (going_from beginning) texts
+    (reads : (beginning : Beginning) (lines : List NumberedLine) (texts : List (List ℕ)) → IsSetup beginning.setup → FrontRuns lines (going_from beginning) texts
     → Law beginning.setup lines texts) (none : (setup : Setup) (lines : List NumberedLine) (texts : List (List ℕ)) → texts ≡ [] → Law setup lines texts)
     (input : List ℕ) (setup : Setup) (lines : List NumberedLine) (e : header_of (script_lines input) ≡ Ok (setup, lines)) where
   taken_reads : (x : Beginning × List NumberedLine) (texts : List (List ℕ)) → beginning_of (script_lines input) ≡ Ok x → FrontRuns x.1 (going_from x.0) texts
@@ -100,9 +107,9 @@ module _ (Law : Setup → List NumberedLine → List (List ℕ) → Type 0)
   taken_reads x texts b front =
       let begun = beginning_taken (script_lines input) x.0 x.1 b in
       let one : header x.0.setup x.1 ≡ header setup lines = sym begun ∙ e in
-      let safe = start_safe x.0.setup (header_taken (script_lines input) x.0.setup x.1 begun) in
       subst (λ (s : Setup). Law s lines texts) (same_setup x.0.setup setup x.1 lines one)
-      (subst (λ ls. Law x.0.setup ls texts) (same_rest x.0.setup setup x.1 lines one) (reads x.0 x.1 texts safe front))
+      (subst (λ ls. Law x.0.setup ls texts) (same_rest x.0.setup setup x.1 lines one)
+      (reads x.0 x.1 texts (header_taken (script_lines input) x.0.setup x.1 begun) front))
 
   report_by : (read : Read) (report : Report) → beginning_of (script_lines input) ≡ read → IsReportBehind read report → Law setup lines report.texts
   report_by (Ok x) report b is = taken_reads x report.texts b is.runs
@@ -122,8 +129,17 @@ front_of_report_reads input texts setup lines is e = front_by AnswersCount front
 
 pub report_stays : (input : List ℕ) (report : Report) (setup : Setup) (lines : List NumberedLine) → IsReport input report → header_of (script_lines input) ≡ Ok (setup, lines)
     → EndedStays setup lines report.texts
-report_stays input report setup lines is e = report_by EndedStays front_stays none_shown input setup lines e (beginning_of (script_lines input)) report refl is
+report_stays input report setup lines is e = report_by EndedStays front_shows none_shown input setup lines e (beginning_of (script_lines input)) report refl is
 
 pub front_of_report_stays : (input : List ℕ) (texts : List (List ℕ)) (setup : Setup) (lines : List NumberedLine) → IsFrontOfReport input texts
     → header_of (script_lines input) ≡ Ok (setup, lines) → EndedStays setup lines texts
-front_of_report_stays input texts setup lines is e = front_by EndedStays front_stays none_shown input setup lines e (beginning_of (script_lines input)) texts refl is
+front_of_report_stays input texts setup lines is e = front_by EndedStays front_shows none_shown input setup lines e (beginning_of (script_lines input)) texts refl is
+
+pub report_commits : (input : List ℕ) (report : Report) (setup : Setup) (lines : List NumberedLine) → IsReport input report → header_of (script_lines input) ≡ Ok (setup, lines)
+    → CommitsStay setup lines report.texts
+report_commits input report setup lines is e = report_by CommitsStay front_commits none_told input setup lines e (beginning_of (script_lines input)) report refl is
+
+pub front_of_report_commits : (input : List ℕ) (texts : List (List ℕ)) (setup : Setup) (lines : List NumberedLine) → IsFrontOfReport input texts
+    → header_of (script_lines input) ≡ Ok (setup, lines) → CommitsStay setup lines texts
+front_of_report_commits input texts setup lines is e =
+    front_by CommitsStay front_commits none_told input setup lines e (beginning_of (script_lines input)) texts refl is

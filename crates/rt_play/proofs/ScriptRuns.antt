@@ -1,5 +1,5 @@
 -- The turns of a script's lines are a run of their cluster.
-use Rattle.std.proofs.Common.{◌≡◌, ℕ, List, [], ◌∷◌, ◌++◌, Option, Some, None, Ok, Err, refl, ap, sym, subst}
+use Rattle.std.proofs.Common.{◌≡◌, ℕ, List, [], ◌∷◌, Option, Some, None, Ok, Err, refl, ap, sym, subst}
 use Rattle.std.specs.Prelude.{IfSome}
 use Rattle.rt_desk.proofs.Reaching.{leads_by}
 use Rattle.rt_desk.proofs.ReachingLines.{line_pauses}
@@ -17,6 +17,7 @@ use Rattle.rt_play.specs.Going.{Going}
 use Rattle.rt_play.specs.Report.{FrontRuns, IsReportFrom, IsStop, Report, RunAll, Runs, Stops, end_of, said_at}
 use Rattle.rt_play.specs.declared.beginning.Beginning.{Beginning}
 use Rattle.rt_play.proofs.Beginnings.{beginning_taken}
+use Rattle.rt_play.proofs.Leading.{leads_then}
 use Rattle.rt_safety.specs.Runs.{Turn, Leads}
 use Rattle.rt_safety.proofs.Later.{leads_on, runs_are_safe}
 use Rattle.rt_safety.proofs.Runs.{leads_safe}
@@ -25,12 +26,7 @@ use Rattle.rt_script.specs.declared.line.Line.{Line}
 use Rattle.rt_script.proofs.LinesFit.{line_fits}
 use Rattle.rt_state.specs.IsSafeWorld.{IsSafeWorld}
 use Rattle.rt_state.specs.Start.{start}
-use Rattle.rt_state.specs.declared.state.State.{State}
 use Rattle.std.specs.Prelude.{Result}
-
-leads_then : (turns more : List Turn) (w u v : State) → Leads w turns u → Leads u more v → Leads w (turns ++ more) v
-leads_then [] more w u v same rest = subst (λ x. Leads x more v) same rest
-leads_then (turn ∷ turns) more w u v (next, t, further) rest = (next, t, leads_then turns more next u v further rest)
 
 -- ---- a line
 

@@ -46,13 +46,13 @@ use Rattle.rt_store.specs.Contents.{starting_of}
 -- ---- in a world
 
 -- the node of a segment, as `show` shows it
-abbrev node_of : State → Partition → Sequence → Option Seen
+abbrev pub node_of : State → Partition → Sequence → Option Seen
 node_of w p q = value_of w.store.writes (node_key p q.0)
 
 -- a node that ended a segment of the cluster was written
-record HasEnded (w : State) (p : Partition) (q : Sequence) (seen : Seen) : Type 0 where
-  within : p.0 < w.setup.partitions
-  ending : IsEnding w.store.writes p q.0 seen
+pub record HasEnded (w : State) (p : Partition) (q : Sequence) (seen : Seen) : Type 0 where
+  pub within : p.0 < w.setup.partitions
+  pub ending : IsEnding w.store.writes p q.0 seen
 
 ended_now : (w : State) (p : Partition) (q : Sequence) (seen : Seen) → p.0 < w.setup.partitions → node_of w p q ≡ Some seen → IsFinal seen.node → HasEnded w p q seen
 ended_now w p q seen within is final =
@@ -74,7 +74,7 @@ shown_final node.Boot seen final = absurd final
 shown_final node.Gone seen final = absurd final
 
 -- then it is there still, or it is gone
-stays_or_gone : (w : State) (p : Partition) (q : Sequence) (seen : Seen) → IsSafeWorld w → HasEnded w p q seen → (node_of w p q ≡ Some seen) ⊎ (node_of w p q ≡ None)
+pub stays_or_gone : (w : State) (p : Partition) (q : Sequence) (seen : Seen) → IsSafeWorld w → HasEnded w p q seen → (node_of w p q ≡ Some seen) ⊎ (node_of w p q ≡ None)
 stays_or_gone w p q seen safe h = by_last ((has_endings (starting_of w.setup) w.store.writes safe.safe.past.lawful p q.0 h.within).stays seen h.ending)
   where
     by_last : (last_write w.store.writes (node_key p q.0) ≡ Some seen) ⊎ IsGoneLast w.store.writes p q.0 → (node_of w p q ≡ Some seen) ⊎ (node_of w p q ≡ None)

@@ -1,7 +1,10 @@
+pub mod AnswerTexts
 pub mod Beginning
 pub mod Generating
 pub mod Going
 pub mod Headline
+pub mod Ledger
+pub mod Named
 pub mod Plays
 pub mod Reader
 pub mod Report

@@ -20,4 +20,7 @@ pub use laws::a_script_is_a_run;
 pub use one_report::a_script_has_one_report;
 pub use play_end::PlayEnd;
 pub use player::play;
-pub use reader::{each_answer_counts_what_was_produced, what_is_shown_to_have_ended_stays};
+pub use reader::{
+    each_answer_counts_what_was_produced, the_text_of_an_answer_tells_its_ranges,
+    what_is_shown_to_have_ended_stays, what_was_committed_stays,
+};

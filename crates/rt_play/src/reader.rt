@@ -3,10 +3,14 @@
 ghost use Rattle.std.specs.Prelude.{◌≡◌, ℕ, List, Ok};
 ghost use Rattle.rt_lines.specs.Header.{NumberedLine, header_of};
 ghost use Rattle.rt_lines.specs.Lines.{script_lines};
+ghost use Rattle.rt_model.specs.declared.answer.Answer.{Answer};
 ghost use Rattle.rt_model.specs.declared.setup.Setup.{Setup};
+ghost use Rattle.rt_play.specs.AnswerTexts.{AreWords};
+ghost use Rattle.rt_play.specs.Ledger.{CommitsStay};
 ghost use Rattle.rt_play.specs.Reader.{AnswersCount};
 ghost use Rattle.rt_play.specs.Report.{IsFrontOfReport, IsReport, Report};
 ghost use Rattle.rt_play.specs.Shown.{EndedStays};
+ghost use Rattle.rt_report.specs.BrokerTexts.{answer_line};
 
 /// Each answer counts what was produced: the ranges that it names come in order, each once, within what the `produce` and `fill` lines above it
 /// gave, and its rows are those of its query over exactly the messages that these lines gave at these offsets. So it is of a `query` line, and
@@ -25,4 +29,22 @@ pub fn what_is_shown_to_have_ended_stays()
         → header_of (script_lines input) ≡ Ok (setup, lines) → EndedStays setup lines report.texts }
     ensures front { (input : List ℕ) (texts : List (List ℕ)) (setup : Setup) (lines : List NumberedLine) → IsFrontOfReport input texts
         → header_of (script_lines input) ≡ Ok (setup, lines) → EndedStays setup lines texts }
+{}
+
+/// What was committed stays: there is one range for each segment, and from a line on that tells of a segment's commit (a `show meta` that
+/// tells DONE, or a `job` that tells COMMIT_SUCCESS for a request that a `report` line told), each later `show meta` line of it tells DONE over
+/// this range, or that the segment was retired; and the answer of each later `query` line names the whole of this range, or nothing of it. And
+/// an answer that misses nothing tiles: what the answer of a `query` line names of a partition of which it misses nothing goes without a gap
+/// through every such range that wasn't retired, and from the first offset on where the table has no retention.
+pub fn what_was_committed_stays()
+    ensures report { (input : List ℕ) (report : Report) (setup : Setup) (lines : List NumberedLine) → IsReport input report
+        → header_of (script_lines input) ≡ Ok (setup, lines) → CommitsStay setup lines report.texts }
+    ensures front { (input : List ℕ) (texts : List (List ℕ)) (setup : Setup) (lines : List NumberedLine) → IsFrontOfReport input texts
+        → header_of (script_lines input) ≡ Ok (setup, lines) → CommitsStay setup lines texts }
+{}
+
+/// The text of an answer tells which ranges it names, and what it misses: two answers whose numbers fit 64 bits have one text only if they name
+/// the same ranges and miss the same.
+pub fn the_text_of_an_answer_tells_its_ranges()
+    ensures { (a b : Answer) → AreWords a → AreWords b → answer_line a ≡ answer_line b → (a.ranges ≡ b.ranges) × (a.missing ≡ b.missing) }
 {}

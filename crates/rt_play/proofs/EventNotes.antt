@@ -1,0 +1,441 @@
+-- What is noted of an event holds behind it, and what it tells agrees with the ranges.
+use Rattle.std.proofs.Common.{◌≡◌, ◌<◌, ◌==◌, ◌&&◌, ℕ, Bool, true, false, cond, not, List, [], ◌∷◌, ◌++◌, length, Option, Some, None, Ok, refl, sym, ◌∙◌, ap, subst, slice_get, ⊎_elim, inl, inr}
+use Rattle.std.specs.List.{filter}
+use Rattle.std.proofs.lemmas.Bool.{and_parts, eq-eqb, eqb-true, false≢true, ltb-true, ne_eqb}
+use Rattle.rt_base.specs.declared.numbers.ControllerId.{ControllerId}
+use Rattle.rt_base.specs.declared.numbers.Instance.{Instance}
+use Rattle.rt_base.specs.declared.numbers.Offset.{Offset}
+use Rattle.rt_base.specs.declared.numbers.Partition.{Partition}
+use Rattle.rt_base.specs.declared.numbers.Sequence.{Sequence}
+use Rattle.rt_base.specs.declared.range.Range.{Range}
+use Rattle.rt_controller.proofs.StartsAlone.{starts_at_machine}
+use Rattle.rt_controller.specs.Controller.{Controlling}
+use Rattle.rt_controller.specs.Steps.{Handles}
+use Rattle.rt_controller.specs.declared.handled.Handled.{Handled}
+use Rattle.rt_controller.specs.declared.handled.Handled.TheVariants as handled
+use Rattle.rt_deep.specs.Meaning.{Told as ToldDeep}
+use Rattle.rt_deep.specs.Memory.{means as deep_means}
+use Rattle.rt_events.specs.Fits.{Fits}
+use Rattle.rt_events.specs.declared.event.Event.{Event}
+use Rattle.rt_events.specs.declared.event.Event.TheVariants as event
+use Rattle.rt_events.specs.declared.outcome.Outcome.{Outcome}
+use Rattle.rt_events.specs.declared.outcome.Outcome.TheVariants as came
+use Rattle.rt_events.specs.declared.refusal.Refusal.TheVariants.{NoSuchNode}
+use Rattle.rt_lists.proofs.Members.{Has-append_cases, Has-filter, Has-front, Has-map, slice_get-push}
+use Rattle.rt_lists.specs.Members.{Has}
+use Rattle.rt_model.proofs.Histories.{value_of-last}
+use Rattle.rt_model.proofs.Kept.{last_write-Has}
+use Rattle.rt_model.specs.History.{value_of}
+use Rattle.rt_model.specs.Messages.{asked_of}
+use Rattle.rt_model.specs.Metadata.{IsDone, IsDoneStatus, IsFinal, IsFinalStatus, node_key}
+use Rattle.rt_model.specs.declared.node.Node.{Node}
+use Rattle.rt_model.specs.declared.node.Node.TheVariants as node
+use Rattle.rt_model.specs.declared.node.Seen.{Seen}
+use Rattle.rt_model.specs.declared.reply.Reply.{Reply}
+use Rattle.rt_model.specs.declared.reply.ReplyStatus.{ReplyStatus}
+use Rattle.rt_model.specs.declared.reply.ReplyStatus.TheVariants as status
+use Rattle.rt_model.specs.declared.request.Request.{Request}
+use Rattle.rt_model.specs.declared.request.RequestKind.{RequestKind}
+use Rattle.rt_model.specs.declared.request.RequestKind.TheVariants as kind
+use Rattle.rt_model.specs.declared.seg_meta.SeenMeta.{SeenMeta}
+use Rattle.rt_model.specs.declared.sent.Sent.TheVariants as sent
+use Rattle.rt_model.specs.declared.setup.Setup.{Setup}
+use Rattle.rt_model.specs.declared.status.Status.{Status}
+use Rattle.rt_model.specs.declared.status.Status.TheVariants.{Abandoned, Done, InProgress}
+use Rattle.rt_nodes.specs.Requests.{NodeAsks}
+use Rattle.rt_nodes.specs.declared.controller_node.ControllerNode.{ControllerNode}
+use Rattle.rt_nodes.specs.declared.server_node.ServerNode.{ServerNode}
+use Rattle.rt_play.proofs.JobLines.{IsDoneTo, OwnStep, goes_on, own_step, succeeds}
+use Rattle.rt_play.proofs.Noted.{Holds, IsAtWork, IsPosted, WasCommitted, committed_stays, job_stays, posted_stays, stays_and_more, stays_but_jobs, stays_with_jobs, still_works}
+use Rattle.rt_play.proofs.Ranged.{AreRanged}
+use Rattle.rt_play.proofs.ShownStays.{node_of, stays_or_gone}
+use Rattle.rt_play.proofs.StartedJobs.{commit_started}
+use Rattle.rt_play.specs.Ledger.{IsDoneOver, Notes, Posted, Ranges, SaysDone, Segment, ShowsDone, TellsSo, Working, event_noted, is_commit_end, is_done_node, is_done_status, is_job, is_success, is_success_status, left_open, opens, segments_of, sent_noted, shows_done, shown_noted, started_noted, stepped_noted, tells_commit}
+use Rattle.rt_safety.proofs.CommitOpens.{commit_opens}
+use Rattle.rt_safety.specs.CommitRun.{IsOpen}
+use Rattle.rt_safety.specs.GoesOn.{GoesOn}
+use Rattle.rt_script.specs.declared.line.Line.TheVariants as line
+use Rattle.rt_server.proofs.LastingTold.{asks_right}
+use Rattle.rt_state.proofs.Bounds.{few_sent}
+use Rattle.rt_state.proofs.Possible.{only_passed}
+use Rattle.rt_state.specs.Applying.{Next}
+use Rattle.rt_state.specs.Finding.{has_partition, request_at, request_in}
+use Rattle.rt_state.specs.IsSafe.{past_of}
+use Rattle.rt_state.specs.IsSafeWorld.{IsSafeWorld}
+use Rattle.rt_state.specs.Messages.{DeliversAt, after_step, handed}
+use Rattle.rt_state.specs.Requests.{SendsAt}
+use Rattle.rt_state.specs.Room.{no_cost, priced}
+use Rattle.rt_state.specs.declared.state.State.{State}
+use Rattle.rt_store.specs.Contents.{starting_of}
+use Rattle.rt_store.specs.Meaning.{Told}
+use Rattle.rt_store.specs.Memory.{means}
+use Rattle.rt_world.proofs.KeepsMessages.{request_sent}
+use Rattle.rt_world.specs.Step.{Steps}
+use Rattle.rt_znodes.specs.Znodes.{end_by, end_in}
+
+-- the segment of a request
+abbrev segment_of : Request → Segment
+segment_of q = record { partition = q.partition; sequence = q.sequence }
+
+-- ---- jobs by their number
+
+job_number : (c : ControllerId) (j : ℕ) (x : Working) → is_job c j x ≡ true → (x.controller ≡ c) × (x.job ≡ j)
+job_number c j x e =
+    let parts = and_parts (x.controller.0 == c.0) (x.job == j) e in
+    let id : ℕ → ControllerId = λ n. record { 0 = n } in
+    (ap id (eqb-true x.controller.0 c.0 parts.0), eqb-true x.job j parts.1)
+
+other_number : (c : ControllerId) (j : ℕ) (x : Working) → is_job c j x ≡ false → event.Job c j ≡ event.Job x.controller x.job → ⊥
+other_number c j x e f = false≢true (sym e ∙ its (same_controller c j x.controller x.job f) (same_job c j x.controller x.job f))
+  where
+    same_controller : (a : ControllerId) (n : ℕ) (b : ControllerId) (m : ℕ) → event.Job a n ≡ event.Job b m → b.0 ≡ a.0
+    same_controller a n b m g = cc
+
+    same_job : (a : ControllerId) (n : ℕ) (b : ControllerId) (m : ℕ) → event.Job a n ≡ event.Job b m → m ≡ n
+    same_job a n b m g = cc
+
+    its : x.controller.0 ≡ c.0 → x.job ≡ j → is_job c j x ≡ true
+    its a b = ap (λ t. t && (x.job == j)) (eq-eqb x.controller.0 c.0 a) ∙ eq-eqb x.job j b
+
+not_true : (b : Bool) → not b ≡ true → b ≡ false
+not_true true e = absurd (false≢true e)
+not_true false e = refl
+
+-- a job of this number, with the rest of another one
+abbrev working : ControllerId → ℕ → Segment → Offset → Working
+working c j segment end = record { controller = c; job = j; segment = segment; end = end }
+
+working_is : (c : ControllerId) (j : ℕ) (x : Working) → is_job c j x ≡ true → x ≡ working c j x.segment x.end
+working_is c j x e =
+    let same = job_number c j x e in
+    let one : ControllerId → Working = λ d. working d x.job x.segment x.end in
+    ap one same.0 ∙ ap (λ n. working c n x.segment x.end) same.1
+
+-- ---- commits
+
+says_done : (n : Node) → is_done_node n ≡ true → IsDone n
+says_done (node.Meta m) e = by_status m.status e
+  where
+    by_status : (s : Status) → is_done_status s ≡ true → IsDoneStatus s
+    by_status InProgress e = absurd (false≢true e)
+    by_status (Done commit) e = tt
+    by_status Abandoned e = absurd (false≢true e)
+says_done (node.Ideal i) e = absurd (false≢true e)
+says_done node.Boot e = absurd (false≢true e)
+says_done node.Gone e = absurd (false≢true e)
+
+-- the end of a node that says DONE is that of its range
+range_ends : (r : Range) (n : Node) → SaysDone r n → r.end ≡ end_in n
+range_ends r (node.Meta m) k = by_status m.status k
+  where
+    by_status : (s : Status) → IsDoneOver r m s → r.end ≡ end_by s
+    by_status InProgress k = absurd k
+    by_status (Done commit) k = k.1
+    by_status Abandoned k = absurd k
+range_ends r (node.Ideal i) k = absurd k
+range_ends r node.Boot k = absurd k
+range_ends r node.Gone k = absurd k
+
+success_of : (r : ReplyStatus) → is_success_status r ≡ true → (seen : SeenMeta) × (r ≡ status.CommitSuccess seen)
+success_of (status.CommitSuccess seen) e = (seen, refl)
+success_of other e = absurd (false≢true e)
+
+-- what is told of a job that was started is no reply
+started_only : (j n : ℕ) (r : Reply) → came.Started j ≡ came.Replied n r → ⊥
+started_only j n r e = cc
+
+commit_end : (q : RequestKind) → is_commit_end q ≡ true → (path : List ℕ) × (q ≡ kind.CommitEnd path)
+commit_end (kind.CommitEnd path) e = (path, refl)
+commit_end other e = absurd (false≢true e)
+
+module _ (ranges : Ranges) (w v : State) (notes : Notes) (safe : IsSafeWorld w) (goes : GoesOn w v) (ranged : AreRanged (starting_of v.setup) v.store.writes ranges)
+    (k : Holds ranges w notes) where
+  -- a Done write of a segment of the cluster
+  committed_by : (s : Segment) (write : Seen) → s.partition.0 < v.setup.partitions → Has v.store.writes write → write.key ≡ node_key s.partition s.sequence.0 → IsDone write.node
+      → WasCommitted ranges v s
+  committed_by s write within has of done =
+      record { within = within; write = write; has = has; of = of; done = ranged s.partition s.sequence write within has of done }
+
+  -- ---- a request
+
+  report_noted : (i : Instance) (p : Partition) (q : Sequence) (o : Outcome) → Steps w (event.Report i p q) v (Ok o)
+      → ((x : Working) → Has notes.jobs x → IsAtWork v x) → Holds ranges v (sent_noted p q o notes)
+  report_noted i p q o (cost, due, h) jobs = by_server (slice_get w.servers i.0) refl h
+    where
+      -- what was noted before
+      old_posted : (x : Posted) → Has notes.requests x → IsPosted v x
+      old_posted x has = posted_stays w v x goes (k.requests x has)
+
+      by_kind : (request : Request) → v.sent ≡ w.sent ++ sent.Request request ∷ [] → (request.partition ≡ p) × (request.sequence ≡ q) → (b : Bool)
+          → is_commit_end request.kind ≡ b → (x : Posted)
+          → Has (cond b (record { message = length w.sent; segment = record { partition = p; sequence = q }; end = request.offset } ∷ notes.requests) notes.requests) x
+          → IsPosted v x
+      by_kind request same at false e x has = old_posted x has
+      by_kind request same at true e x (inr has) = old_posted x has
+      by_kind request same at true e x (inl is) =
+          let named = commit_end request.kind e in
+          let one : Partition → Segment = λ t. record { partition = t; sequence = request.sequence } in
+          let other : Sequence → Segment = λ t. record { partition = p; sequence = t } in
+          subst (IsPosted v) is
+          (record {
+            request = request;
+            there =
+                ap (λ l. request_in (slice_get l (length w.sent))) same ∙ ap request_in (slice_get-push w.sent (sent.Request request));
+            path = named.0;
+            names = named.1;
+            segment = ap one at.0 ∙ ap other at.1;
+            end = refl;
+          })
+
+      by_server : (n : Option ServerNode) → slice_get w.servers i.0 ≡ n → SendsAt n w i (NodeAsks p q) cost (v, o) → Holds ranges v (sent_noted p q o notes)
+      by_server None found h = absurd h
+      by_server (Some old) found (new, request, does, is) =
+          let told : o ≡ came.Sent (length w.sent) request = ap (λ (x : Next). x.1) is in
+          let same : v.sent ≡ w.sent ++ sent.Request request ∷ [] = ap (λ (x : Next). x.0.sent) is in
+          let right = asks_right w.setup (past_of w) old.server new.server p q request safe.safe.past (safe.safe.servers i.0 old found).over
+          (safe.safe.drawn i.0 old found) (few_sent w safe) does.1 does.0 in
+          subst (λ (x : Outcome). Holds ranges v (sent_noted p q x notes)) (sym told)
+          (record {
+            requests = by_kind request same right.asked.segment (is_commit_end request.kind) refl;
+            jobs = jobs;
+            committed = λ s has. committed_stays ranges w v s goes (k.committed s has);
+          })
+
+  -- ---- a delivery
+
+  record IsOpened (m : ℕ) (c : ControllerId) (j : ℕ) (x : Working) : Type 0 where
+    posted : Posted
+    has : Has notes.requests posted
+    message : posted.message ≡ m
+    same : x ≡ working c j posted.segment posted.end
+
+  opened : (m : ℕ) (c : ControllerId) (j : ℕ) (ps : List Posted) (x : Working) → ((y : Posted) → Has ps y → Has notes.requests y) → Has (opens m c j ps) x
+      → IsOpened m c j x
+  opened m c j [] x in_notes has = absurd has
+  opened m c j (y ∷ ps) x in_notes has =
+      by_test (y.message == m) refl has (λ h. opened m c j ps x (λ z g. in_notes z (inr g)) h)
+    where
+      by_test : (b : Bool) → (y.message == m) ≡ b → Has (cond b (working c j y.segment y.end ∷ opens m c j ps) (opens m c j ps)) x
+          → (Has (opens m c j ps) x → IsOpened m c j x) → IsOpened m c j x
+      by_test false e has further = further has
+      by_test true e (inr has) further = further has
+      by_test true e (inl same) further = record { posted = y; has = in_notes y (inl refl); message = eqb-true y.message m e; same = sym same }
+
+  same_started : (i j : ℕ) → came.Started i ≡ came.Started j → i ≡ j
+  same_started i j e = cc
+
+  same_job : (i j : ℕ) → handled.Job i ≡ handled.Job j → i ≡ j
+  same_job i j e = cc
+
+  -- the job that is started is open, for the request
+  starts_work : (m : ℕ) (c : ControllerId) (j : ℕ) (q : Request) (path : List ℕ) → request_at w m ≡ Some q → q.kind ≡ kind.CommitEnd path
+      → Steps w (event.Deliver m c) v (Ok (came.Started j)) → IsAtWork v (working c j (segment_of q) q.offset)
+  starts_work m c j q path asks names steps =
+      by_node (slice_get w.controllers c.0) refl
+      (subst (λ (r : Option Request). DeliversAt r (slice_get w.controllers c.0) w c steps.0 (v, came.Started j)) asks steps.2)
+    where
+      by_what : (n : ControllerNode) (new : Controlling) (store : Told) (deep : ToldDeep) (what : Handled) → slice_get w.controllers c.0 ≡ Some n
+          → Handles {E = Unit {0}} (means w.store) (means store) (deep_means w.deep) (deep_means deep) n.controller q w.moment new (Ok what)
+          → (v, came.Started j) ≡ handed (after_step w c n new store deep) steps.0 what → IsAtWork v (working c j (segment_of q) q.offset)
+      by_what n new store deep (handled.Reply r) at h is = absurd (started_only j _ r (ap (λ (x : Next). x.1) is))
+      by_what n new store deep (handled.Job i) at h is =
+          let starts = starts_at_machine (means w.store) (means store) (deep_means w.deep) (deep_means deep) n.controller new q w.moment (handled.Job i) h
+          (commit_started n.controller q w.moment path names (means w.store) (means store) (deep_means w.deep) (deep_means deep) new i h) in
+          let opens = commit_opens w m c q n starts.path starts.place starts.machine v (came.Started j) safe asks at starts.timely steps in
+          let number : j ≡ n.controller.started = same_started j n.controller.started opens.told_so in
+          record {
+            request = q;
+            segment = refl;
+            end = refl;
+            within = subst (λ (s : Setup). q.partition.0 < s.partitions) (sym goes.setup) (safe.safe.past.requests q (request_sent w m q asks)).partition;
+            left = 23;
+            its = subst (λ n. IsOpen v c n (asked_of q) q.offset 23) (sym number) opens.opened;
+          }
+
+      by_node : (n : Option ControllerNode) → slice_get w.controllers c.0 ≡ n → DeliversAt (Some q) n w c steps.0 (v, came.Started j)
+          → IsAtWork v (working c j (segment_of q) q.offset)
+      by_node None at h = absurd h
+      by_node (Some n) at (new, what, store, deep, h, is) = by_what n new store deep what at h is
+
+  deliver_noted : (m : ℕ) (c : ControllerId) (o : Outcome) → Steps w (event.Deliver m c) v (Ok o) → ((x : Working) → Has notes.jobs x → IsAtWork v x)
+      → Holds ranges v (started_noted m c o notes)
+  deliver_noted m c (came.Started j) steps jobs =
+      stays_but_jobs ranges w v notes (opens m c j notes.requests ++ notes.jobs) goes k
+      (λ x has. ⊎_elim (by_open x) (jobs x) (Has-append_cases (opens m c j notes.requests) notes.jobs x has))
+    where
+      by_open : (x : Working) → Has (opens m c j notes.requests) x → IsAtWork v x
+      by_open x has =
+          let a = opened m c j notes.requests x (λ y h. h) has in
+          let p = k.requests a.posted a.has in
+          let starts = starts_work m c j p.request p.path (ap (request_at w) (sym a.message) ∙ p.there) p.names steps in
+          let one : Segment → Working = λ s. working c j s p.request.offset in
+          let other : Offset → Working = λ end. working c j a.posted.segment end in
+          subst (IsAtWork v) (ap one p.segment ∙ ap other p.end ∙ sym a.same) starts
+  deliver_noted m c other steps jobs = stays_but_jobs ranges w v notes notes.jobs goes k jobs
+
+  -- ---- a step of a job
+
+  module _ (c : ControllerId) (j : ℕ) (fits : Fits w.setup.schema (event.Job c j)) (o : Outcome) (steps : Steps w (event.Job c j) v (Ok o)) where
+    did : OwnStep w v c j o
+    did = own_step w v c j o steps
+
+    -- another job
+    other_stays : (x : Working) → is_job c j x ≡ false → IsAtWork w x → IsAtWork v x
+    other_stays x e at = job_stays w v x (event.Job c j) o safe goes fits steps refl (other_number c j x e) at
+
+    own_stays : (x : Working) → is_job c j x ≡ true → did.did.reply ≡ None → IsAtWork w x → IsAtWork v x
+    own_stays x e none at =
+        let same = working_is c j x e in
+        let there = subst (IsAtWork w) same at in
+        let next = goes_on w v c j o safe did there.request there.left there.its none in
+        subst (IsAtWork v) (sym same) (still_works w v (working c j x.segment x.end) next.0 goes there next.1)
+
+    any_stays : (x : Working) → did.did.reply ≡ None → IsAtWork w x → IsAtWork v x
+    any_stays x none at = by_test (is_job c j x) refl
+      where
+        by_test : (b : Bool) → is_job c j x ≡ b → IsAtWork v x
+        by_test true e = own_stays x e none at
+        by_test false e = other_stays x e at
+
+    jobs_left : (r : Option Reply) → did.did.reply ≡ r → (x : Working) → Has (left_open c j r notes.jobs) x → IsAtWork v x
+    jobs_left None e x has = any_stays x e (k.jobs x has)
+    jobs_left (Some reply) e x has =
+        let f = Has-filter (λ (y : Working). not (is_job c j y)) notes.jobs x has in
+        other_stays x (not_true (is_job c j x) f.1) (k.jobs x f.0)
+
+    -- one that tells it has committed
+    done_to : (x : Working) → Has notes.jobs x → is_job c j x ≡ true → tells_commit did.did ≡ true → IsDoneTo v x.segment.partition x.segment.sequence x.end
+    done_to x has e tells = by_reply did.did.reply refl tells
+      where
+        by_reply : (r : Option Reply) → did.did.reply ≡ r → is_success r ≡ true → IsDoneTo v x.segment.partition x.segment.sequence x.end
+        by_reply None f t = absurd (false≢true t)
+        by_reply (Some reply) f t =
+            let at = subst (IsAtWork w) (working_is c j x e) (k.jobs x has) in
+            let success = success_of reply.status t in
+            let d = succeeds w v c j o safe did at.request at.left at.its reply success.0 f success.1 in
+            subst (λ (s : Segment). IsDoneTo v s.partition s.sequence x.end) at.segment
+            (subst (IsDoneTo v at.request.partition at.request.sequence) at.end d)
+
+    commits : (x : Working) → Has notes.jobs x → is_job c j x ≡ true → tells_commit did.did ≡ true → WasCommitted ranges v x.segment
+    commits x has e tells =
+        let d = done_to x has e tells in
+        let at = k.jobs x has in
+        let within = subst (λ (s : Segment). s.partition.0 < w.setup.partitions) at.segment at.within in
+        committed_by x.segment d.write (subst (λ (s : Setup). x.segment.partition.0 < s.partitions) (sym goes.setup) within) d.has d.of d.done
+
+    all_commit : (s : Segment) → Has (segments_of c j notes.jobs) s → tells_commit did.did ≡ true → WasCommitted ranges v s
+    all_commit s has tells =
+        let m = Has-map (λ (x : Working). x.segment) (filter (is_job c j) notes.jobs) s has in
+        let f = Has-filter (is_job c j) notes.jobs m.0 m.1 in
+        subst (WasCommitted ranges v) m.2 (commits m.0 f.0 f.1 tells)
+
+    abbrev now : Notes
+    now = record notes { jobs = left_open c j did.did.reply notes.jobs }
+
+    job_noted : Holds ranges v (stepped_noted c j o notes)
+    job_noted =
+        subst (λ (x : Outcome). Holds ranges v (stepped_noted c j x notes)) (sym did.told.1)
+        (by_test (tells_commit did.did) refl (stays_but_jobs ranges w v notes (left_open c j did.did.reply notes.jobs) goes k (jobs_left did.did.reply refl)))
+      where
+        by_test : (b : Bool) → tells_commit did.did ≡ b → Holds ranges v now
+            → Holds ranges v (record now { committed = cond b (segments_of c j notes.jobs ++ notes.committed) notes.committed })
+        by_test true e holds = stays_and_more ranges v now (segments_of c j notes.jobs) holds (λ s has. all_commit s has e)
+        by_test false e holds = holds
+
+    job_tells : TellsSo w.setup ranges notes (Some (line.Event (event.Job c j))) o
+    unfolding done_to commits did committed_by
+    job_tells =
+        subst (λ (x : Outcome). TellsSo w.setup ranges notes (Some (line.Event (event.Job c j))) x) (sym did.told.1)
+        (λ x tells has e.
+        let d = done_to x has e tells in
+        range_ends (ranges x.segment.partition x.segment.sequence) d.write.node (commits x has e tells).done ∙ d.ends)
+
+  -- ---- a node that is shown
+
+  shown_done : (p : Partition) (q : Sequence) (seen : Option Seen) → p.0 < w.setup.partitions → seen ≡ value_of w.store.writes (node_key p q.0) → shows_done seen ≡ true
+      → WasCommitted ranges v (record { partition = p; sequence = q })
+  shown_done p q None within at e = absurd (false≢true e)
+  shown_done p q (Some seen) within at e =
+      let has = last_write-Has w.store.writes (node_key p q.0) seen (value_of-last w.store.writes (node_key p q.0) seen (sym at)).0 in
+      committed_by (record { partition = p; sequence = q }) seen (subst (λ (s : Setup). p.0 < s.partitions) (sym goes.setup) within)
+      (Has-front w.store.writes v.store.writes seen goes.past.history has.0) has.1 (says_done seen.node e)
+
+  says_final : (r : Range) (n : Node) → SaysDone r n → IsFinal n
+  says_final r (node.Meta m) says = by_status m.status says
+    where
+      by_status : (s : Status) → IsDoneOver r m s → IsFinalStatus s
+      by_status InProgress h = absurd h
+      by_status (Done commit) h = tt
+      by_status Abandoned h = absurd h
+  says_final r (node.Ideal i) says = absurd says
+  says_final r node.Boot says = absurd says
+  says_final r node.Gone says = absurd says
+
+  -- a segment that was committed is shown so, or gone
+  shows_committed : (p : Partition) (q : Sequence) → WasCommitted ranges w (record { partition = p; sequence = q }) → ShowsDone (ranges p q) (node_of w p q)
+  shows_committed p q c =
+      ⊎_elim (λ is. subst (ShowsDone (ranges p q)) (sym is) c.done) (λ none. subst (ShowsDone (ranges p q)) (sym none) tt)
+      (stays_or_gone w p q c.write safe
+      (record { within = c.within; ending = record { has = c.has; is_of = c.of; final = says_final (ranges p q) c.write.node c.done } }))
+
+  -- and so is one that is DONE
+  shows_itself : (p : Partition) (q : Sequence) (seen : Option Seen) → p.0 < w.setup.partitions → seen ≡ node_of w p q → shows_done seen ≡ true → ShowsDone (ranges p q) seen
+  shows_itself p q None within at e = tt
+  shows_itself p q (Some seen) within at e =
+      let has = last_write-Has w.store.writes (node_key p q.0) seen (value_of-last w.store.writes (node_key p q.0) seen (sym at)).0 in
+      ranged p q seen (subst (λ (s : Setup). p.0 < s.partitions) (sym goes.setup) within)
+      (Has-front w.store.writes v.store.writes seen goes.past.history has.0) has.1 (says_done seen.node e)
+
+  module _ (p : Partition) (q : Sequence) (o : Outcome) (steps : Steps w (event.ShowMeta p q) v (Ok o)) where
+    shown : o ≡ came.Shown (node_of w p q)
+    shown = ap (λ (x : Next). x.1) steps.2
+
+    in_cluster : p.0 < w.setup.partitions
+    in_cluster = ltb-true p.0 w.setup.partitions (only_passed (has_partition w p) NoSuchNode (priced w no_cost) steps.0 steps.1).0
+
+    show_tells : TellsSo w.setup ranges notes (Some (line.Event (event.ShowMeta p q))) o
+    show_tells =
+        subst (λ (x : Outcome). TellsSo w.setup ranges notes (Some (line.Event (event.ShowMeta p q))) x) (sym shown)
+        (λ has. shows_committed p q (k.committed (record { partition = p; sequence = q }) has), shows_itself p q (node_of w p q) in_cluster refl)
+
+    show_noted : ((x : Working) → Has notes.jobs x → IsAtWork v x) → Holds ranges v (shown_noted p q o notes)
+    show_noted jobs =
+        subst (λ (x : Outcome). Holds ranges v (shown_noted p q x notes)) (sym shown)
+        (by_test (shows_done (node_of w p q)) refl (stays_but_jobs ranges w v notes notes.jobs goes k jobs))
+      where
+        by_test : (b : Bool) → shows_done (node_of w p q) ≡ b → Holds ranges v notes
+            → Holds ranges v (record notes { committed = cond b (record { partition = p; sequence = q } ∷ notes.committed) notes.committed })
+        by_test false e holds = holds
+        by_test true e holds =
+            stays_and_more ranges v notes (record { partition = p; sequence = q } ∷ []) holds
+            (λ s has. ⊎_elim (λ same. subst (WasCommitted ranges v) same (shown_done p q (node_of w p q) in_cluster refl e)) (λ none. absurd none) has)
+
+  -- ---- any event
+
+  crash_noted : (c : ControllerId) (o : Outcome) → Steps w (event.CrashController c) v (Ok o)
+      → Holds ranges v (record notes { jobs = filter (λ (x : Working). not (x.controller.0 == c.0)) notes.jobs })
+  crash_noted c o steps =
+      stays_but_jobs ranges w v notes (filter (λ (x : Working). not (x.controller.0 == c.0)) notes.jobs) goes k
+      (λ x has.
+      let f = Has-filter (λ (y : Working). not (y.controller.0 == c.0)) notes.jobs x has in
+      job_stays w v x (event.CrashController c) o safe goes tt steps (turned x.controller.0 c.0 (not_true (x.controller.0 == c.0) f.1)) (λ e. cc) (k.jobs x f.0))
+    where
+      turned : (a b : ℕ) → (a == b) ≡ false → (b == a) ≡ false
+      turned a b e = ne_eqb b a (λ same. false≢true (sym e ∙ eq-eqb a b (sym same)))
+
+  pub noted : (e : Event) (o : Outcome) → Fits w.setup.schema e → Steps w e v (Ok o) → Holds ranges v (event_noted e o notes)
+  noted (event.Report i p q) o fits steps =
+      report_noted i p q o steps (λ x has. job_stays w v x (event.Report i p q) o safe goes fits steps refl (λ e. cc) (k.jobs x has))
+  noted (event.Deliver m c) o fits steps =
+      deliver_noted m c o steps (λ x has. job_stays w v x (event.Deliver m c) o safe goes fits steps refl (λ e. cc) (k.jobs x has))
+  noted (event.Job c j) o fits steps = job_noted c j fits o steps
+  noted (event.CrashController c) o fits steps = crash_noted c o steps
+  noted (event.ShowMeta p q) o fits steps =
+      show_noted p q o steps (λ x has. job_stays w v x (event.ShowMeta p q) o safe goes fits steps refl (λ e. cc) (k.jobs x has))
+  noted e o fits steps =
+      stays_with_jobs ranges w v notes goes (λ x has at. job_stays w v x e o safe goes fits steps refl (λ f. cc) at) k
+
+  pub tells : (e : Event) (o : Outcome) → Fits w.setup.schema e → Steps w e v (Ok o) → TellsSo w.setup ranges notes (Some (line.Event e)) o
+  tells (event.Job c j) o fits steps = job_tells c j fits o steps
+  tells (event.ShowMeta p q) o fits steps = show_tells p q o steps
+  tells e o fits steps = tt

@@ -1,0 +1,151 @@
+-- What is noted of a script's lines holds in the world behind them.
+use Rattle.std.proofs.Common.{◌≡◌, ◌<◌, ℕ, false, List, [], ◌∷◌, ◌++◌, Option, Some, None, Ok, refl, sym, ◌∙◌, ap, subst, slice_get, ⊎_elim}
+use Rattle.rt_events.specs.Fits.{Fits}
+use Rattle.rt_events.specs.declared.event.Event.{Event}
+use Rattle.rt_events.specs.declared.event.Event.TheVariants as event
+use Rattle.rt_events.specs.declared.outcome.Outcome.{Outcome}
+use Rattle.rt_lists.proofs.Members.{Has-append_cases, Has-front, slice_get-append}
+use Rattle.rt_lists.specs.Members.{Has}
+use Rattle.rt_model.specs.Messages.{asked_of}
+use Rattle.rt_model.specs.Metadata.{node_key}
+use Rattle.rt_model.specs.declared.node.Seen.{Seen}
+use Rattle.rt_model.specs.declared.request.Request.{Request}
+use Rattle.rt_model.specs.declared.request.RequestKind.TheVariants as kind
+use Rattle.rt_model.specs.declared.sent.Sent.{Sent}
+use Rattle.rt_model.specs.declared.setup.Setup.{Setup}
+use Rattle.rt_nodes.specs.declared.controller_node.ControllerNode.{ControllerNode}
+use Rattle.rt_play.specs.Ledger.{Notes, Posted, Ranges, SaysDone, Segment, Working}
+use Rattle.rt_safety.proofs.CommitRuns.{commit_runs}
+use Rattle.rt_safety.specs.CommitRun.{IsOpen, is_crash, job_in}
+use Rattle.rt_safety.specs.GoesOn.{GoesOn}
+use Rattle.rt_safety.specs.Runs.{happens}
+use Rattle.rt_state.specs.Finding.{request_at, request_in}
+use Rattle.rt_state.specs.IsSafeWorld.{IsSafeWorld}
+use Rattle.rt_state.specs.declared.state.State.{State}
+use Rattle.rt_world.specs.Step.{Steps}
+
+-- ---- what holds
+
+-- a message is a commitEnd of this segment, up to this offset
+pub record IsPosted (w : State) (x : Posted) : Type 0 where
+  pub request : Request
+  pub there : request_at w x.message ≡ Some request
+  pub path : List ℕ
+  pub names : request.kind ≡ kind.CommitEnd path
+  pub segment : record { partition = request.partition; sequence = request.sequence } ≡ x.segment
+  pub end : request.offset ≡ x.end
+
+-- a job commits this segment, of a partition of the cluster, up to this offset
+pub record IsAtWork (w : State) (x : Working) : Type 0 where
+  pub request : Request
+  pub segment : record { partition = request.partition; sequence = request.sequence } ≡ x.segment
+  pub end : request.offset ≡ x.end
+  pub within : request.partition.0 < w.setup.partitions
+  pub left : ℕ
+  pub its : IsOpen w x.controller x.job (asked_of request) request.offset left
+
+-- a segment was made DONE, over its range
+pub record WasCommitted (ranges : Ranges) (w : State) (s : Segment) : Type 0 where
+  pub within : s.partition.0 < w.setup.partitions
+  pub write : Seen
+  pub has : Has w.store.writes write
+  pub of : write.key ≡ node_key s.partition s.sequence.0
+  pub done : SaysDone (ranges s.partition s.sequence) write.node
+
+pub record Holds (ranges : Ranges) (w : State) (notes : Notes) : Type 0 where
+  pub requests : (x : Posted) → Has notes.requests x → IsPosted w x
+  pub jobs : (x : Working) → Has notes.jobs x → IsAtWork w x
+  pub committed : (s : Segment) → Has notes.committed s → WasCommitted ranges w s
+
+-- ---- in a later world
+
+request_stays : (w v : State) (message : ℕ) (q : Request) → GoesOn w v → request_at w message ≡ Some q → request_at v message ≡ Some q
+request_stays w v message q goes k = by_slot (slice_get w.sent message) refl k
+  where
+    by_slot : (o : Option Sent) → slice_get w.sent message ≡ o → request_in o ≡ Some q → request_at v message ≡ Some q
+    by_slot None e f = absurd (cc)
+    by_slot (Some m) e f =
+        let front = goes.past.sent in
+        ap request_in (ap (λ l. slice_get l message) front.1 ∙ slice_get-append w.sent front.0 message m e) ∙ f
+
+pub posted_stays : (w v : State) (x : Posted) → GoesOn w v → IsPosted w x → IsPosted v x
+posted_stays w v x goes k = record {
+  request = k.request;
+  there = request_stays w v x.message k.request goes k.there;
+  path = k.path;
+  names = k.names;
+  segment = k.segment;
+  end = k.end;
+}
+
+pub committed_stays : (ranges : Ranges) (w v : State) (s : Segment) → GoesOn w v → WasCommitted ranges w s → WasCommitted ranges v s
+committed_stays ranges w v s goes k = record {
+  within = subst (λ (x : Setup). s.partition.0 < x.partitions) (sym goes.setup) k.within;
+  write = k.write;
+  has = Has-front w.store.writes v.store.writes k.write goes.past.history k.has;
+  of = k.of;
+  done = k.done;
+}
+
+-- a job that goes on, with so many steps left
+pub still_works : (w v : State) (x : Working) (left : ℕ) → GoesOn w v → (k : IsAtWork w x) → IsOpen v x.controller x.job (asked_of k.request) k.request.offset left
+    → IsAtWork v x
+still_works w v x left goes k job = record {
+  request = k.request;
+  segment = k.segment;
+  end = k.end;
+  within = subst (λ (s : Setup). k.request.partition.0 < s.partitions) (sym goes.setup) k.within;
+  left = left;
+  its = job;
+}
+
+-- a job is looked for among the controllers alone
+pub job_kept : (w v : State) (x : Working) → GoesOn w v → v.controllers ≡ w.controllers → IsAtWork w x → IsAtWork v x
+job_kept w v x goes same k =
+    still_works w v x k.left goes k
+    (record {
+      job = k.its.job;
+      there = ap (λ (cs : List ControllerNode). job_in (slice_get cs x.controller.0) x.job) same ∙ k.its.there;
+      asked = k.its.asked;
+      ends_at = k.its.ends_at;
+      few = k.its.few;
+    })
+
+-- it goes on through an event that is neither a crash of its controller nor its own step
+pub job_stays : (w v : State) (x : Working) (e : Event) (o : Outcome) → IsSafeWorld w → GoesOn w v → Fits w.setup.schema e → Steps w e v (Ok o)
+    → is_crash x.controller (happens e o) ≡ false → (e ≡ event.Job x.controller x.job → ⊥) → IsAtWork w x → IsAtWork v x
+job_stays w v x e o safe goes fits steps calm other k =
+    ⊎_elim
+    (λ ends. absurd (other (same_event e (event.Job x.controller x.job) o _ ends.own)))
+    (λ on. still_works w v x on.0 goes k on.2)
+    (commit_runs x.controller x.job (asked_of k.request) k.request.offset k.left w (happens e o ∷ []) v (v, (fits, steps), calm, refl) safe k.its)
+  where
+    same_event : (a b : Event) (p q : Outcome) → happens a p ≡ happens b q → a ≡ b
+    same_event a b p q f = cc
+
+-- ---- notes that stay
+
+-- those that are no jobs
+pub stays_but_jobs : (ranges : Ranges) (w v : State) (notes : Notes) (jobs : List Working) → GoesOn w v → Holds ranges w notes
+    → ((x : Working) → Has jobs x → IsAtWork v x) → Holds ranges v (record notes { jobs = jobs })
+stays_but_jobs ranges w v notes jobs goes k at = record {
+  requests = λ x has. posted_stays w v x goes (k.requests x has);
+  jobs = at;
+  committed = λ s has. committed_stays ranges w v s goes (k.committed s has);
+}
+
+pub none_at_work : (ranges : Ranges) (w v : State) (notes : Notes) → GoesOn w v → Holds ranges w notes → Holds ranges v (record notes { jobs = [] })
+none_at_work ranges w v notes goes k = stays_but_jobs ranges w v notes [] goes k (λ x has. absurd has)
+
+pub stays_with_jobs : (ranges : Ranges) (w v : State) (notes : Notes) → GoesOn w v → ((x : Working) → Has notes.jobs x → IsAtWork w x → IsAtWork v x)
+    → Holds ranges w notes → Holds ranges v notes
+stays_with_jobs ranges w v notes goes at k = stays_but_jobs ranges w v notes notes.jobs goes k (λ x has. at x has (k.jobs x has))
+
+-- more segments were committed
+pub stays_and_more : (ranges : Ranges) (w : State) (notes : Notes) (more : List Segment) → Holds ranges w notes
+    → ((s : Segment) → Has more s → WasCommitted ranges w s) → Holds ranges w (record notes { committed = more ++ notes.committed })
+stays_and_more ranges w notes more k new = record {
+  requests = k.requests;
+  jobs = k.jobs;
+  committed = λ s has. ⊎_elim (new s) (k.committed s) (Has-append_cases more notes.committed s has);
+}

@@ -1,0 +1,264 @@
+-- What the report of a script tells of commits, by the script and the report alone: what was committed stays, and an answer that misses
+-- nothing of a partition goes without a gap through all of it.
+use Rattle.std.specs.Prelude.{◌≡◌, ◌<◌, ◌≤◌, ◌⊎◌, ◌==◌, ◌&&◌, not, ℕ, Bool, true, false, List, [], ◌∷◌, ◌++◌, map, Option, None, Some, if◌then◌else◌}
+use Rattle.std.specs.List.{filter}
+use Rattle.rt_base.specs.declared.numbers.ControllerId.{ControllerId}
+use Rattle.rt_base.specs.declared.numbers.Offset.{Offset}
+use Rattle.rt_base.specs.declared.numbers.Partition.{Partition}
+use Rattle.rt_base.specs.declared.numbers.Sequence.{Sequence}
+use Rattle.rt_base.specs.declared.range.Range.{Range}
+use Rattle.rt_events.specs.declared.event.Event.{Event}
+use Rattle.rt_events.specs.declared.event.Event.TheVariants.{Consume, CrashController, Deliver, Job, Report, ShowMeta}
+use Rattle.rt_events.specs.declared.outcome.Outcome.{Outcome}
+use Rattle.rt_events.specs.declared.outcome.Outcome.TheVariants.{Answered, Sent, Shown, Started, Stepped}
+use Rattle.rt_lines.specs.Header.{NumberedLine}
+use Rattle.rt_lists.specs.Members.{Has}
+use Rattle.rt_model.specs.declared.answer.Answer.{Answer}
+use Rattle.rt_model.specs.declared.job_step.JobStep.{JobStep}
+use Rattle.rt_model.specs.declared.node.Node.{Node}
+use Rattle.rt_model.specs.declared.node.Node.TheVariants as node
+use Rattle.rt_model.specs.declared.node.Seen.{Seen}
+use Rattle.rt_model.specs.declared.reply.Reply.{Reply}
+use Rattle.rt_model.specs.declared.reply.ReplyStatus.{ReplyStatus}
+use Rattle.rt_model.specs.declared.reply.ReplyStatus.TheVariants.{CommitSuccess}
+use Rattle.rt_model.specs.declared.request.Request.{Request}
+use Rattle.rt_model.specs.declared.request.RequestKind.{RequestKind}
+use Rattle.rt_model.specs.declared.request.RequestKind.TheVariants.{CommitEnd}
+use Rattle.rt_model.specs.declared.seg_meta.SegMeta.{SegMeta}
+use Rattle.rt_model.specs.declared.setup.Setup.{Setup}
+use Rattle.rt_model.specs.declared.status.Status.{Status}
+use Rattle.rt_model.specs.declared.status.Status.TheVariants.{Abandoned, Done, InProgress}
+use Rattle.rt_play.specs.Named.{Each, Spares, ranges_at, span}
+use Rattle.rt_report.specs.BrokerTexts.{answer_line}
+use Rattle.rt_report.specs.Outcome.{outcome_text}
+use Rattle.rt_script.specs.Line.{line_in}
+use Rattle.rt_script.specs.declared.line.Line.{Line}
+use Rattle.rt_script.specs.declared.line.Line.TheVariants as line
+use Rattle.rt_script.specs.declared.line.Macro.TheVariants as macro
+
+-- ---- what is read of a text
+
+-- the text of an event is that of an outcome, and the text of a `query` line that of an answer. A `consume` may be held, and no more is read
+-- of its text, nor of that of another line
+abbrev pub IsTold : Option Line → List ℕ → Outcome → Type 0
+IsTold (Some (line.Event (Consume instance partition sequence max))) text outcome = Unit {0}
+IsTold (Some (line.Event event)) text outcome = text ≡ outcome_text event outcome
+IsTold (Some (line.Macro (macro.Query query))) text outcome = (answer : Answer) × (outcome ≡ Answered answer) × (text ≡ answer_line answer)
+IsTold other text outcome = Unit {0}
+
+-- ---- what is noted of the lines above
+
+pub record Segment : Type 0 where
+  pub partition : Partition
+  pub sequence : Sequence
+
+-- a commitEnd, by the number of its message: the segment, and up to which offset
+pub record Posted : Type 0 where
+  pub message : ℕ
+  pub segment : Segment
+  pub end : Offset
+
+-- a commit job, by its controller and its number there
+pub record Working : Type 0 where
+  pub controller : ControllerId
+  pub job : ℕ
+  pub segment : Segment
+  pub end : Offset
+
+-- the commitEnds that were told, the commit jobs that go on for them, and the segments that were told to be committed
+pub record Notes : Type 0 where
+  pub requests : List Posted
+  pub jobs : List Working
+  pub committed : List Segment
+
+abbrev pub no_notes : Notes
+no_notes = record { requests = []; jobs = []; committed = [] }
+
+abbrev pub is_commit_end : RequestKind → Bool
+is_commit_end (CommitEnd path) = true
+is_commit_end other = false
+
+-- a message with a commitEnd opens a commit job
+abbrev pub opens : ℕ → ControllerId → ℕ → List Posted → List Working
+opens message controller job [] = []
+opens message controller job (posted ∷ rest) =
+    if posted.message == message
+    then record { controller = controller; job = job; segment = posted.segment; end = posted.end } ∷ opens message controller job rest
+    else opens message controller job rest
+
+abbrev pub is_job : ControllerId → ℕ → Working → Bool
+is_job controller job w = (w.controller.0 == controller.0) && (w.job == job)
+
+abbrev pub is_success_status : ReplyStatus → Bool
+is_success_status (CommitSuccess seen) = true
+is_success_status other = false
+
+abbrev pub is_success : Option Reply → Bool
+is_success None = false
+is_success (Some reply) = is_success_status reply.status
+
+-- a COMMIT_SUCCESS tells that the job has committed its segment
+abbrev pub tells_commit : JobStep → Bool
+tells_commit done = is_success done.reply
+
+-- the segments of these jobs that have the number
+abbrev pub segments_of : ControllerId → ℕ → List Working → List Segment
+segments_of controller job jobs = map (λ w. w.segment) (filter (is_job controller job) jobs)
+
+-- a job that answers its request is at its end
+abbrev pub left_open : ControllerId → ℕ → Option Reply → List Working → List Working
+left_open controller job None jobs = jobs
+left_open controller job (Some reply) jobs = filter (λ w. not (is_job controller job w)) jobs
+
+-- the line of a request names its segment, and its text its message, its kind and its offset
+abbrev pub posted_by : Partition → Sequence → ℕ → Request → List Posted → List Posted
+posted_by partition sequence message request posted =
+    if is_commit_end request.kind
+    then record { message = message; segment = record { partition = partition; sequence = sequence }; end = request.offset } ∷ posted
+    else posted
+
+abbrev pub sent_noted : Partition → Sequence → Outcome → Notes → Notes
+sent_noted partition sequence (Sent message request) notes = record notes { requests = posted_by partition sequence message request notes.requests }
+sent_noted partition sequence other notes = notes
+
+abbrev pub started_noted : ℕ → ControllerId → Outcome → Notes → Notes
+started_noted message controller (Started job) notes = record notes { jobs = opens message controller job notes.requests ++ notes.jobs }
+started_noted message controller other notes = notes
+
+abbrev pub stepped_noted : ControllerId → ℕ → Outcome → Notes → Notes
+stepped_noted controller job (Stepped done message) notes =
+    record notes {
+      jobs = left_open controller job done.reply notes.jobs;
+      committed = if tells_commit done then segments_of controller job notes.jobs ++ notes.committed else notes.committed;
+    }
+stepped_noted controller job other notes = notes
+
+abbrev pub is_done_status : Status → Bool
+is_done_status InProgress = false
+is_done_status (Done commit) = true
+is_done_status Abandoned = false
+
+abbrev pub is_done_node : Node → Bool
+is_done_node (node.Meta meta) = is_done_status meta.status
+is_done_node (node.Ideal state) = false
+is_done_node node.Boot = false
+is_done_node node.Gone = false
+
+abbrev pub shows_done : Option Seen → Bool
+shows_done None = false
+shows_done (Some seen) = is_done_node seen.node
+
+abbrev pub shown_noted : Partition → Sequence → Outcome → Notes → Notes
+shown_noted partition sequence (Shown seen) notes =
+    record notes {
+      committed =
+          if shows_done seen then record { partition = partition; sequence = sequence } ∷ notes.committed else notes.committed;
+    }
+shown_noted partition sequence other notes = notes
+
+-- a `report` line tells a commitEnd, a `deliver` line a job that it opened, a `job` line its steps, and a `show meta` line a node. A controller
+-- that crashes loses its jobs
+abbrev pub event_noted : Event → Outcome → Notes → Notes
+event_noted (Report instance partition sequence) outcome notes = sent_noted partition sequence outcome notes
+event_noted (Deliver message controller) outcome notes = started_noted message controller outcome notes
+event_noted (Job controller job) outcome notes = stepped_noted controller job outcome notes
+event_noted (CrashController controller) outcome notes =
+    record notes { jobs = filter (λ w. not (w.controller.0 == controller.0)) notes.jobs }
+event_noted (ShowMeta partition sequence) outcome notes = shown_noted partition sequence outcome notes
+event_noted event outcome notes = notes
+
+-- behind another line, which may make steps of jobs that it doesn't tell, no job is known to go on
+abbrev pub noted_behind : Option Line → Outcome → Notes → Notes
+noted_behind (Some (line.Event event)) outcome notes = event_noted event outcome notes
+noted_behind (Some (line.Macro (macro.Fill partition count))) outcome notes = notes
+noted_behind (Some (line.Macro (macro.Query query))) outcome notes = notes
+noted_behind other outcome notes = record notes { jobs = [] }
+
+-- ---- what a line tells, by the ranges of the segments
+
+-- the range with which each segment was committed, if it was
+abbrev pub Ranges : Type 0
+Ranges = Partition → Sequence → Range
+
+-- metadata that says DONE, over this range, which has an offset
+abbrev pub IsDoneOver : Range → SegMeta → Status → Type 0
+IsDoneOver range meta InProgress = ⊥
+IsDoneOver range meta (Done commit) = (range.start ≡ meta.start) × (range.end ≡ commit.end) × (range.start.0 < range.end.0)
+IsDoneOver range meta Abandoned = ⊥
+
+abbrev pub SaysDone : Range → Node → Type 0
+SaysDone range (node.Meta meta) = IsDoneOver range meta meta.status
+SaysDone range (node.Ideal state) = ⊥
+SaysDone range node.Boot = ⊥
+SaysDone range node.Gone = ⊥
+
+-- the node that is shown says so, or none is there: the segment was retired
+abbrev pub ShowsDone : Range → Option Seen → Type 0
+ShowsDone range None = Unit {0}
+ShowsDone range (Some seen) = SaysDone range seen.node
+
+-- so it is of a segment that was told to be committed, and of one that is shown DONE now
+abbrev pub ShowsSo : Ranges → Notes → Partition → Sequence → Outcome → Type 0
+ShowsSo ranges notes p q (Shown seen) =
+    (Has notes.committed (record { partition = p; sequence = q }) → ShowsDone (ranges p q) seen)
+    × (shows_done seen ≡ true → ShowsDone (ranges p q) seen)
+ShowsSo ranges notes p q other = Unit {0}
+
+-- a job commits its segment up to the offset of its commitEnd
+abbrev pub StepsSo : Ranges → Notes → ControllerId → ℕ → Outcome → Type 0
+StepsSo ranges notes c j (Stepped done message) =
+    (w : Working) → tells_commit done ≡ true → Has notes.jobs w → is_job c j w ≡ true → (ranges w.segment.partition w.segment.sequence).end ≡ w.end
+StepsSo ranges notes c j other = Unit {0}
+
+-- nothing is missing of a partition
+abbrev pub MissesNothing : Answer → Partition → Type 0
+MissesNothing answer p = (s : Option Sequence) → Has answer.missing (p, s) → ⊥
+
+-- what an answer names of a partition goes from one offset to another without a gap, through every segment that was told to be committed but
+-- those that lie before it, which were retired; in a table without a retention it goes from the first offset on
+pub record GoesThrough (setup : Setup) (ranges : Ranges) (notes : Notes) (p : Partition) (named : List Range) : Type 0 where
+  pub from : ℕ
+  pub to : ℕ
+  pub up : from ≤ to
+  pub one : named ≡ span from to
+  pub all : (s : Segment) → Has notes.committed s → s.partition ≡ p
+      → ((ranges s.partition s.sequence).end.0 ≤ from)
+      ⊎ ((from ≤ (ranges s.partition s.sequence).start.0) × ((ranges s.partition s.sequence).end.0 ≤ to))
+  pub first : setup.retention ≡ None → from ≡ 0
+
+-- an answer names the whole of a segment that was told to be committed, or nothing of it; and where it misses nothing of a partition it goes
+-- through all of it
+pub record NamesSo (setup : Setup) (ranges : Ranges) (notes : Notes) (answer : Answer) : Type 0 where
+  pub whole : (s : Segment) → Has notes.committed s → Each (Spares (ranges s.partition s.sequence)) (ranges_at s.partition answer.ranges)
+  pub through : (p : Partition) → p.0 < setup.partitions → MissesNothing answer p → GoesThrough setup ranges notes p (ranges_at p answer.ranges)
+
+abbrev pub AnswersSo : Setup → Ranges → Notes → Outcome → Type 0
+AnswersSo setup ranges notes (Answered answer) = NamesSo setup ranges notes answer
+AnswersSo setup ranges notes other = Unit {0}
+
+abbrev pub TellsSo : Setup → Ranges → Notes → Option Line → Outcome → Type 0
+TellsSo setup ranges notes (Some (line.Event (ShowMeta p q))) outcome = ShowsSo ranges notes p q outcome
+TellsSo setup ranges notes (Some (line.Event (Job c j))) outcome = StepsSo ranges notes c j outcome
+TellsSo setup ranges notes (Some (line.Macro (macro.Query query))) outcome = AnswersSo setup ranges notes outcome
+TellsSo setup ranges notes other outcome = Unit {0}
+
+-- ---- a report
+
+-- a line tells so, and the lines behind it do with what is then noted
+pub record TellsFirst (setup : Setup) (ranges : Ranges) (notes : Notes) (said : Option Line) (text : List ℕ) (later : Notes → Type 0) : Type 0 where
+  pub outcome : Outcome
+  pub told : IsTold said text outcome
+  pub so : TellsSo setup ranges notes said outcome
+  pub behind : later (noted_behind said outcome notes)
+
+-- so it is of each line that has a text
+abbrev pub AllTellSo : Setup → Ranges → Notes → List NumberedLine → List (List ℕ) → Type 0
+AllTellSo setup ranges notes lines [] = Unit {0}
+AllTellSo setup ranges notes [] (text ∷ texts) = ⊥
+AllTellSo setup ranges notes (line ∷ lines) (text ∷ texts) =
+    TellsFirst setup ranges notes (line_in setup line.1) text (λ more. AllTellSo setup ranges more lines texts)
+
+-- each segment has one range, as far as it was committed, with which all lines agree
+pub record CommitsStay (setup : Setup) (lines : List NumberedLine) (texts : List (List ℕ)) : Type 0 where
+  pub ranges : Ranges
+  pub all : AllTellSo setup ranges no_notes lines texts
