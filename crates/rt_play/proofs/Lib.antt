@@ -14,8 +14,10 @@ pub mod HybridTables
 pub mod InputLimits
 pub mod JobLines
 pub mod Keeping
+pub mod Laid
 pub mod Leading
 pub mod LineReads
+pub mod Misses
 pub mod NamedRanges
 pub mod Noted
 pub mod NotedAnswers
@@ -31,3 +33,5 @@ pub mod ScriptRuns
 pub mod ShownStays
 pub mod StartedJobs
 pub mod Tellings
+pub mod TextLines
+pub mod Turned

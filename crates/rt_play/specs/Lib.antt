@@ -3,11 +3,15 @@ pub mod Beginning
 pub mod Generating
 pub mod Going
 pub mod Headline
+pub mod Laid
 pub mod Ledger
+pub mod Missed
 pub mod Named
 pub mod Plays
 pub mod Reader
 pub mod Report
 pub mod Shown
+pub mod TextLines
+pub mod Turned
 pub mod Words
 pub mod Writing

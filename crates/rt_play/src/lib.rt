@@ -9,14 +9,19 @@ mod generated_report;
 mod generated_rows;
 mod generating;
 mod laws;
+mod missing;
 mod one_report;
 mod play_end;
 mod player;
 mod reader;
 mod running;
+mod settled;
+mod texts;
+mod views;
 mod words;
 
 pub use laws::a_script_is_a_run;
+pub use missing::{a_query_line_misses_what_no_server_serves, a_view_misses_what_no_server_serves};
 pub use one_report::a_script_has_one_report;
 pub use play_end::PlayEnd;
 pub use player::play;
@@ -24,3 +29,6 @@ pub use reader::{
     each_answer_counts_what_was_produced, the_text_of_an_answer_tells_its_ranges,
     what_is_shown_to_have_ended_stays, what_was_committed_stays,
 };
+pub use settled::a_settle_leaves_no_server_out;
+pub use texts::the_parts_of_a_text_are_the_text;
+pub use views::no_row_of_a_view_is_left_out;
