@@ -1,5 +1,9 @@
 pub mod AnswerTexts
 pub mod Beginnings
+pub mod Coming
+pub mod ComingLines
+pub mod ComingMacros
+pub mod ComingReports
 pub mod Commits
 pub mod Completes
 pub mod Covered
