@@ -1,5 +1,5 @@
 ghost use Rattle.std.specs.Prelude.{◌≡◌, ◌⊎◌, IfErr, IfOk, map, string_bytes};
-ghost use Rattle.rt_lines.specs.declared.play_fault.PlayFault.{Usage, Memory};
+ghost use Rattle.rt_lines.specs.declared.play_fault.PlayFault.TheVariants.{Usage, Memory};
 
 use rt_lines::PlayFault;
 use std::alloc::{Alloc, AllocError, Global};
