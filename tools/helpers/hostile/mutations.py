@@ -1,8 +1,6 @@
 """Scripts made of stored ones: by their bytes, and line by line by the grammar."""
-import random
 import re
 
-import damages
 import forms
 import scripts
 
@@ -81,12 +79,3 @@ def by_grammar(draws, text, other):
         else:
             lines.insert(place, fresh(draws))
     return "\n".join(lines).encode(errors="surrogateescape")
-
-
-def made(seed, kept):
-    """The script of a seed."""
-    draws = random.Random(seed)
-    text = draws.choice(kept)
-    if draws.random() < 0.3:
-        return damages.damaged(draws, text)[0]
-    return by_grammar(draws, text, draws.choice(kept))
