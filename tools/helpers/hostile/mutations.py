@@ -1,4 +1,4 @@
-"""Scripts made of stored ones: by their bytes, and line by line by the grammar."""
+"""Scripts made of stored ones, line by line by the grammar, and such lines."""
 import re
 
 import forms
