@@ -6,7 +6,7 @@ import pathlib
 import building
 import programs
 
-SOURCE = pathlib.Path(__file__).with_name("rt_batch.rt")
+SOURCE = pathlib.Path(__file__).with_name("rt_batch.source")
 LIBRARIES = ["rt_base", "rt_play"]
 
 
