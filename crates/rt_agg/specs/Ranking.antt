@@ -32,11 +32,11 @@ abbrev pub Ascends : {X : Type 0} → (X → X → Ordering) → List X → Type
 Ascends R [] = Unit {0}
 Ascends R (x ∷ xs) = AllByRecursion (λ y. R x y ≡ Less) xs × Ascends R xs
 
--- where a result goes among those of some places: it comes after the one before it, and after none from there on
+-- where a result goes among those of some ascending places: it comes after the one before it, and not after the one there
 pub record IsPlaced (order : List OrderKey) (ranked : ℕ → Result) (i : ℕ) (places : List ℕ) (at : ℕ) : Type 0 where
   pub within : at ≤ length places
   pub before : (k p : ℕ) → at ≡ k + 1 → slice_get places k ≡ Some p → is_gt (result_cmp order (ranked i) (ranked p)) ≡ true
-  pub behind : AllByRecursion (λ p. is_gt (result_cmp order (ranked i) (ranked p)) ≡ false) (drop at places)
+  pub behind : (p : ℕ) → slice_get places at ≡ Some p → is_gt (result_cmp order (ranked i) (ranked p)) ≡ false
 
 -- of the places of the first of some ascending results came those of the first of these and one more
 abbrev pub PlacesOne : List OrderKey → (ℕ → Result) → ℕ → ℕ → List ℕ → List ℕ → Type 0

@@ -18,7 +18,7 @@ use std::alloc::{AllocError, Global};
 use std::marker::Model;
 
 // Up to this limit each group is put among the first ones; above it all are sorted.
-const MOST_PLACED: u32 = 128;
+const MOST_PLACED: u32 = 1_024;
 
 /// The groups of a query, in the order in which their first rows came.
 #[derive(Drop)]
