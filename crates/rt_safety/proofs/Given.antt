@@ -7,6 +7,7 @@ use Rattle.rt_base.specs.Faults.{answer_under, fault_of}
 use Rattle.rt_base.specs.declared.fault.Fault.{Fault}
 use Rattle.rt_base.specs.declared.fault.Fault.TheVariants.{Nothing, Lost, Kept}
 use Rattle.rt_base.specs.declared.numbers.Partition.{Partition}
+use Rattle.rt_commit.proofs.Realized.{deep_calls_told}
 use Rattle.rt_deep.specs.Answers as of_deep
 use Rattle.rt_deep.specs.Calls as deep_calls
 use Rattle.rt_deep.specs.Files.{AreOnce, file_of}
@@ -19,8 +20,7 @@ use Rattle.rt_model.specs.History.{value_of}
 use Rattle.rt_model.specs.Lawful.{Write, create, set, delete, create_after, bump, written_by}
 use Rattle.rt_model.specs.declared.node.Key.{Key}
 use Rattle.rt_model.specs.declared.node.Seen.{Seen}
-use Rattle.rt_lists.proofs.Members.{front_same}
-use Rattle.rt_store.proofs.Realized.{calls_told, counted}
+use Rattle.rt_store.proofs.Realized.{calls_told}
 use Rattle.rt_store.specs.Answers.{answer_by, answer_of, change_in, first_of, found_in, listing, presence_in, reading, refusal_of}
 use Rattle.rt_store.specs.Calls.{answer_on, Calls, told_on}
 use Rattle.rt_store.specs.Meaning.{Told}
@@ -153,21 +153,8 @@ put_given t path bytes =
     let file : DeepPut = record { path = path; bytes = bytes } in
     under_given_deep (fault_of t.faults.plan) (of_deep.putting file t.files) (offered_given (file_of t.files path) bytes)
 
-deep_goes : {X : Type 0} (t : ToldDeep) (answer : List DeepPut → Result X DeepRefused) (after : List DeepPut → List DeepPut) (result : Result X DeepRefused)
-    → result ≡ deep_calls.answer_on t answer → IsGivenDeep result
-    → deep_calls.GoesBy (deep_means t) (deep_means (deep_calls.told_on t after)) (fault_of t.faults.plan) t.files (after t.files) (answer t.files) result
-deep_goes t answer after (Err deep.Memory) e g = absurd (none-some tt g)
-deep_goes t answer after result e g =
-    record { meets = (refl, refl); counts = counted t.faults (fault_of t.faults.plan); answered = e; seen = refl; own = refl }
-
 -- and the call can be so answered
 pub given_deep_calls : {X : Type 0} (t : ToldDeep) → AreOnce t.files → (answer : List DeepPut → Result X DeepRefused) (after : List DeepPut → List DeepPut)
     → IsGivenDeep (deep_calls.answer_on t answer)
     → deep_calls.Calls (deep_means t) (deep_means (deep_calls.told_on t after)) answer after (deep_calls.answer_on t answer)
-given_deep_calls t once answer after g =
-    record {
-      fault = fault_of t.faults.plan;
-      base = t.files;
-      sees = record { grows = front_same t.files; all = refl; once = once };
-      goes = deep_goes t answer after (deep_calls.answer_on t answer) refl g;
-    }
+given_deep_calls t once answer after g = deep_calls_told t answer after named_deep tt once refl g

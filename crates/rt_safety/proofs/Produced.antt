@@ -1,5 +1,5 @@
 -- A run appends what its turns produce, and each query stays the one that was asked.
-use Rattle.std.proofs.Common.{◌≡◌, ◌⊎◌, inl, inr, ℕ, List, [], ◌∷◌, ◌++◌, Result, Ok, Err, Option, Some, None, refl, sym, ◌∙◌, ap, subst, slice_get, get_or, length, ◌<◌, ◌≤◌, arith, length-append}
+use Rattle.std.proofs.Common.{◌≡◌, ◌⊎◌, inl, inr, ℕ, List, [], ◌∷◌, ◌++◌, Ok, Option, Some, None, refl, sym, ◌∙◌, ap, subst, slice_get, get_or, length, ◌<◌, ◌≤◌, arith, length-append}
 use Rattle.std.specs.Prelude.{slice_set}
 use Rattle.std.proofs.lemmas.List.{length-set}
 use Rattle.std.proofs.lemmas.Option.{none-some, same_Some, slice_get_cases, slice_get_within}
@@ -9,9 +9,6 @@ use Rattle.rt_base.specs.declared.numbers.Partition.{Partition}
 use Rattle.rt_base.specs.declared.numbers.Sequence.{Sequence}
 use Rattle.rt_broker.proofs.Lasting.{got_of_set}
 use Rattle.rt_broker.specs.Asking.{Asking, asking, piece_at}
-use Rattle.rt_broker.specs.Routing.{Routes as broker_routes}
-use Rattle.rt_broker.specs.declared.refused.BrokerRefused.{BrokerRefused}
-use Rattle.rt_broker.specs.declared.refused.BrokerRefused.TheVariants as broker
 use Rattle.rt_controller.specs.declared.handled.Handled.{Handled}
 use Rattle.rt_controller.specs.declared.handled.Handled.TheVariants as handled
 use Rattle.rt_deep.specs.Meaning.{Told as ToldDeep}
@@ -43,9 +40,9 @@ use Rattle.rt_state.specs.Replicas.{NodeConsumes}
 use Rattle.rt_state.specs.Requests.{AskStep, SendsAt, SendsRequest}
 use Rattle.rt_state.specs.declared.cost.Cost.{Cost}
 use Rattle.rt_state.specs.declared.state.State.{State}
-use Rattle.rt_store.specs.Meaning.{Meaning, Told}
+use Rattle.rt_store.specs.Meaning.{Told}
 use Rattle.rt_stream.specs.Log.{Log}
-use Rattle.rt_world.proofs.KeepsQueries.{query_there}
+use Rattle.rt_world.proofs.KeepsQueries.{query_there, routed_query}
 use Rattle.rt_world.proofs.Quiet.{takes_quiet}
 use Rattle.rt_world.specs.Step.{Steps}
 
@@ -213,13 +210,6 @@ pub record Leaves (w : State) (turn : Turn) (v : State) : Type 0 where
 quietly : (w v : State) → Untouched w v → (v.log ≡ w.log) × ((queries : List Query) → AreAsked w queries → AreAsked v queries)
 quietly w v u = (u.0, λ queries k. asked_still w v queries k u.1)
 
--- a route leaves what was asked
-still_asks : (old new : Meaning) (a b : Asking) (p : Partition) (answer : Result ℕ BrokerRefused) → broker_routes old new a p b answer → b.query ≡ a.query
-still_asks old new a b p (Ok count) r = ap (λ (x : Asking). x.query) r.1.noted
-still_asks old new a b p (Err broker.NotDue) r = ap (λ (x : Asking). x.query) r.1
-still_asks old new a b p (Err broker.StoreFault) r = ap (λ (x : Asking). x.query) r.2
-still_asks old new a b p (Err broker.Memory) r = ap (λ (x : Asking). x.query) r.1
-
 routes_leave : (w : State) (q : ℕ) (p : Partition) (cost : Cost) (x : Next) → Routes w q p cost x
     → (x.0.log ≡ w.log) × ((queries : List Query) → AreAsked w queries → AreAsked x.0 queries)
 routes_leave w q p cost x h = by_query (query_at w q) refl h
@@ -231,7 +221,7 @@ routes_leave w q p cost x h = by_query (query_at w q) refl h
       ap (λ (z : State). z.log) is,
       λ queries k. asked_put w x.0 queries q (Some new) k
           (λ b e. k.same q a (query_there w q a there)
-          ∙ ap (λ (y : Query). Some y) (sym (ap (λ (y : Asking). y.query) (same_asked b new (sym e)) ∙ still_asks _ _ a new p answer routes)))
+          ∙ ap (λ (y : Query). Some y) (sym (ap (λ (y : Asking). y.query) (same_asked b new (sym e)) ∙ routed_query _ _ a new p answer routes)))
           (ap (λ (z : State). z.queries) is),
     )
 
