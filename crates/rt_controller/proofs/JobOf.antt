@@ -45,7 +45,7 @@ position_set {X = X} p xs i x y e at passes =
     (λ lt. subst P (sym (get_or-set_same xs i y x found.0)) passes))
     (omega (arith, found.0, size))
 
-got_set : {X : Type 0} (xs : List X) (i : ℕ) (y : X) → i < length xs → slice_get (slice_set xs i y) i ≡ Some y
+pub got_set : {X : Type 0} (xs : List X) (i : ℕ) (y : X) → i < length xs → slice_get (slice_set xs i y) i ≡ Some y
 got_set xs i y lt =
     slice_get-get_or (slice_set xs i y) i y (omega (arith, lt, length-set xs i y)) ∙ ap Some (get_or-set_same xs i y y lt)
 

@@ -19,4 +19,4 @@ pub use filling::fill;
 pub use laws::the_numbers_of_settle_are;
 pub use outcomes::{Delivered, Replied};
 pub use querying::query;
-pub use settling::{MOST_ROUNDS, settle, waits};
+pub use settling::{BATCH, MOST_ROUNDS, settle, waits};

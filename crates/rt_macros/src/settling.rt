@@ -34,7 +34,7 @@ use std::alloc::Global;
 pub const MOST_ROUNDS: u64 = 1_000_000;
 
 /// The messages that a replica takes at once.
-const BATCH: u32 = 100;
+pub const BATCH: u32 = 100;
 
 /// Has the nodes do what they have to do, in at most so many rounds; whether the last of these was quiet. While the run is
 /// paused no replica begins to consume.

@@ -153,11 +153,11 @@ listed_by_range s v (node.Ideal i) = refl
 listed_by_range s v node.Boot = refl
 listed_by_range s v node.Gone = refl
 
-open_value : (n : Node) (w : Seen) → IsOpen n → value_by n w ≡ Some w
+pub open_value : (n : Node) (w : Seen) → IsOpen n → value_by n w ≡ Some w
 open_value (node.Meta m) w o = refl
 open_value _ w o = absurd o
 
-ends_value : (c n : Node) (w : Seen) → Ends c n → value_by n w ≡ Some w
+pub ends_value : (c n : Node) (w : Seen) → Ends c n → value_by n w ≡ Some w
 ends_value (node.Meta c) (node.Meta m) w o = refl
 ends_value (node.Meta c) _ w o = absurd o
 ends_value _ _ w o = absurd o

@@ -34,7 +34,7 @@ of_segment h p (suc n) r has =
     by_place further (inr k) = (n, omega arith, k)
 
 -- and that of a segment is among all
-among_all : (h : List Seen) (p : Partition) (n s : ℕ) (r : Range) → s < n → Has (done_ranges_in (life_of h p s)) r → Has (done_ranges_below h p n) r
+pub among_all : (h : List Seen) (p : Partition) (n s : ℕ) (r : Range) → s < n → Has (done_ranges_in (life_of h p s)) r → Has (done_ranges_below h p n) r
 among_all h p zero s r lt has = absurd (omega (arith, lt))
 among_all h p (suc n) s r lt has = by_order (λ k. among_all h p n s r k has) (cases_lt s n)
   where

@@ -80,7 +80,7 @@ ends_own q now from to answer o (Some r) seen h e = success_is from answer o r s
 -- ---- the step of a controller's job
 
 -- something is made of an answer
-answer_made : (s t : Meaning) (d e : DeepMeaning) (call : Call) (P : Answer → Type 0) → Makes s t d e call P → (answer : Answer) × P answer
+pub answer_made : (s t : Meaning) (d e : DeepMeaning) (call : Call) (P : Answer → Type 0) → Makes s t d e call P → (answer : Answer) × P answer
 answer_made s t d e calls_nothing P h = (_, h.2)
 answer_made s t d e (puts path bytes) P h = (_, h.3)
 answer_made s t d e (gets path) P h = (_, h.3)
@@ -98,7 +98,7 @@ record IsStepOf (c : Controlling) (n : ℕ) (now : Moment) (answer : Answer) (w 
   made : job_step job now answer ≡ Some x
   same : w ≡ settled (with_stage c place job x.stage) place job.asked (commits job.stage) x.did x.did.status
 
-step_of : (c : Controlling) (n : ℕ) (now : Moment) (answer : Answer) (w : Working) → work_of c n now answer ≡ Some w → IsStepOf c n now answer w
+pub step_of : (c : Controlling) (n : ℕ) (now : Moment) (answer : Answer) (w : Working) → work_of c n now answer ≡ Some w → IsStepOf c n now answer w
 step_of c n now answer w e = by_place (job_place c.jobs n) refl e
   where
     by_step : (place : ℕ) (j : Job) → job_place c.jobs n ≡ Some place → slice_get c.jobs place ≡ Some j → (o : Option Stepping) → job_step j now answer ≡ o

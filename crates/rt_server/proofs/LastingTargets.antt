@@ -62,7 +62,7 @@ target_comes i (e ∷ es) x has = by (e.instance.0 == i.0) refl has (λ h. targe
     by true mine h further = one mine (Has-insert_entry segment_cmp segment_exact (targets_of i es) (segment e.partition e.sequence) e.mode x h) further
     by false other h further = later i e es x (further h)
 
-right_entries : (setup : Setup) (past : Past) (k : Key) (n : Node) → IsRightNode setup past k n → AreRightEntries setup (entries_by n)
+pub right_entries : (setup : Setup) (past : Past) (k : Key) (n : Node) → IsRightNode setup past k n → AreRightEntries setup (entries_by n)
 right_entries setup past k (node.Ideal i) r = r
 right_entries setup past k (node.Meta m) r = λ e has. absurd has
 right_entries setup past k node.Boot r = λ e has. absurd has

@@ -14,7 +14,7 @@ metas_length s zero = omega arith
 metas_length s (suc p) = omega (arith, length-append (starting_metas s p) (starting_meta s p ∷ []), metas_length s p)
 
 -- a node of each server and of each partition, and the ideal state
-contents_length : (s : Starting) → length (starting_contents s) ≡ s.servers + s.partitions + 1
+pub contents_length : (s : Starting) → length (starting_contents s) ≡ s.servers + s.partitions + 1
 contents_length s =
     omega (
       arith,

@@ -117,7 +117,7 @@ on_same c now a None = tt
 on_same c now a (Some place) = at_same c now a place (slice_get c.jobs place)
 
 -- what is true whatever a call answers
-whatever : (s t : Meaning) (d e : DeepMeaning) (call : Call) (P : Answer → Type 0) (Q : Type 0) → ((a : Answer) → P a → Q) → Makes s t d e call P → Q
+pub whatever : (s t : Meaning) (d e : DeepMeaning) (call : Call) (P : Answer → Type 0) (Q : Type 0) → ((a : Answer) → P a → Q) → Makes s t d e call P → Q
 whatever s t d e calls_nothing P Q f m = f nothing m.2
 whatever s t d e (puts path bytes) P Q f (answer, made, same, p) = f (put answer) p
 whatever s t d e (gets path) P Q f (answer, made, same, p) = f (got answer) p
