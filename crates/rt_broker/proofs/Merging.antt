@@ -71,7 +71,7 @@ pushed_merged done (r ∷ rest) =
     ∙ pushed_merged (done ++ r ∷ []) rest
     ∙ ap merged (append_assoc done (r ∷ []) rest)
 
-merged_in_order : (rs : List Range) → pushed_all [] rs ≡ merged rs
+pub merged_in_order : (rs : List Range) → pushed_all [] rs ≡ merged rs
 merged_in_order rs = pushed_merged [] rs
 
 -- what was merged once all pieces were looked at

@@ -27,11 +27,11 @@ use Rattle.rt_broker.proofs.Gaining.{rows_held_append}
 abbrev Log : Type 0
 Log = List (List (List ℕ))
 
-abbrev rows_at : Schema → Log → Partition → Range → List Row
+abbrev pub rows_at : Schema → Log → Partition → Range → List Row
 rows_at schema log p r = rows_between schema log p.0 r.start.0 r.end.0
 
 -- the rows of a partition's ranges, one after the other
-abbrev rows_all : Schema → Log → Partition → List Range → List Row
+abbrev pub rows_all : Schema → Log → Partition → List Range → List Row
 rows_all schema log p [] = []
 rows_all schema log p (r ∷ rs) = rows_at schema log p r ++ rows_all schema log p rs
 
@@ -78,7 +78,7 @@ rows_joined schema log p r (s ∷ ss) b o = by_test (r.end.0 == s.start.0) refl
         ∙ append_assoc (rows_at schema log p r) (rows_at schema log p s) (rows_all schema log p ss)
     by_test false e = refl
 
-rows_merged : (schema : Schema) (log : Log) (p : Partition) (from : ℕ) (rs : List Range) → AreInOrder from rs
+pub rows_merged : (schema : Schema) (log : Log) (p : Partition) (from : ℕ) (rs : List Range) → AreInOrder from rs
     → rows_all schema log p (merged rs) ≡ rows_all schema log p rs
 rows_merged schema log p from [] o = refl
 rows_merged schema log p from (r ∷ rs) o = by_test (r.start.0 == r.end.0) refl (rows_merged schema log p r.end.0 rs o.2)
@@ -92,11 +92,11 @@ rows_merged schema log p from (r ∷ rs) o = by_test (r.start.0 == r.end.0) refl
         rows_joined schema log p r (merged rs) o.1 (order_merged r.end.0 rs o.2)
         ∙ ap (λ rows. rows_at schema log p r ++ rows) rest
 
-rows_named : (schema : Schema) (log : Log) (p : Partition) (rs : List Range) → rows_of schema log (map (λ r. (p, r)) rs) ≡ rows_all schema log p rs
+pub rows_named : (schema : Schema) (log : Log) (p : Partition) (rs : List Range) → rows_of schema log (map (λ r. (p, r)) rs) ≡ rows_all schema log p rs
 rows_named schema log p [] = refl
 rows_named schema log p (r ∷ rs) = ap (λ rows. rows_at schema log p r ++ rows) (rows_named schema log p rs)
 
-rows_of_append : (schema : Schema) (log : Log) (rs ss : List (Partition × Range)) → rows_of schema log (rs ++ ss) ≡ rows_of schema log rs ++ rows_of schema log ss
+pub rows_of_append : (schema : Schema) (log : Log) (rs ss : List (Partition × Range)) → rows_of schema log (rs ++ ss) ≡ rows_of schema log rs ++ rows_of schema log ss
 rows_of_append schema log [] ss = refl
 rows_of_append schema log (r ∷ rs) ss =
     ap (λ rows. rows_between schema log r.0.0 r.1.start.0 r.1.end.0 ++ rows) (rows_of_append schema log rs ss)

@@ -6,5 +6,4 @@ pub mod ViewLists
 pub mod Added
 pub mod StreamRows
 pub mod RightFound
-pub mod Named
 pub mod RightViews

@@ -6,7 +6,7 @@ use Rattle.std.proofs.lemmas.List.Elements.{All-append, All-cons, All-nil}
 use Rattle.rt_base.specs.declared.numbers.Offset.{Offset}
 use Rattle.rt_base.specs.declared.numbers.Partition.{Partition}
 use Rattle.rt_base.specs.declared.range.Range.{Range}
-use Rattle.rt_broker.proofs.Right.{order_from}
+use Rattle.rt_broker.proofs.Right.{order_from, rows_all, rows_at, rows_merged, rows_named, rows_of_append}
 use Rattle.rt_broker.proofs.Rising.{AreOf, AreOrdered, ordered_after, plan_is_of}
 use Rattle.rt_entry.specs.declared.served_rows.ServedRows.{ServedRows}
 use Rattle.rt_hybrid.specs.Sides.{IsHybridAnswer, hybrid_rows}
@@ -30,7 +30,6 @@ use Rattle.rt_views.specs.Streamed.{IsLatestAnswer, IsStreamed, IsViewOf, latest
 use Rattle.rt_views.specs.Views.{asked_of, found_each, found_whole, routed_of, rows_found, rows_if, rows_viewed, view_each, view_whole, views_each, views_whole}
 use Rattle.rt_views.specs.declared.found.Found.{Found}
 use Rattle.rt_views.specs.declared.view.View.{View}
-use Rattle.rt_views.proofs.Named.{rows_all, rows_at, rows_merged, rows_named, rows_of_append}
 use Rattle.rt_views.proofs.RightFound.{AreFound, AreRight, each_found, plan_now_ordered, served_rows_count, whole_found}
 use Rattle.rt_state.specs.IsSafeWorld.{IsSafeWorld}
 use Rattle.rt_state.specs.declared.state.State.{State}
