@@ -1,4 +1,4 @@
-ghost use Rattle.std.specs.Prelude.{◌≡◌, ◌++◌, ◌==◌, ℕ, List, map, OnOk, string_bytes};
+ghost use Rattle.std.specs.Prelude.{◌≡◌, ◌++◌, ◌==◌, ℕ, List, map, OnErr, OnOk, string_bytes};
 ghost use Rattle.rt_lines.specs.Answer.{
   array_of,
   cell_text,
@@ -93,7 +93,8 @@ pub(crate) fn write_array<T: Json>(out: &mut String, items: &[T]) -> Result<(), 
 
 /// Adds the comma that stands before the item of a place in a JSON array, where one does.
 pub fn write_comma(out: &mut String, place: usize) -> Result<(), AllocError>
-    ensures { OnOk result (string_bytes out.new ≡ string_bytes out.old ++ comma_before place) }
+    ensures ok { OnOk result (string_bytes out.new ≡ string_bytes out.old ++ comma_before place) }
+    ensures err { OnErr result (string_bytes out.new ≡ string_bytes out.old) }
 {
     if place == 0 { Ok(()) } else { out.push(',') }
 }

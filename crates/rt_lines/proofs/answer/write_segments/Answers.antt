@@ -5,4 +5,4 @@ use Rattle.rt_lines.proofs.answer.write_segments.Goals as goal
 
 pub loop-place-preserved : goal.loop-place-preserved
 loop-place-preserved c =
-    written_more missing_text c.args.missing.now c.loop-place.place _ _ _ _ _ _ (omega arith) refl c.loop-place.invariant c.in_ok-write_comma.ensures c.in_ok-write.ensures
+    written_more missing_text c.args.missing.now c.loop-place.place _ _ _ _ _ _ (omega arith) refl c.loop-place.invariant c.in_ok-write_comma.ensures.ok c.in_ok-write.ensures
