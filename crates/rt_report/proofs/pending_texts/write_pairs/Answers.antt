@@ -5,4 +5,4 @@ use Rattle.rt_report.proofs.pending_texts.write_pairs.Goals as goal
 
 pub loop-place-preserved : goal.loop-place-preserved
 loop-place-preserved c =
-    written_more pair_text c.args.segments.now c.loop-place.place _ _ _ _ _ _ (omega arith) refl c.loop-place.invariant c.in_ok-write_comma.ensures c.in_ok-write_pair.ensures
+    written_more pair_text c.args.segments.now c.loop-place.place _ _ _ _ _ _ (omega arith) refl c.loop-place.invariant c.in_ok-write_comma.ensures.ok c.in_ok-write_pair.ensures
