@@ -89,14 +89,14 @@ answer_made s t d e (sets from n) P h = (_, h.3)
 answer_made s t d e (creates k n prior) P h = (_, h.3)
 
 -- the job of a number, and the step that it made
-record IsStepOf (c : Controlling) (n : ℕ) (now : Moment) (answer : Answer) (w : Working) : Type 0 where
-  place : ℕ
-  found : job_place c.jobs n ≡ Some place
-  job : Job
-  there : slice_get c.jobs place ≡ Some job
-  x : Stepping
-  made : job_step job now answer ≡ Some x
-  same : w ≡ settled (with_stage c place job x.stage) place job.asked (commits job.stage) x.did x.did.status
+pub record IsStepOf (c : Controlling) (n : ℕ) (now : Moment) (answer : Answer) (w : Working) : Type 0 where
+  pub place : ℕ
+  pub found : job_place c.jobs n ≡ Some place
+  pub job : Job
+  pub there : slice_get c.jobs place ≡ Some job
+  pub x : Stepping
+  pub made : job_step job now answer ≡ Some x
+  pub same : w ≡ settled (with_stage c place job x.stage) place job.asked (commits job.stage) x.did x.did.status
 
 pub step_of : (c : Controlling) (n : ℕ) (now : Moment) (answer : Answer) (w : Working) → work_of c n now answer ≡ Some w → IsStepOf c n now answer w
 step_of c n now answer w e = by_place (job_place c.jobs n) refl e
