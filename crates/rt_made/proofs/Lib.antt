@@ -1,0 +1,12 @@
+pub mod Contents
+pub mod Few
+pub mod Files
+pub mod Headers
+pub mod Jsons
+pub mod Names
+pub mod Sequences
+pub mod Servers
+pub mod Tokens
+pub mod Typed
+pub mod Values
+pub mod Worlds
