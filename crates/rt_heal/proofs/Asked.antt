@@ -13,10 +13,12 @@ use Rattle.rt_model.specs.Chain.{deletions_of, IsPresent}
 use Rattle.rt_model.specs.Entries.{entries_by, entries_in, entries_of}
 use Rattle.rt_model.specs.History.{last_write, value_by, value_in}
 use Rattle.rt_model.specs.Ideal.{has_entry, is_of, is_of_instance, mode_of}
+use Rattle.rt_model.specs.Lawful.{IsLawfulHistory}
 use Rattle.rt_model.specs.Laws.{IsGoneLast}
 use Rattle.rt_model.specs.Metadata.{listed_write, metadata_of, node_key, sequences_of, IsDone, IsDoneStatus}
 use Rattle.rt_model.specs.Order.{NamesOnce}
 use Rattle.rt_model.specs.Setup.{IsSetup}
+use Rattle.rt_model.specs.Starting.{Starting}
 use Rattle.rt_model.specs.declared.ideal_state.IdealEntry.{IdealEntry}
 use Rattle.rt_model.specs.declared.ideal_state.Mode.{Mode}
 use Rattle.rt_model.specs.declared.ideal_state.Mode.TheVariants.{Online}
@@ -162,14 +164,26 @@ pub record IsListedDone (h : List Seen) (p : Partition) (q : Sequence) : Type 0 
   pub is : listed.sequence ≡ q
   pub done : IsDoneStatus listed.seen.meta.status
 
-module _ (setup : Setup) (past : Past) (right : IsPast setup past) (p : Partition) (q : Sequence) (within : p.0 < setup.partitions) where
-  pub present_listed : IsPresent past.history p q.0 → (l : Listed) × Has (metadata_of past.history p) l × (l.sequence.0 ≡ q.0)
+module _ (s : Starting) (h : List Seen) (p : Partition) (q : Sequence) (lawful : IsLawfulHistory s h) (within : p.0 < s.partitions) where
+  pub present_listed : IsPresent h p q.0 → (l : Listed) × Has (metadata_of h p) l × (l.sequence.0 ≡ q.0)
   present_listed there =
-      let chain = has_chains (starting_of setup) past.history right.lawful p within in
+      let chain = has_chains s h lawful p within in
       let bounds = (chain.present q.0).0 there in
-      in_run (metadata_of past.history p) (deletions_of past.history p) (sequences_of past.history p - deletions_of past.history p) q.0
-      (has_listings (starting_of setup) past.history right.lawful p within).run bounds.0 (omega (arith, bounds.0, bounds.1, chain.some))
+      in_run (metadata_of h p) (deletions_of h p) (sequences_of h p - deletions_of h p) q.0
+      (has_listings s h lawful p within).run bounds.0 (omega (arith, bounds.0, bounds.1, chain.some))
 
+  -- a segment is listed that is Done by the last write of its node
+  pub done_listed : (w : Seen) → IsDone w.node → last_write h (node_key p q.0) ≡ Some w → IsListedDone h p q
+  done_listed w done last =
+      let value : value_in (last_write h (node_key p q.0)) ≡ Some w = ap value_in last ∙ done_value w.node w done in
+      let P : Option Seen → Type 0 = λ o. IsSome o in
+      let l = present_listed (subst P (sym value) refl) in
+      let same : w ≡ listed_write p l.0 =
+      same_Some w (listed_write p l.0)
+      (sym value ∙ ap (λ (t : ℕ). value_in (last_write h (node_key p t))) (sym l.2) ∙ (has_listings s h lawful p within).values l.0 l.1) in
+      record { listed = l.0; has = l.1; is = same_sequence l.0.sequence q l.2; done = subst (λ (v : Seen). IsDone v.node) same done }
+
+module _ (setup : Setup) (past : Past) (right : IsPast setup past) (p : Partition) (q : Sequence) (within : p.0 < setup.partitions) where
   -- a segment that is ONLINE at an instance is there, and Done
   pub online_listed : (i : Instance) → mode_of (entries_of past.history) p q i ≡ Some Online → IsListedDone past.history p q
   online_listed i asked =
@@ -188,17 +202,4 @@ module _ (setup : Setup) (past : Past) (right : IsPast setup past) (p : Partitio
           let written = last_write-Has past.history (node_key p q.0) g last in
           let passed = has_passed_deletions (starting_of setup) past.history right.lawful p q.0 q.0 (g, written.0, written.1, gone) entered in
           absurd (omega (arith, passed))
-      by_end w done (inl last) entered =
-          let value : value_in (last_write past.history (node_key p q.0)) ≡ Some w = ap value_in last ∙ done_value w.node w done in
-          let P : Option Seen → Type 0 = λ o. IsSome o in
-          let l = present_listed (subst P (sym value) refl) in
-          let same : w ≡ listed_write p l.0 =
-          same_Some w (listed_write p l.0)
-          (sym value ∙ ap (λ (s : ℕ). value_in (last_write past.history (node_key p s))) (sym l.2)
-          ∙ (has_listings (starting_of setup) past.history right.lawful p within).values l.0 l.1) in
-          record {
-            listed = l.0;
-            has = l.1;
-            is = same_sequence l.0.sequence q l.2;
-            done = subst (λ (v : Seen). IsDone v.node) same done;
-          }
+      by_end w done (inl last) entered = done_listed (starting_of setup) past.history p q right.lawful within w done last

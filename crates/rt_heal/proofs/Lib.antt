@@ -5,11 +5,16 @@ pub mod Mended
 pub mod Missing
 pub mod Nothing
 pub mod Noting
+pub mod Online
 pub mod Planned
 pub mod Quiet
 pub mod Ranges
 pub mod Seeing
 pub mod Sequences
 pub mod Served
+pub mod Turned
+pub mod TurnedRuns
+pub mod Turning
 pub mod Whole
 pub mod Wholes
+pub mod Writers

@@ -21,6 +21,7 @@ use Rattle.rt_lists.specs.Members.{Has}
 use Rattle.rt_macros.specs.Doing.{Act, Attempted, AttemptedBy, Choose, Each, EachFrom, Further, Gives, Happens, HappensBy, Passed, Reached, Then, after, stays}
 use Rattle.rt_macros.specs.Settling.{AfterRequest, BuildAndExchange, BuildTurn, ConsumeTurn, DownloadTurn, Downloads, ExchangeTurn, ReplicaTurn, ReplicasHeld, ReplicasOfAll, ReplicasTurn, Requests, Round, SegmentAt, ServerTurn, ServersTurn, TransitTurn, Transits, TransitsAndDownloads, WithLeader, may_consume, waits_at}
 use Rattle.rt_macros.specs.Exchanging.{AfterReport}
+use Rattle.rt_macros.specs.declared.settling.TheConstants.{BATCH}
 use Rattle.rt_model.specs.Entries.{entries_of}
 use Rattle.rt_model.specs.declared.node.Seen.{Seen}
 use Rattle.rt_model.specs.declared.replica_state.ReplicaState.{ReplicaState}
@@ -44,11 +45,12 @@ use Rattle.rt_stream.specs.Log.{end_of, messages_of}
 use Rattle.rt_world.specs.Reading.{due_transits_of, held_in, is_ready_at, is_ready_by, leader_in, listed_by, stage_at, wanted_in}
 use Rattle.rt_world.specs.Step.{Steps, due_of}
 use Rattle.rt_heal.specs.AtRest.{AreUp, IsAtRest}
+use Rattle.rt_heal.specs.Calm.{IsCalm}
 use Rattle.rt_heal.specs.Led.{IsLed}
 use Rattle.rt_heal.specs.Resting.{IsIdle}
 use Rattle.rt_safety.proofs.JobsOn.{own_slot}
 use Rattle.rt_heal.proofs.Nothing.{fails_test, nothing, transits_none, wanted_none}
-use Rattle.rt_heal.proofs.Seeing.{HasSeen, IsCalm, IsHealthy, see_healthy, see_told}
+use Rattle.rt_heal.proofs.Seeing.{HasSeen, IsHealthy, same_leader, see_healthy, see_told}
 
 -- ---- what was told, and what was refused
 
@@ -58,10 +60,10 @@ told_so x = Ok x
 abbrev refused_so : {A : Type 0} → Refusal → Result A Refusal
 refused_so e = Err e
 
-told_not : {A : Type 0} (x : A) (e : Refusal) → told_so x ≡ refused_so e → ⊥
+pub told_not : {A : Type 0} (x : A) (e : Refusal) → told_so x ≡ refused_so e → ⊥
 told_not x e h = cc
 
-told_same : {A : Type 0} (x y : A) → told_so x ≡ told_so y → x ≡ y
+pub told_same : {A : Type 0} (x y : A) → told_so x ≡ told_so y → x ≡ y
 told_same x y h = cc
 
 -- ---- several things, of which the last told something
@@ -153,23 +155,19 @@ from_quiet act F quiet first (suc count) busy w v h =
 
 -- ---- the turn of a replica
 
--- the most messages that a replica takes in its turn
-abbrev pub MOST_TAKEN : ℕ
-MOST_TAKEN = 100
-
 pub record HasNothing (i : Instance) (s : SegmentAt) (w : State) : Type 0 where
-  pub consume : may_consume false w i s ≡ true → due_of w (Consume i s.0 s.1 MOST_TAKEN) ≡ nothing
+  pub consume : may_consume false w i s ≡ true → due_of w (Consume i s.0 s.1 BATCH) ≡ nothing
   pub build : due_of w (Build i s.0 s.1) ≡ nothing
   pub report : due_of w (Report i s.0 s.1) ≡ nothing
 
 consume_quiet : (i : Instance) (s : SegmentAt) (busy : Bool) (w : State) (v : Reached) → ConsumeTurn false i s busy w v (Ok false)
-    → IsQuiet (λ u. may_consume false u i s ≡ true → due_of u (Consume i s.0 s.1 MOST_TAKEN) ≡ nothing) busy w v
+    → IsQuiet (λ u. may_consume false u i s ≡ true → due_of u (Consume i s.0 s.1 BATCH) ≡ nothing) busy w v
 consume_quiet i s busy w v h = by_test (may_consume false w i s) refl h
   where
-    by_test : (b : Bool) → may_consume false w i s ≡ b → Choose b (Attempted (Consume i s.0 s.1 MOST_TAKEN) busy w) (Gives busy w) v (Ok false)
-        → IsQuiet (λ u. may_consume false u i s ≡ true → due_of u (Consume i s.0 s.1 MOST_TAKEN) ≡ nothing) busy w v
+    by_test : (b : Bool) → may_consume false w i s ≡ b → Choose b (Attempted (Consume i s.0 s.1 BATCH) busy w) (Gives busy w) v (Ok false)
+        → IsQuiet (λ u. may_consume false u i s ≡ true → due_of u (Consume i s.0 s.1 BATCH) ≡ nothing) busy w v
     by_test true e t =
-        let a = attempt_quiet (Consume i s.0 s.1 MOST_TAKEN) busy w v t in record { same = a.same; unbusy = a.unbusy; so = λ may. a.refused }
+        let a = attempt_quiet (Consume i s.0 s.1 BATCH) busy w v t in record { same = a.same; unbusy = a.unbusy; so = λ may. a.refused }
     by_test false e t =
         record { same = t.0; unbusy = sym (told_same false busy t.1); so = λ may. absurd (true≢false (sym may ∙ e)) }
 
@@ -255,8 +253,8 @@ download_quiet i s busy w v h =
 abbrev AreCalm : ℕ → State → Type 0
 AreCalm first w = (i : ℕ) (n : ServerNode) → slice_get w.servers i ≡ Some n → i < first → IsCalm w.store.writes n
 
-record IsCalmUpTo (setup : Setup) (first : ℕ) (y : State) : Type 0 where
-  healthy : IsHealthy setup y
+record IsCalmUpTo (from : State) (first : ℕ) (y : State) : Type 0 where
+  healthy : IsHealthy from y
   calm : AreCalm first y
 
 abbrev GoesOn : ℕ → Bool → Act Bool
@@ -311,9 +309,9 @@ servers_unbusy first (suc count) busy w v h =
     let rest = servers_unbusy (first + 1) count t.told t.between.world t.last t.further in
     server_unbusy first busy w t.between (subst (λ (b : Bool). ServerTurn first busy w t.between (Ok b)) rest t.came)
 
-module _ (setup : Setup) (i : ℕ) (w : State) (n : ServerNode) (k : IsHealthy setup w) (calm : AreCalm i w) (there : slice_get w.servers i ≡ Some n) where
+module _ (from : State) (i : ℕ) (w : State) (n : ServerNode) (k : IsHealthy from w) (calm : AreCalm i w) (there : slice_get w.servers i ≡ Some n) where
   -- the server is calm behind its turn
-  calm_here : (busy : Bool) (v : Reached) (t : HasTurned i busy w v) → HasSeen w (record { 0 = i }) n t.now → IsHealthy setup t.now
+  calm_here : (busy : Bool) (v : Reached) (t : HasTurned i busy w v) → HasSeen w (record { 0 = i }) n t.now → IsHealthy from t.now
       → (m : ServerNode) → slice_get t.now.servers i ≡ Some m → IsCalm t.now.store.writes m
   calm_here busy v t seen healthy m here =
       let new : slice_get t.now.servers i ≡ Some seen.new =
@@ -342,24 +340,24 @@ module _ (setup : Setup) (i : ℕ) (w : State) (n : ServerNode) (k : IsHealthy s
       by_old (inl same) = absurd (omega (arith, lt, same.0))
       by_old (inr old) = subst (λ (g : List Seen). IsCalm g m) (sym writes) (calm j m old lt)
 
-  turn_calms : (busy : Bool) (v : Reached) → GoesOn i busy w v (Ok false) → IsCalmUpTo setup (i + 1) v.world
+  turn_calms : (busy : Bool) (v : Reached) → GoesOn i busy w v (Ok false) → IsCalmUpTo from (i + 1) v.world
   turn_calms busy v g =
       let t = turn_parts i busy w v g in
-      let seen = see_told setup w (record { 0 = i }) n t.now t.outcome k there t.step in
-      let healthy = see_healthy setup w (record { 0 = i }) n t.now t.outcome k there t.step seen in
-      subst (IsCalmUpTo setup (i + 1)) (sym t.end)
+      let seen = see_told from w (record { 0 = i }) n t.now t.outcome k there t.step in
+      let healthy = see_healthy from w (record { 0 = i }) n t.now t.outcome k there t.step seen in
+      subst (IsCalmUpTo from (i + 1)) (sym t.end)
       (record { healthy = healthy; calm = λ j m found below. by_place t seen healthy j m found below (cases_lt j i) })
     where
-      by_place : (t : HasTurned i busy w v) → HasSeen w (record { 0 = i }) n t.now → IsHealthy setup t.now → (j : ℕ) (m : ServerNode)
+      by_place : (t : HasTurned i busy w v) → HasSeen w (record { 0 = i }) n t.now → IsHealthy from t.now → (j : ℕ) (m : ServerNode)
           → slice_get t.now.servers j ≡ Some m → j < i + 1 → (j < i) ⊎ (i ≤ j) → IsCalm t.now.store.writes m
       by_place t seen healthy j m found below (inl lt) = calm_others busy v t seen j m found lt
       by_place t seen healthy j m found below (inr le) =
           let is : j ≡ i = omega (arith, le, below) in
           calm_here busy v t seen healthy m (ap (slice_get t.now.servers) (sym is) ∙ found)
 
-server_quiet : (setup : Setup) (i : ℕ) (busy : Bool) (w : State) (v : Reached) → IsHealthy setup w → AreCalm i w → ServerTurn i busy w v (Ok false)
-    → IsCalmUpTo setup (i + 1) v.world
-server_quiet setup i busy w v k calm h = by_node (slice_get w.servers i) refl h
+server_quiet : (from : State) (i : ℕ) (busy : Bool) (w : State) (v : Reached) → IsHealthy from w → AreCalm i w → ServerTurn i busy w v (Ok false)
+    → IsCalmUpTo from (i + 1) v.world
+server_quiet from i busy w v k calm h = by_node (slice_get w.servers i) refl h
   where
     none_more : slice_get w.servers i ≡ None → (j : ℕ) (m : ServerNode) → slice_get w.servers j ≡ Some m → j < i + 1 → (j < i) ⊎ (i ≤ j) → IsCalm w.store.writes m
     none_more none j m found below (inl lt) = calm j m found lt
@@ -367,24 +365,24 @@ server_quiet setup i busy w v k calm h = by_node (slice_get w.servers i) refl h
         let is : j ≡ i = omega (arith, le, below) in absurd (none-some m (sym none ∙ ap (slice_get w.servers) (sym is) ∙ found))
 
     by_node : (o : Option ServerNode) → slice_get w.servers i ≡ o → Choose (is_up o) (GoesOn i busy w) (Gives busy w) v (Ok false)
-        → IsCalmUpTo setup (i + 1) v.world
+        → IsCalmUpTo from (i + 1) v.world
     by_node None none g =
-        subst (λ (x : Reached). IsCalmUpTo setup (i + 1) x.world) (sym g.0)
+        subst (λ (x : Reached). IsCalmUpTo from (i + 1) x.world) (sym g.0)
         (record { healthy = k; calm = λ j m found below. none_more none j m found below (cases_lt j i) })
     by_node (Some n) there g =
-        turn_calms setup i w n k calm there busy v (subst (λ (b : Bool). Choose b (GoesOn i busy w) (Gives busy w) v (Ok false)) (k.up i n there) g)
+        turn_calms from i w n k calm there busy v (subst (λ (b : Bool). Choose b (GoesOn i busy w) (Gives busy w) v (Ok false)) (k.up i n there) g)
 
-servers_quiet : (setup : Setup) (first count : ℕ) (busy : Bool) (w : State) (v : Reached) → IsHealthy setup w → AreCalm first w
-    → EachFrom ServerTurn first count busy w v (Ok false) → IsCalmUpTo setup (first + count) v.world
-servers_quiet setup first zero busy w v k calm h =
-    subst (λ (x : Reached). IsCalmUpTo setup (first + 0) x.world) (sym h.0)
+servers_quiet : (from : State) (first count : ℕ) (busy : Bool) (w : State) (v : Reached) → IsHealthy from w → AreCalm first w
+    → EachFrom ServerTurn first count busy w v (Ok false) → IsCalmUpTo from (first + count) v.world
+servers_quiet from first zero busy w v k calm h =
+    subst (λ (x : Reached). IsCalmUpTo from (first + 0) x.world) (sym h.0)
     (record { healthy = k; calm = λ j m found below. calm j m found (omega (arith, below)) })
-servers_quiet setup first (suc count) busy w v k calm h =
+servers_quiet from first (suc count) busy w v k calm h =
     let t = then_parts (ServerTurn first busy) (EachFrom ServerTurn (first + 1) count) w v false h in
     let unbusy = servers_unbusy (first + 1) count t.told t.between.world t.last t.further in
-    let here = server_quiet setup first busy w t.between k calm (subst (λ (b : Bool). ServerTurn first busy w t.between (Ok b)) unbusy t.came) in
-    let rest = servers_quiet setup (first + 1) count t.told t.between.world t.last here.healthy here.calm t.further in
-    subst (IsCalmUpTo setup (first + suc count)) (sym (ap (λ (x : Reached). x.world) t.whole))
+    let here = server_quiet from first busy w t.between k calm (subst (λ (b : Bool). ServerTurn first busy w t.between (Ok b)) unbusy t.came) in
+    let rest = servers_quiet from (first + 1) count t.told t.between.world t.last here.healthy here.calm t.further in
+    subst (IsCalmUpTo from (first + suc count)) (sym (ap (λ (x : Reached). x.world) t.whole))
     (record { healthy = rest.healthy; calm = λ j m found below. rest.calm j m found (omega (arith, below)) })
 
 -- ---- a replica that had nothing to do
@@ -420,10 +418,10 @@ module _ (w : State) (i : ℕ) (n : ServerNode) (s : IsSafeWorld w) (there : sli
 
   takes_none : ready ≡ true → takes_in (state_of r.phase) ≡ false
   takes_none is =
-      let fails = fails_test w (record { 0 = i }) p (passes (takes_now MOST_TAKEN) (replica_at w (record { 0 = i }) p q)) no_cost (none.consume (may is)) in
-      by_both (and_cases (takes_in (state_of r.phase)) (nat_lt 0 MOST_TAKEN) (ap (passes (takes_now MOST_TAKEN)) (sym at_server) ∙ fails))
+      let fails = fails_test w (record { 0 = i }) p (passes (takes_now BATCH) (replica_at w (record { 0 = i }) p q)) no_cost (none.consume (may is)) in
+      by_both (and_cases (takes_in (state_of r.phase)) (nat_lt 0 BATCH) (ap (passes (takes_now BATCH)) (sym at_server) ∙ fails))
     where
-      by_both : (takes_in (state_of r.phase) ≡ false) ⊎ (nat_lt 0 MOST_TAKEN ≡ false) → takes_in (state_of r.phase) ≡ false
+      by_both : (takes_in (state_of r.phase) ≡ false) ⊎ (nat_lt 0 BATCH ≡ false) → takes_in (state_of r.phase) ≡ false
       by_both (inl none) = none
       by_both (inr empty) = absurd (true≢false empty)
 
@@ -442,27 +440,36 @@ module _ (w : State) (i : ℕ) (n : ServerNode) (s : IsSafeWorld w) (there : sli
 
 -- ---- a round
 
--- what a quiet round leaves
-pub record HasRested (w : State) : Type 0 where
+-- what a quiet round leaves, where nothing was written
+pub record HasRested (from w : State) : Type 0 where
   pub safe : IsSafeWorld w
+  pub same : w.setup ≡ from.setup
+  pub written : w.store.writes ≡ from.store.writes
   pub unplanned : w.store.faults.plan ≡ []
   pub rest : IsAtRest w
 
 pub round_leaves : (w : State) (v : Reached) → IsSafeWorld w → AreUp w → w.store.faults.plan ≡ [] → IsLed w → Round false w v (Ok false)
-    → HasRested v.world
+    → HasRested w v.world
 round_leaves w v safe up unplanned led h =
     let t = then_parts (ServersTurn false) (ReplicasOfAll false) w v false h in
     let y = t.between.world in
     let q = from_quiet (ReplicasTurn false)
     (λ i u. IsLed u → is_server_up u (record { 0 = i }) ≡ true → (s : SegmentAt) → Has (held_in u (record { 0 = i })) s → HasNothing (record { 0 = i }) s u)
     held_quiet 0 y.setup.servers t.told y t.last t.further in
-    let k : IsHealthy w.setup w = record { safe = safe; same = refl; up = up; unplanned = unplanned; led = led } in
-    let calm = servers_quiet w.setup 0 w.setup.servers false w t.between k (λ i n found below. absurd (omega (arith, below)))
+    let k : IsHealthy w w = record { safe = safe; same = refl; written = refl; up = up; unplanned = unplanned; controllers = refl } in
+    let calm = servers_quiet w 0 w.setup.servers false w t.between k (λ i n found below. absurd (omega (arith, below)))
     (subst (λ (b : Bool). ServersTurn false w t.between (Ok b)) q.unbusy t.came) in
     let end : v.world ≡ y = ap (λ (x : Reached). x.world) t.whole ∙ ap (λ (x : Reached). x.world) q.same in
-    subst HasRested (sym end) (record { safe = calm.healthy.safe; unplanned = calm.healthy.unplanned; rest = all y calm q.so })
+    subst (HasRested w) (sym end)
+    (record {
+      safe = calm.healthy.safe;
+      same = calm.healthy.same;
+      written = calm.healthy.written;
+      unplanned = calm.healthy.unplanned;
+      rest = all y calm q.so;
+    })
   where
-    all : (y : State) → IsCalmUpTo w.setup (0 + w.setup.servers) y
+    all : (y : State) → IsCalmUpTo w (0 + w.setup.servers) y
         → ((i : ℕ) → 0 ≤ i → i < 0 + y.setup.servers → IsLed y → is_server_up y (record { 0 = i }) ≡ true
         → (s : SegmentAt) → Has (held_in y (record { 0 = i })) s → HasNothing (record { 0 = i }) s y)
         → IsAtRest y
@@ -483,7 +490,7 @@ round_leaves w v safe up unplanned led h =
             replicas = λ p q r found.
                 let H : Option ServerNode → Type 0 = λ o. Has (listed_by held_of o) (p, q) in
                 let has = subst H (sym there) ((held_has n.server.table p q kept.ascending).1 (ap is_some found)) in
-                is_idle y i n safe there p q r found (replicas i (omega arith) (omega (arith, within, count)) c.healthy.led up (p, q) has);
+                is_idle y i n safe there p q r found (replicas i (omega arith) (omega (arith, within, count)) (led.0, same_leader y w c.healthy.controllers ∙ led.1) up (p, q) has);
           };
         }
 

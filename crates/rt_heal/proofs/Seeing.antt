@@ -1,11 +1,10 @@
 -- What comes of a server that sees the ideal state, where no fault of the store is planned.
-use Rattle.std.proofs.Common.{◌≡◌, ℕ, inl, inr, Bool, false, List, [], Option, Some, Result, Ok, Err, sym, ◌∙◌, ap, subst, slice_get}
+use Rattle.std.specs.List.{position}
+use Rattle.std.proofs.Common.{◌≡◌, ℕ, inl, inr, Bool, List, [], Option, Some, Result, Ok, Err, sym, ◌∙◌, ap, subst, slice_get}
 use Rattle.std.specs.Prelude.{slice_set}
 use Rattle.std.proofs.lemmas.Option.{none-some}
 use Rattle.rt_base.specs.Faults.{Planned, answer_under, fault_of, met_by, met_fault}
 use Rattle.rt_base.specs.declared.numbers.Instance.{Instance}
-use Rattle.rt_base.specs.declared.numbers.Partition.{Partition}
-use Rattle.rt_base.specs.declared.numbers.Sequence.{Sequence}
 use Rattle.rt_entry.specs.Calls.{Comes}
 use Rattle.rt_entry.specs.declared.refused.ServerRefused.{ServerRefused}
 use Rattle.rt_entry.specs.declared.refused.ServerRefused.TheVariants as refused
@@ -17,15 +16,14 @@ use Rattle.rt_model.specs.History.{value_of}
 use Rattle.rt_model.specs.declared.ideal_state.IdealEntry.{IdealEntry}
 use Rattle.rt_model.specs.declared.node.Key.TheVariants as key
 use Rattle.rt_model.specs.declared.node.Seen.{Seen}
-use Rattle.rt_model.specs.declared.setup.Setup.{Setup}
 use Rattle.rt_model.proofs.Histories.{value_of-last}
 use Rattle.rt_model.proofs.Lawful.{has_ideal_state}
 use Rattle.rt_nodes.specs.Refused.{outcome_by}
 use Rattle.rt_nodes.specs.Servers.{NodeSees}
+use Rattle.rt_nodes.specs.declared.controller_node.ControllerNode.{ControllerNode}
 use Rattle.rt_nodes.specs.declared.server_node.ServerNode.{ServerNode}
 use Rattle.rt_server.specs.Calls.{targets_of, seen_by, with_targets}
-use Rattle.rt_server.specs.Table.{ServerState, entry_of, wants_at as entry_wants}
-use Rattle.rt_server.specs.Transition.{transit_due as server_moves}
+use Rattle.rt_server.specs.Table.{ServerState}
 use Rattle.rt_state.specs.IsSafeWorld.{IsSafeWorld}
 use Rattle.rt_state.specs.Nodes.{ServerCallsAt}
 use Rattle.rt_state.specs.Places.{AreAt}
@@ -40,25 +38,25 @@ use Rattle.rt_store.specs.declared.refused.StoreRefused.{StoreRefused}
 use Rattle.rt_store.specs.declared.refused.StoreRefused.TheVariants as store
 use Rattle.rt_store.proofs.Seeing.{told_exact}
 use Rattle.rt_store.proofs.Told.{read_same}
+use Rattle.rt_world.specs.Reading.{either, leader_in, leads, stands, then_at}
 use Rattle.rt_world.specs.Step.{Steps}
 use Rattle.rt_world.proofs.Places.{at_set}
 use Rattle.rt_world.proofs.SafeSteps.{steps_keep}
-use Rattle.rt_heal.specs.Led.{IsLed}
 use Rattle.rt_heal.specs.AtRest.{IsUp}
 
--- no transition is due and no file wanted, and the targets are those of the history's ideal state
-pub record IsCalm (h : List Seen) (n : ServerNode) : Type 0 where
-  pub seen : n.server.table.targets ≡ targets_of n.server.numbers.instance (entries_of h)
-  pub moved : (p : Partition) (q : Sequence) → server_moves n.server.table p q ≡ false
-  pub loaded : (p : Partition) (q : Sequence) → entry_wants (entry_of n.server.table p q) ≡ false
-
--- all servers are up, no fault of the store is planned, and there is a controller to ask
-pub record IsHealthy (setup : Setup) (w : State) : Type 0 where
+-- the setup, the controllers and all that was written are as they were in another world, all servers are up, and no fault of the store
+-- is planned
+pub record IsHealthy (from w : State) : Type 0 where
   pub safe : IsSafeWorld w
-  pub same : w.setup ≡ setup
+  pub same : w.setup ≡ from.setup
+  pub written : w.store.writes ≡ from.store.writes
   pub up : AreAt IsUp w.servers
   pub unplanned : w.store.faults.plan ≡ []
-  pub led : IsLed w
+  pub controllers : w.controllers ≡ from.controllers
+
+-- who is asked is told by the controllers alone
+pub same_leader : (v w : State) → v.controllers ≡ w.controllers → leader_in v ≡ leader_in w
+same_leader v w same = ap (λ (cs : List ControllerNode). then_at (either (position leads cs) (position stands cs))) same
 
 -- what it saw
 pub record HasSeen (w : State) (i : Instance) (n : ServerNode) (y : State) : Type 0 where
@@ -118,9 +116,9 @@ memory_not s new (Err refused.StoreFault) outcome c t = fault_not c.0
 memory_not s new (Err (refused.BadFile wanted other)) outcome c t = none-some outcome t
 memory_not s new (Err refused.Memory) outcome c t = none-some outcome t
 
-pub see_told : (setup : Setup) (w : State) (i : Instance) (n : ServerNode) (y : State) (outcome : Outcome) → IsHealthy setup w → slice_get w.servers i.0 ≡ Some n
+pub see_told : (from w : State) (i : Instance) (n : ServerNode) (y : State) (outcome : Outcome) → IsHealthy from w → slice_get w.servers i.0 ≡ Some n
     → Steps w (See i) y (Ok outcome) → HasSeen w i n y
-see_told setup w i n y outcome k there (cost, due, h) =
+see_told from w i n y outcome k there (cost, due, h) =
     let g = subst (λ (o : Option ServerNode). ServerCallsAt o w i NodeSees cost (y, outcome)) there h in
     let ideal = has_ideal_state (starting_of w.setup) w.store.writes k.safe.safe.past.lawful in
     let entries : entries_of w.store.writes ≡ entries_by ideal.0.node = ap entries_in (value_of-last w.store.writes key.Ideal ideal.0 ideal.2).0 in
@@ -150,16 +148,17 @@ see_told setup w i n y outcome k there (cost, due, h) =
               ∙ ap (λ (es : List IdealEntry). with_targets n.server (targets_of n.server.numbers.instance es)) (sym entries);
         }
 
-pub see_healthy : (setup : Setup) (w : State) (i : Instance) (n : ServerNode) (y : State) (outcome : Outcome) → IsHealthy setup w → slice_get w.servers i.0 ≡ Some n
-    → Steps w (See i) y (Ok outcome) → HasSeen w i n y → IsHealthy setup y
-see_healthy setup w i n y outcome k there step s =
+pub see_healthy : (from w : State) (i : Instance) (n : ServerNode) (y : State) (outcome : Outcome) → IsHealthy from w → slice_get w.servers i.0 ≡ Some n
+    → Steps w (See i) y (Ok outcome) → HasSeen w i n y → IsHealthy from y
+see_healthy from w i n y outcome k there step s =
     let safe = steps_keep w (See i) y (Ok outcome) (λ h. cc) tt k.safe step in
     let z = counted (record w { servers = slice_set w.servers i.0 s.new; store = s.store }) s.cost in
-    let healthy : IsHealthy setup z = record {
+    let healthy : IsHealthy from z = record {
       safe = subst IsSafeWorld s.is safe;
       same = k.same;
+      written = s.writes ∙ k.written;
       up = at_set IsUp w.servers i.0 s.new (s.up ∙ k.up i.0 n there) k.up;
       unplanned = s.unplanned;
-      led = k.led;
+      controllers = k.controllers;
     } in
-    subst (IsHealthy setup) (sym s.is) healthy
+    subst (IsHealthy from) (sym s.is) healthy

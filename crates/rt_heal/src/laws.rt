@@ -1,5 +1,5 @@
 //! What is whole once there is nothing left to do. Each law stands on a function that does nothing: its clause is the law.
-ghost use Rattle.std.specs.Prelude.{◌≡◌, ◌<◌, ◌≤◌, [], Some, Ok, false};
+ghost use Rattle.std.specs.Prelude.{◌≡◌, ◌<◌, ◌≤◌, List, [], Some, Ok, false};
 ghost use Rattle.rt_base.specs.declared.numbers.Instance.{Instance};
 ghost use Rattle.rt_base.specs.declared.numbers.Moment.{Moment};
 ghost use Rattle.rt_base.specs.declared.numbers.Partition.{Partition};
@@ -25,12 +25,14 @@ ghost use Rattle.rt_past.specs.IsPast.{IsPast};
 ghost use Rattle.rt_past.specs.Past.{Past};
 ghost use Rattle.rt_state.specs.IsSafeWorld.{IsSafeWorld};
 ghost use Rattle.rt_state.specs.Queries.{IsAnswerOf};
+ghost use Rattle.rt_safety.specs.Runs.{Turn, Leads, Runs};
 ghost use Rattle.rt_state.specs.declared.state.State.{State};
 ghost use Rattle.rt_heal.specs.Answered.{IsAnsweredWhole, IsAskedNow, whole_from};
 ghost use Rattle.rt_heal.specs.AtRest.{AreUp, IsAtRest, IsConsumedAt, IsServedAt};
 ghost use Rattle.rt_heal.specs.Led.{IsLed};
 ghost use Rattle.rt_heal.specs.Mended.{GoesOn, NeedsNoRepair};
 ghost use Rattle.rt_heal.specs.Planned.{AreOnline, IsGivenWhole, NoneDropped};
+ghost use Rattle.rt_heal.specs.Turned.{IsTurned, NoneHalfRetired};
 
 /// Where a repair that begins finds nothing to do, and no grace holds it back, the partition goes on: its committed segments tile
 /// the offsets from the mark on up to where the last one starts, which is in progress and which an instance is to consume. So it is
@@ -62,6 +64,17 @@ pub fn at_rest_each_instance_has_what_is_asked()
         → mode_of (entries_of w.store.writes) p q i ≡ Some Consuming → IsConsumedAt w p l i }
 {}
 
+/// In each world of each run the entries of a committed segment are ONLINE as soon as the next segment has entries. So where a
+/// partition goes on, each of its committed segments that has entries is ONLINE at some instance: all of them, unless one is between
+/// the two steps of its retirement.
+#[tactic(auto, using(crate::proofs::TurnedRuns::runs_turned, crate::proofs::TurnedRuns::leads_turned, crate::proofs::Online::are_online))]
+pub fn committed_segments_are_turned_online()
+    ensures runs { (setup : Setup) (turns : List Turn) (w : State) → IsSetup setup → Runs setup turns w → IsTurned w }
+    ensures goes_on { (from : State) (turns : List Turn) (to : State) → IsSafeWorld from → IsTurned from → Leads from turns to → IsTurned to }
+    ensures online { (w : State) (p : Partition) → IsSafeWorld w → IsTurned w → p.0 < w.setup.partitions → GoesOn w.store.writes p
+        → NoneHalfRetired w.store.writes p → AreOnline w.store.writes p }
+{}
+
 /// At rest each piece of a partition's plan is served whole by a replica, the committed ones from their start to their end and the
 /// last one up to the stream's end, with the stream's rows; and they tile the partition's offsets from the mark on. The partition goes
 /// on, each committed segment is ONLINE somewhere, and no replica has dropped its rows that is to consume.
@@ -85,17 +98,18 @@ pub fn at_rest_an_answer_is_whole()
 {}
 
 /// A query over a world at rest is answered whole: it misses nothing, names all offsets of each partition from its mark up to the
-/// stream's end, and aggregates the rows of all messages there. No fault of the store was planned. So it is after a quiet round, where
-/// no partition needs a repair.
+/// stream's end, and aggregates the rows of all messages there. No fault of the store was planned. So it is after a quiet round of any
+/// run, where no partition needs a repair and no segment is between the two steps of its retirement.
 pub fn at_rest_a_query_is_answered_whole()
     ensures resting { (w : State) → IsSafeWorld w → IsAtRest w → w.store.faults.plan ≡ []
         → ((p : Partition) → p.0 < w.setup.partitions → GoesOn w.store.writes p)
         → ((p : Partition) → p.0 < w.setup.partitions → AreOnline w.store.writes p)
         → ((p : Partition) → p.0 < w.setup.partitions → NoneDropped w p) → (query : Query) (v : Reached) (answer : Answer)
         → IsQuery w.setup.schema query → Queries query w v (Ok answer) → IsAnsweredWhole w query answer }
-    ensures settled { (w : State) (v : Reached) → IsSafeWorld w → AreUp w → w.store.faults.plan ≡ [] → IsLed w → Round false w v (Ok false)
+    ensures settled { (setup : Setup) (turns : List Turn) (w : State) (v : Reached) → IsSetup setup → Runs setup turns w → AreUp w
+        → w.store.faults.plan ≡ [] → IsLed w → Round false w v (Ok false)
         → ((p : Partition) → p.0 < v.world.setup.partitions → NeedsNoRepair v.world.setup v.world.store.writes v.world.moment p)
-        → ((p : Partition) → p.0 < v.world.setup.partitions → AreOnline v.world.store.writes p)
+        → ((p : Partition) → p.0 < v.world.setup.partitions → NoneHalfRetired v.world.store.writes p)
         → ((p : Partition) → p.0 < v.world.setup.partitions → NoneDropped v.world p)
         → (query : Query) (x : Reached) (answer : Answer) → IsQuery v.world.setup.schema query → Queries query v.world x (Ok answer)
         → IsAnsweredWhole v.world query answer }
