@@ -2,6 +2,7 @@ pub mod Answered
 pub mod AtRest
 pub mod Calm
 pub mod Led
+pub mod Left
 pub mod Mended
 pub mod Planned
 pub mod Resting

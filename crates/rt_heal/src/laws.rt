@@ -1,10 +1,12 @@
 //! What is whole once there is nothing left to do. Each law stands on a function that does nothing: its clause is the law.
-ghost use Rattle.std.specs.Prelude.{◌≡◌, ◌<◌, ◌≤◌, List, [], Some, Ok, false};
+ghost use Rattle.std.specs.Prelude.{◌≡◌, ◌<◌, ◌≤◌, ℕ, List, [], Some, Ok, true, false};
 ghost use Rattle.rt_base.specs.declared.numbers.Instance.{Instance};
 ghost use Rattle.rt_base.specs.declared.numbers.Moment.{Moment};
 ghost use Rattle.rt_base.specs.declared.numbers.Partition.{Partition};
 ghost use Rattle.rt_base.specs.declared.numbers.Sequence.{Sequence};
 ghost use Rattle.rt_broker.specs.Asking.{Asking};
+ghost use Rattle.rt_events.specs.declared.event.Event.TheVariants.{Build, Consume};
+ghost use Rattle.rt_events.specs.declared.outcome.Outcome.{Outcome};
 ghost use Rattle.rt_lists.specs.Members.{Has};
 ghost use Rattle.rt_macros.specs.Doing.{Reached};
 ghost use Rattle.rt_macros.specs.Querying.{Queries};
@@ -27,9 +29,12 @@ ghost use Rattle.rt_state.specs.IsSafeWorld.{IsSafeWorld};
 ghost use Rattle.rt_state.specs.Queries.{IsAnswerOf};
 ghost use Rattle.rt_safety.specs.Runs.{Turn, Leads, Runs};
 ghost use Rattle.rt_state.specs.declared.state.State.{State};
+ghost use Rattle.rt_world.specs.Reading.{is_ready_at};
+ghost use Rattle.rt_world.specs.Step.{Steps};
 ghost use Rattle.rt_heal.specs.Answered.{IsAnsweredWhole, IsAskedNow, whole_from};
 ghost use Rattle.rt_heal.specs.AtRest.{AreUp, IsAtRest, IsConsumedAt, IsServedAt};
 ghost use Rattle.rt_heal.specs.Led.{IsLed};
+ghost use Rattle.rt_heal.specs.Left.{left_in_world, CanAllFollow};
 ghost use Rattle.rt_heal.specs.Mended.{GoesOn, NeedsNoRepair};
 ghost use Rattle.rt_heal.specs.Planned.{AreOnline, IsGivenWhole, NoneDropped};
 ghost use Rattle.rt_heal.specs.Turned.{IsTurned, NoneHalfRetired};
@@ -113,4 +118,15 @@ pub fn at_rest_a_query_is_answered_whole()
         → ((p : Partition) → p.0 < v.world.setup.partitions → NoneDropped v.world p)
         → (query : Query) (x : Reached) (answer : Answer) → IsQuery v.world.setup.schema query → Queries query v.world x (Ok answer)
         → IsAnsweredWhole v.world query answer }
+{}
+
+/// Of what is left to a world's replicas until they ask or rest, in messages and steps, each batch that is due for one takes
+/// something, and so does each build. Each replica that is sent to a target can come to it: the target lies within the log, no more
+/// messages past the segment's start than a segment has rows at most.
+pub fn a_batch_and_a_build_leave_less_to_do()
+    ensures consumes { (w y : State) (i : Instance) (p : Partition) (q : Sequence) (max : ℕ) (outcome : Outcome) → IsSafeWorld w
+        → CanAllFollow w → 0 < max → is_ready_at w i p q ≡ true → Steps w (Consume i p q max) y (Ok outcome)
+        → left_in_world y < left_in_world w }
+    ensures builds { (w y : State) (i : Instance) (p : Partition) (q : Sequence) (outcome : Outcome) → IsSafeWorld w → CanAllFollow w
+        → Steps w (Build i p q) y (Ok outcome) → left_in_world y < left_in_world w }
 {}
