@@ -1,6 +1,7 @@
 pub mod Asked
 pub mod Asking
 pub mod Less
+pub mod LessRounds
 pub mod LessWorld
 pub mod Listed
 pub mod Mended

@@ -1,5 +1,5 @@
 -- What each write owes so that committed segments stay turned, as the history grows by it.
-use Rattle.std.proofs.Common.{◌≡◌, ℕ, ◌+◌, ◌-◌, ◌<◌, ◌⊎◌, inl, inr, List, [], ◌∷◌, ◌++◌, Option, Some, None, refl, sym, ◌∙◌, ap, subst}
+use Rattle.std.proofs.Common.{◌≡◌, ℕ, ◌+◌, ◌<◌, ◌⊎◌, inl, inr, List, [], ◌∷◌, ◌++◌, Option, Some, None, refl, sym, ◌∙◌, ap, subst}
 use Rattle.rt_base.specs.declared.numbers.Partition.{Partition}
 use Rattle.rt_lists.specs.Members.{Has, IsFront}
 use Rattle.rt_lists.proofs.Members.{front_push, Has-front, Has-push_cases}

@@ -1,4 +1,5 @@
 pub mod Answered
+pub mod Asks
 pub mod AtRest
 pub mod Calm
 pub mod Led

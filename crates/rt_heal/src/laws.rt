@@ -1,5 +1,5 @@
 //! What is whole once there is nothing left to do. Each law stands on a function that does nothing: its clause is the law.
-ghost use Rattle.std.specs.Prelude.{◌≡◌, ◌<◌, ◌≤◌, ℕ, List, [], Some, Ok, true, false};
+ghost use Rattle.std.specs.Prelude.{◌≡◌, ◌<◌, ◌≤◌, ◌⊎◌, ℕ, Bool, List, [], Some, Ok, true, false};
 ghost use Rattle.rt_base.specs.declared.numbers.Instance.{Instance};
 ghost use Rattle.rt_base.specs.declared.numbers.Moment.{Moment};
 ghost use Rattle.rt_base.specs.declared.numbers.Partition.{Partition};
@@ -10,7 +10,7 @@ ghost use Rattle.rt_events.specs.declared.outcome.Outcome.{Outcome};
 ghost use Rattle.rt_lists.specs.Members.{Has};
 ghost use Rattle.rt_macros.specs.Doing.{Reached};
 ghost use Rattle.rt_macros.specs.Querying.{Queries};
-ghost use Rattle.rt_macros.specs.Settling.{Round};
+ghost use Rattle.rt_macros.specs.Settling.{Round, Settles};
 ghost use Rattle.rt_model.specs.Checked.{IsQuery};
 ghost use Rattle.rt_model.specs.Entries.{entries_of};
 ghost use Rattle.rt_model.specs.Ideal.{mode_of};
@@ -32,7 +32,9 @@ ghost use Rattle.rt_state.specs.declared.state.State.{State};
 ghost use Rattle.rt_world.specs.Reading.{is_ready_at};
 ghost use Rattle.rt_world.specs.Step.{Steps};
 ghost use Rattle.rt_heal.specs.Answered.{IsAnsweredWhole, IsAskedNow, whole_from};
+ghost use Rattle.rt_heal.specs.Asks.{Asks};
 ghost use Rattle.rt_heal.specs.AtRest.{AreUp, IsAtRest, IsConsumedAt, IsServedAt};
+ghost use Rattle.rt_heal.specs.Calm.{AreAllCalm};
 ghost use Rattle.rt_heal.specs.Led.{IsLed};
 ghost use Rattle.rt_heal.specs.Left.{left_in_world, CanAllFollow};
 ghost use Rattle.rt_heal.specs.Mended.{GoesOn, NeedsNoRepair};
@@ -129,4 +131,16 @@ pub fn a_batch_and_a_build_leave_less_to_do()
         → left_in_world y < left_in_world w }
     ensures builds { (w y : State) (i : Instance) (p : Partition) (q : Sequence) (outcome : Outcome) → IsSafeWorld w → CanAllFollow w
         → Steps w (Build i p q) y (Ok outcome) → left_in_world y < left_in_world w }
+{}
+
+/// Each round of `settle` in which anything happens and no replica asks a controller leaves less to do, whether the run is paused or
+/// not; so `settle` answers `settled` as soon as it has more rounds than there are messages and steps left, unless a replica asks. So
+/// it does in any case where no controller is up. All servers are up and have nothing to move, no fault of the store is planned, and
+/// each replica that is sent to a target can come to it.
+pub fn settle_ends_where_no_replica_asks()
+    ensures rounds { (paused : Bool) (w : State) (v : Reached) → IsSafeWorld w → AreUp w → w.store.faults.plan ≡ [] → AreAllCalm w
+        → CanAllFollow w → Round paused w v (Ok true) → Asks w v ⊎ (left_in_world v.world < left_in_world w) }
+    ensures settles { (paused : Bool) (rounds : ℕ) (w : State) (v : Reached) (settled : Bool) → IsSafeWorld w → AreUp w
+        → w.store.faults.plan ≡ [] → AreAllCalm w → CanAllFollow w → left_in_world w < rounds
+        → Settles paused rounds w v (Ok settled) → Asks w v ⊎ (settled ≡ true) }
 {}

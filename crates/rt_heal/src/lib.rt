@@ -9,4 +9,5 @@ pub use laws::{
     a_quiet_round_leaves_all_at_rest, at_rest_a_query_is_answered_whole,
     at_rest_an_answer_is_whole, at_rest_each_instance_has_what_is_asked,
     at_rest_each_piece_is_served_whole, committed_segments_are_turned_online,
+    settle_ends_where_no_replica_asks,
 };
