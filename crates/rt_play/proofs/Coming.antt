@@ -8,8 +8,9 @@ use Rattle.rt_events.specs.declared.refusal.Refusal.TheVariants.{Limit, Memory, 
 use Rattle.rt_macros.specs.Doing.{Act, Attempted, AttemptedBy, Choose, Coming, Each, EachFrom, Gives, Happens, Passed, PassesOver, Reached, Refuses, Then, Tries, after, reached, stays}
 use Rattle.rt_model.specs.Setup.{IsSetup}
 use Rattle.rt_model.specs.declared.setup.Setup.{Setup}
+use Rattle.rt_made.proofs.Typed.{run_typed}
+use Rattle.rt_made.specs.Named.{HasTextNames}
 use Rattle.rt_play.proofs.Leading.{leads_then}
-use Rattle.rt_play.specs.Possible.{AllIsMade}
 use Rattle.rt_safety.proofs.Can.{due_happens}
 use Rattle.rt_safety.proofs.Runs.{leads_safe}
 use Rattle.rt_safety.specs.Runs.{Leads, Runs, Turn, happens, passes}
@@ -26,17 +27,19 @@ pub record IsReached (w : State) : Type 0 where
   pub safe : IsSafeWorld w
   pub setup : Setup
   pub is : IsSetup setup
+  pub named : HasTextNames setup.schema
   pub turns : List Turn
   pub runs : Runs setup turns w
 
-pub first_reached : (setup : Setup) → IsSetup setup → IsReached (start setup)
-first_reached setup is = record { safe = start_safe setup is; setup = setup; is = is; turns = []; runs = refl }
+pub first_reached : (setup : Setup) → IsSetup setup → HasTextNames setup.schema → IsReached (start setup)
+first_reached setup is named = record { safe = start_safe setup is; setup = setup; is = is; named = named; turns = []; runs = refl }
 
 pub turns_reached : (w v : State) (turns : List Turn) → IsReached w → Leads w turns v → IsReached v
 turns_reached w v turns k led = record {
   safe = leads_safe w turns v k.safe led;
   setup = k.setup;
   is = k.is;
+  named = k.named;
   turns = k.turns ++ turns;
   runs = leads_then k.turns turns (start k.setup) w v k.runs led;
 }
@@ -58,12 +61,12 @@ gives_comes x w safe = record { last = stays w; told = Ok x; came = (refl, refl)
 pub refuses_comes : {A : Type 0} (refusal : Refusal) (w : State) → Comes {A = A} w (Refuses refusal w)
 refuses_comes refusal w safe = record { last = stays w; told = Err refusal; came = (refl, refl); safe = safe }
 
-pub event_comes : (m : AllIsMade) (event : Event) (w : State) → Fits w.setup.schema event → Comes w (Happens event w)
-event_comes m event w fits safe = by_due (due_of w event) refl
+pub event_comes : (event : Event) (w : State) → Fits w.setup.schema event → Comes w (Happens event w)
+event_comes event w fits safe = by_due (due_of w event) refl
   where
     by_due : (due : Found) → due_of w event ≡ due → IsPossible (Happens event w)
     by_due (Ok tt) e =
-        let x = due_happens w event safe.safe (m.events safe.setup safe.turns w event safe.is safe.runs) e in
+        let x = due_happens w event safe.safe (run_typed safe.setup safe.turns w event safe.is safe.named safe.runs) e in
         record {
           last = reached (happens event x.1 ∷ []) x.0;
           told = Ok x.1;
@@ -136,8 +139,8 @@ each_from_comes act first zero noted w f = gives_comes noted w
 each_from_comes act first (suc count) noted w f =
     then_comes (act first noted) (EachFrom act (first + 1) count) w (f first noted w) (λ s u. each_from_comes act (first + 1) count s u f)
 
-pub passed_comes : (m : AllIsMade) (event : Event) (w : State) → Fits w.setup.schema event → Comes w (Passed event w)
-passed_comes m event w fits = then_comes (Happens event) (λ outcome. Gives tt) w (event_comes m event w fits) (λ x u. gives_comes tt u)
+pub passed_comes : (event : Event) (w : State) → Fits w.setup.schema event → Comes w (Passed event w)
+passed_comes event w fits = then_comes (Happens event) (λ outcome. Gives tt) w (event_comes event w fits) (λ x u. gives_comes tt u)
 
 attempted_by_comes : (busy : Bool) (told : Result Outcome Refusal) (w : State) → Comes w (AttemptedBy busy told w)
 attempted_by_comes busy (Ok outcome) w = gives_comes true w
@@ -148,5 +151,5 @@ attempted_by_comes busy (Err NodeDown) w = refuses_comes NodeDown w
 attempted_by_comes busy (Err (Limit which)) w = refuses_comes (Limit which) w
 attempted_by_comes busy (Err Memory) w = refuses_comes Memory w
 
-pub attempted_comes : (m : AllIsMade) (event : Event) (busy : Bool) (w : State) → Fits w.setup.schema event → Comes w (Attempted event busy w)
-attempted_comes m event busy w fits = tries_comes (Happens event) (AttemptedBy busy) w (event_comes m event w fits) (λ told u. attempted_by_comes busy told u)
+pub attempted_comes : (event : Event) (busy : Bool) (w : State) → Fits w.setup.schema event → Comes w (Attempted event busy w)
+attempted_comes event busy w fits = tries_comes (Happens event) (AttemptedBy busy) w (event_comes event w fits) (λ told u. attempted_by_comes busy told u)

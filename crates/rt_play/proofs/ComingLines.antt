@@ -1,7 +1,6 @@
 -- Something comes of each line in a world that a run of a cluster comes to.
-use Rattle.std.proofs.Common.{◌≡◌, ◌<◌, ℕ, Bool, true, false, List, [], ◌∷◌, ◌++◌, length, Option, Some, None, Result, Ok, Err, nat_lt, refl, sym, subst, slice_get}
+use Rattle.std.proofs.Common.{◌≡◌, ℕ, Bool, true, false, List, [], ◌∷◌, ◌++◌, length, Option, Some, None, Result, Ok, Err, nat_lt, refl, sym, subst, slice_get}
 use Rattle.std.specs.Prelude.{IfSome}
-use Rattle.std.proofs.lemmas.Bool.{ltb-true}
 use Rattle.rt_base.specs.declared.limits.TheConstants.{MOST_EVENTS}
 use Rattle.rt_base.specs.declared.numbers.Instance.{Instance}
 use Rattle.rt_base.specs.declared.numbers.Partition.{Partition}
@@ -27,12 +26,12 @@ use Rattle.rt_events.specs.declared.refusal.Refusal.{Refusal}
 use Rattle.rt_events.specs.declared.refusal.Refusal.TheVariants.{Limit, Memory, NoSuchMessage, NoSuchNode, NodeDown, NothingToDo}
 use Rattle.rt_hybrid.specs.Batch.{rows_pushed}
 use Rattle.rt_hybrid.specs.Table.{OfflineTable}
-use Rattle.rt_macros.specs.Doing.{Act, Choose, Gives, Happens, PassesOver, Refuses, Then, stays}
+use Rattle.rt_macros.specs.Doing.{Act, Gives, Happens, PassesOver, Refuses, Then, stays}
 use Rattle.rt_pause.specs.Forced.{Segment, segments_of}
 use Rattle.rt_pause.specs.declared.replica_seen.ReplicaSeen.{ReplicaSeen}
-use Rattle.rt_play.proofs.Coming.{Comes, IsPossible, each_comes, event_comes, gives_comes, line_comes, refuses_comes, then_comes, tries_comes}
+use Rattle.rt_made.proofs.Files.{push_filed}
+use Rattle.rt_play.proofs.Coming.{Comes, IsPossible, choose_comes, each_comes, event_comes, gives_comes, line_comes, refuses_comes, then_comes, tries_comes}
 use Rattle.rt_play.proofs.ComingMacros.{exchange_comes, fill_comes, query_comes, settle_comes}
-use Rattle.rt_play.specs.Possible.{AllIsMade}
 use Rattle.rt_rebalance.specs.Rehearsed.{step}
 use Rattle.rt_report.specs.BrokerTexts.{noquery_text}
 use Rattle.rt_report.specs.FurtherTexts.{nooffline_text, paused_text, rehearsed_text, resumed_text}
@@ -76,9 +75,8 @@ latest_comes (Some config) (asked.Query query) w =
     then_comes PassesOver (GivesLatest config query) w (line_comes w) (λ done u. gives_comes _ u)
 latest_comes (Some config) (asked.Refused number) w = counts_comes (noquery_text number) w
 
-push_comes : (m : AllIsMade) (rows : List ℕ) (table : OfflineTable) (done : Unit {0}) (w : State) → IsSchema table.schema → length table.files < MOST_EVENTS
-    → Comes w (PushTold rows table done w)
-push_comes m rows table done w schema few safe = by_rows (rows_pushed table.schema rows) refl
+push_comes : (rows : List ℕ) (table : OfflineTable) (done : Unit {0}) (w : State) → IsSchema table.schema → Comes w (PushTold rows table done w)
+push_comes rows table done w schema safe = by_rows (rows_pushed table.schema rows) refl
   where
     by_rows : (pushed : Option (List Row)) → rows_pushed table.schema rows ≡ pushed → IsPossible (PushTold rows table done w)
     by_rows None e = record {
@@ -88,7 +86,7 @@ push_comes m rows table done w schema few safe = by_rows (rows_pushed table.sche
       safe = safe;
     }
     by_rows (Some pushed) e =
-        let file = m.files table.schema (length table.files) rows pushed schema few e in
+        let file = push_filed table.schema (length table.files) rows pushed schema e in
         let new : OfflineTable = record table { files = table.files ++ file.0 ∷ [] } in
         record {
           last = stays w;
@@ -106,21 +104,16 @@ push_comes m rows table done w schema few safe = by_rows (rows_pushed table.sche
           safe = safe;
         }
 
-push_line_comes : (m : AllIsMade) (rows : List ℕ) (table : OfflineTable) (w : State) → IsSchema table.schema → Comes w (PushLine rows table w)
-push_line_comes m rows table w schema safe = by_room (nat_lt (length table.files) MOST_EVENTS) refl
-  where
-    by_room : (b : Bool) → nat_lt (length table.files) MOST_EVENTS ≡ b → IsPossible (Choose b (Then PassesOver (PushTold rows table) w) (Refuses (Limit Events) w))
-    by_room true e =
-        let few = ltb-true (length table.files) MOST_EVENTS e in
-        let x = then_comes PassesOver (PushTold rows table) w (line_comes w) (λ done u. push_comes m rows table done u schema few) safe in
-        record { last = x.last; told = x.told; came = x.came; safe = x.safe }
-    by_room false e = let x = refuses_comes (Limit Events) w safe in record { last = x.last; told = x.told; came = x.came; safe = x.safe }
+push_line_comes : (rows : List ℕ) (table : OfflineTable) (w : State) → IsSchema table.schema → Comes w (PushLine rows table w)
+push_line_comes rows table w schema =
+    choose_comes (nat_lt (length table.files) MOST_EVENTS) (Then PassesOver (PushTold rows table) w) (Refuses (Limit Events) w) w
+    (then_comes PassesOver (PushTold rows table) w (line_comes w) (λ done u. push_comes rows table done u schema)) (refuses_comes (Limit Events) w)
 
-offline_comes : (m : AllIsMade) (rows : List ℕ) (desk : Desk) (table : Option OfflineTable) (w : State) → IfSome table (λ t. IsSchema t.schema)
+offline_comes : (rows : List ℕ) (desk : Desk) (table : Option OfflineTable) (w : State) → IfSome table (λ t. IsSchema t.schema)
     → Comes w (OfflineTold rows desk table w)
-offline_comes m rows desk None w schema = beside_comes desk (Counts (nooffline_text 1)) w (counts_comes (nooffline_text 1) w)
-offline_comes m rows desk (Some table) w schema =
-    puts_comes (λ new. record desk { hybrid = Some new }) (PushLine rows table) w (push_line_comes m rows table w schema)
+offline_comes rows desk None w schema = beside_comes desk (Counts (nooffline_text 1)) w (counts_comes (nooffline_text 1) w)
+offline_comes rows desk (Some table) w schema =
+    puts_comes (λ new. record desk { hybrid = Some new }) (PushLine rows table) w (push_line_comes rows table w schema)
 
 hybrid_comes : (table : Option OfflineTable) (text : QueryText) (w : State) → Comes w (HybridTold table text w)
 hybrid_comes None text w = counts_comes (nooffline_text 1) w
@@ -139,13 +132,13 @@ after_force_comes replica noted (Err NodeDown) w = refuses_comes NodeDown w
 after_force_comes replica noted (Err (Limit which)) w = refuses_comes (Limit which) w
 after_force_comes replica noted (Err Memory) w = refuses_comes Memory w
 
-force_comes : (m : AllIsMade) (replica : ReplicaSeen) (noted : Noted) (w : State) → Comes w (ForcesOne replica noted w)
-force_comes m replica noted w =
+force_comes : (replica : ReplicaSeen) (noted : Noted) (w : State) → Comes w (ForcesOne replica noted w)
+force_comes replica noted w =
     let e = Force replica.instance replica.partition replica.sequence in
-    tries_comes (Happens e) (AfterForce replica noted) w (event_comes m e w tt) (λ told u. after_force_comes replica noted told u)
+    tries_comes (Happens e) (AfterForce replica noted) w (event_comes e w tt) (λ told u. after_force_comes replica noted told u)
 
-forces_comes : (m : AllIsMade) (w : State) → Comes w (ForcesAll w)
-forces_comes m w = each_comes ForcesOne (replicas_seen w) [] w (λ replica noted u. force_comes m replica noted u)
+forces_comes : (w : State) → Comes w (ForcesAll w)
+forces_comes w = each_comes ForcesOne (replicas_seen w) [] w (λ replica noted u. force_comes replica noted u)
 
 status_comes : (job : ℕ) (segments : Option (List Segment)) (w : State) → Comes w (StatusBy job segments w)
 status_comes job None w = refuses_comes NoSuchMessage w
@@ -194,43 +187,43 @@ its_schema : (table : Option OfflineTable) (w : State) → IsSchema w.setup.sche
 its_schema None w schema fits = tt
 its_schema (Some table) w schema fits = subst IsSchema (sym fits) schema
 
-further_comes : (said : Further) (m : AllIsMade) (desk : Desk) (w : State) → IsSchema w.setup.schema → IfSome desk.hybrid (λ table. table.schema ≡ w.setup.schema) → Comes w (FurtherTold said desk w)
-further_comes (further.Latest text) m desk w schema fits = beside_comes desk (LatestTold desk.upsert text) w (latest_comes desk.upsert text w)
-further_comes (further.Offline rows) m desk w schema fits = offline_comes m rows desk desk.hybrid w (its_schema desk.hybrid w schema fits)
-further_comes (further.Hybrid text) m desk w schema fits = beside_comes desk (HybridTold desk.hybrid text) w (hybrid_comes desk.hybrid text w)
-further_comes further.Pause m desk w schema fits =
-    puts_comes (λ on. record desk { pause = on }) PauseTold w (then_comes ForcesAll (λ forced. Gives (changed true (paused_text (length forced)))) w (forces_comes m w) (λ forced u. gives_comes _ u))
-further_comes further.Resume m desk w schema fits = puts_comes (λ on. record desk { pause = on }) ResumeTold w (counts_as_comes false resumed_text w)
-further_comes further.ForceCommit m desk w schema fits =
+further_comes : (said : Further) (desk : Desk) (w : State) → IsSchema w.setup.schema → IfSome desk.hybrid (λ table. table.schema ≡ w.setup.schema) → Comes w (FurtherTold said desk w)
+further_comes (further.Latest text) desk w schema fits = beside_comes desk (LatestTold desk.upsert text) w (latest_comes desk.upsert text w)
+further_comes (further.Offline rows) desk w schema fits = offline_comes rows desk desk.hybrid w (its_schema desk.hybrid w schema fits)
+further_comes (further.Hybrid text) desk w schema fits = beside_comes desk (HybridTold desk.hybrid text) w (hybrid_comes desk.hybrid text w)
+further_comes further.Pause desk w schema fits =
+    puts_comes (λ on. record desk { pause = on }) PauseTold w (then_comes ForcesAll (λ forced. Gives (changed true (paused_text (length forced)))) w (forces_comes w) (λ forced u. gives_comes _ u))
+further_comes further.Resume desk w schema fits = puts_comes (λ on. record desk { pause = on }) ResumeTold w (counts_as_comes false resumed_text w)
+further_comes further.ForceCommit desk w schema fits =
     puts_comes (λ jobs. record desk { jobs = jobs }) (ForceCommitTold desk.jobs) w
-    (then_comes ForcesAll (λ forced. Gives (with_job desk.jobs (segments_of forced))) w (forces_comes m w) (λ forced u. gives_comes _ u))
-further_comes (further.ForceStatus job) m desk w schema fits = beside_comes desk (ForceStatusTold desk.jobs job) w (status_comes job (slice_get desk.jobs job) w)
-further_comes (further.Peer instance partition sequence) m desk w schema fits =
+    (then_comes ForcesAll (λ forced. Gives (with_job desk.jobs (segments_of forced))) w (forces_comes w) (λ forced u. gives_comes _ u))
+further_comes (further.ForceStatus job) desk w schema fits = beside_comes desk (ForceStatusTold desk.jobs job) w (status_comes job (slice_get desk.jobs job) w)
+further_comes (further.Peer instance partition sequence) desk w schema fits =
     beside_comes desk (PeerTold instance partition sequence) w (peer_comes instance partition sequence (peer_of w instance partition sequence) w)
-further_comes (further.Rehearse servers keep) m desk w schema fits = puts_comes (with_plan desk) (RehearseTold servers keep desk.rehearsing) w (rehearse_comes servers keep desk.rehearsing w)
-further_comes (further.Loaded instance partition sequence) m desk w schema fits =
+further_comes (further.Rehearse servers keep) desk w schema fits = puts_comes (with_plan desk) (RehearseTold servers keep desk.rehearsing) w (rehearse_comes servers keep desk.rehearsing w)
+further_comes (further.Loaded instance partition sequence) desk w schema fits =
     puts_comes (with_plan desk) (LoadedTold instance partition sequence desk.rehearsing) w
     (plan_comes rehearsed_text (after_loaded w desk.rehearsing instance partition sequence) (loaded_of w desk.rehearsing instance partition sequence) w)
-further_comes further.Step m desk w schema fits = puts_comes (with_plan desk) (StepTold desk.rehearsing) w (step_comes desk.rehearsing w)
+further_comes further.Step desk w schema fits = puts_comes (with_plan desk) (StepTold desk.rehearsing) w (step_comes desk.rehearsing w)
 
-event_told_comes : (m : AllIsMade) (event : Event) (w : State) → Fits w.setup.schema event → Comes w (EventTold event w)
-event_told_comes m event w fits =
-    then_comes (Happens event) (λ outcome. Gives (outcome_text event outcome)) w (event_comes m event w fits) (λ outcome u. gives_comes (outcome_text event outcome) u)
+event_told_comes : (event : Event) (w : State) → Fits w.setup.schema event → Comes w (EventTold event w)
+event_told_comes event w fits =
+    then_comes (Happens event) (λ outcome. Gives (outcome_text event outcome)) w (event_comes event w fits) (λ outcome u. gives_comes (outcome_text event outcome) u)
 
-unless_comes : (m : AllIsMade) (held : Option (Instance × Partition × Sequence)) (event : Event) (w : State) → Fits w.setup.schema event → Comes w (UnlessHeld held event w)
-unless_comes m None event w fits = event_told_comes m event w fits
-unless_comes m (Some at) event w fits = gives_comes _ w
+unless_comes : (held : Option (Instance × Partition × Sequence)) (event : Event) (w : State) → Fits w.setup.schema event → Comes w (UnlessHeld held event w)
+unless_comes None event w fits = event_told_comes event w fits
+unless_comes (Some at) event w fits = gives_comes _ w
 
-macro_comes : (m : AllIsMade) (said : Macro) (paused : Bool) (w : State) → FitsMacro w.setup.schema said → Comes w (MacroTold paused said w)
-macro_comes m (macro.Fill partition count) paused w fits = fill_comes m partition count w
-macro_comes m (macro.Query query) paused w fits = query_comes m query w fits
-macro_comes m (macro.Exchange instance partition sequence controller) paused w fits = exchange_comes m instance partition sequence controller w
-macro_comes m (macro.Settle rounds) paused w fits = settle_comes m paused rounds w
+macro_comes : (said : Macro) (paused : Bool) (w : State) → FitsMacro w.setup.schema said → Comes w (MacroTold paused said w)
+macro_comes (macro.Fill partition count) paused w fits = fill_comes partition count w
+macro_comes (macro.Query query) paused w fits = query_comes query w fits
+macro_comes (macro.Exchange instance partition sequence controller) paused w fits = exchange_comes instance partition sequence controller w
+macro_comes (macro.Settle rounds) paused w fits = settle_comes paused rounds w
 
-pub line_told_comes : (m : AllIsMade) (said : Line) (desk : Desk) (w : State) → FitsLine w.setup.schema said → IsSchema w.setup.schema
+pub line_told_comes : (said : Line) (desk : Desk) (w : State) → FitsLine w.setup.schema said → IsSchema w.setup.schema
     → IfSome desk.hybrid (λ table. table.schema ≡ w.setup.schema) → Comes w (LineTold said desk w)
-line_told_comes m (line.Event event) desk w fits schema table =
-    beside_comes desk (EventLineTold desk.pause event) w (unless_comes m (held_by w desk.pause event) event w fits)
-line_told_comes m (line.Macro said) desk w fits schema table = beside_comes desk (MacroTold desk.pause said) w (macro_comes m said desk.pause w fits)
-line_told_comes m (line.NoQuery number) desk w fits schema table = beside_comes desk (Counts (noquery_text number)) w (counts_comes (noquery_text number) w)
-line_told_comes m (line.Further said) desk w fits schema table = further_comes said m desk w schema table
+line_told_comes (line.Event event) desk w fits schema table =
+    beside_comes desk (EventLineTold desk.pause event) w (unless_comes (held_by w desk.pause event) event w fits)
+line_told_comes (line.Macro said) desk w fits schema table = beside_comes desk (MacroTold desk.pause said) w (macro_comes said desk.pause w fits)
+line_told_comes (line.NoQuery number) desk w fits schema table = beside_comes desk (Counts (noquery_text number)) w (counts_comes (noquery_text number) w)
+line_told_comes (line.Further said) desk w fits schema table = further_comes said desk w schema table

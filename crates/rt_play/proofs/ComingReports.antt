@@ -22,6 +22,8 @@ use Rattle.rt_events.specs.declared.event.Event.TheVariants.{Produce}
 use Rattle.rt_macros.specs.Doing.{Act, Choose, Gives, Passed, PassesOver, Reached, Refuses, Then, stays}
 use Rattle.rt_macros.specs.Settling.{Settles}
 use Rattle.rt_macros.specs.declared.settling.TheConstants.{MOST_ROUNDS}
+use Rattle.rt_made.proofs.Headers.{header_named}
+use Rattle.rt_made.specs.Named.{HasTextNames}
 use Rattle.rt_model.specs.Checked.{IsQuery}
 use Rattle.rt_model.specs.Setup.{IsSetup}
 use Rattle.rt_model.specs.declared.query.Query.{Query}
@@ -32,12 +34,11 @@ use Rattle.rt_play.proofs.ComingLines.{line_told_comes}
 use Rattle.rt_play.proofs.ComingMacros.{query_comes, settles_comes}
 use Rattle.rt_play.proofs.HybridTables.{start_is}
 use Rattle.rt_play.proofs.LineReads.{same_told, told_or, was_then}
-use Rattle.rt_play.proofs.OneGenerated.{said_fits, setup_has}
+use Rattle.rt_play.proofs.OneGenerated.{said_fits, setup_has, setup_named}
 use Rattle.rt_play.proofs.ScriptRuns.{line_keeps, line_leads}
 use Rattle.rt_play.specs.Beginning.{beginning_behind, beginning_of, desk_by, desk_of, going_from, hybrid_by, with_desk}
 use Rattle.rt_play.specs.Generating.{AsksQuery, Asks, IsGenerated, IsGeneratedBy, ProducesRow, ProducesRows, RunsGenerated, SettlesAndAsks, generated_query, generated_setup, next_number, query_said, report_by, row_text}
 use Rattle.rt_play.specs.Going.{Going}
-use Rattle.rt_play.specs.Possible.{AllIsMade}
 use Rattle.rt_play.specs.Report.{IsReport, IsReportBehind, IsReportFrom, Report, Runs as LineRuns, Stops, fault_at, said_at, stopped}
 use Rattle.rt_play.specs.declared.beginning.Beginning.{Beginning}
 use Rattle.rt_play.specs.declared.generating.Generated.{Generated}
@@ -137,7 +138,7 @@ record IsReady (setup : Setup) (g : Going) : Type 0 where
   same : g.world.setup ≡ setup
   table : IsOfSchema setup.schema g.desk
 
-module _ (m : AllIsMade) (setup : Setup) (is : IsSetup setup) where
+module _ (setup : Setup) (is : IsSetup setup) where
   -- the next line stops the run
   stops_here : (first : NumberedLine) (lines : List NumberedLine) (g : Going) (v : Reached) (why : PlayFault) → Stops first.0 (said_at g first) g v why
       → HasReport (first ∷ lines) g
@@ -215,7 +216,7 @@ module _ (m : AllIsMade) (setup : Setup) (is : IsSetup setup) where
       by_said (Some said) e fits further =
           let schema = subst (λ (s : Setup). IsSchema s.schema) (sym k.same) is.schema in
           let table = subst (λ (s : Setup). IfSome g.desk.hybrid (λ t. t.schema ≡ s.schema)) (sym k.same) k.table in
-          let x = line_told_comes m said g.desk g.world fits schema table k.reached in
+          let x = line_told_comes said g.desk g.world fits schema table k.reached in
           by_told said e x.last x.told x.came further
 
 -- ---- the beginning
@@ -267,27 +268,29 @@ begins_so script x lines e = by_tables (tables_of script) e
 
 -- ---- a script
 
-pub report_comes : (input : List ℕ) → AllIsMade → (report : Report) × IsReport input report
-report_comes input m = by_beginning (beginning_of (script_lines input)) refl
+pub report_comes : (input : List ℕ) → (report : Report) × IsReport input report
+report_comes input = by_beginning (beginning_of (script_lines input)) refl
   where
     by_beginning : (b : Begun) → beginning_of (script_lines input) ≡ b → (report : Report) × IsReportBehind b report
     by_beginning (Ok (x, lines)) e =
-        let is = header_taken (script_lines input) x.setup lines (beginning_taken (script_lines input) x lines e) in
-        lines_come m x.setup is lines (going_from x) (record { reached = first_reached x.setup is; same = refl; table = begins_so (script_lines input) x lines e })
+        let taken = beginning_taken (script_lines input) x lines e in
+        let is = header_taken (script_lines input) x.setup lines taken in
+        let reached = first_reached x.setup is (header_named (script_lines input) x.setup lines taken) in
+        lines_come x.setup is lines (going_from x) (record { reached = reached; same = refl; table = begins_so (script_lines input) x lines e })
     by_beginning (Err why) e = (stopped why, refl)
 
 -- ---- a generated run
 
-produce_rows : (m : AllIsMade) (asked : Generated) (w : State) → Comes w (ProducesRows asked w)
-produce_rows m asked w =
+produce_rows : (asked : Generated) (w : State) → Comes w (ProducesRows asked w)
+produce_rows asked w =
     each_from_comes (ProducesRow asked.partitions) 0 asked.rows asked.seed w
     (λ at x u.
-    then_comes (Passed _) (λ done. Gives (next_number x)) u (passed_comes m (Produce (record { 0 = at % asked.partitions }) (row_text (next_number x))) u tt)
+    then_comes (Passed _) (λ done. Gives (next_number x)) u (passed_comes (Produce (record { 0 = at % asked.partitions }) (row_text (next_number x))) u tt)
     (λ done v. gives_comes (next_number x) v))
 
-asks_query : (m : AllIsMade) (query : Option Query) (w : State) → IfSome query (λ q. IsQuery w.setup.schema q) → Comes w (AsksQuery query w)
-asks_query m (Some query) w fits = query_comes m query w fits
-asks_query m None w fits = refuses_comes NothingToDo w
+asks_query : (query : Option Query) (w : State) → IfSome query (λ q. IsQuery w.setup.schema q) → Comes w (AsksQuery query w)
+asks_query (Some query) w fits = query_comes query w fits
+asks_query None w fits = refuses_comes NothingToDo w
 
 -- a query that is said is one over the schema
 query_fits : (schema : Schema) (said : Option Line) → IfSome said (FitsLine schema) → IfSome (query_said said) (λ q. IsQuery schema q)
@@ -297,19 +300,21 @@ query_fits schema said fits = by_query (query_said said) refl
     by_query None e = tt
     by_query (Some query) e = said_fits schema said query fits e
 
-runs_generated : (m : AllIsMade) (asked : Generated) (w : State) → Comes w (RunsGenerated asked w)
-runs_generated m asked w =
-    then_comes (ProducesRows asked) (λ x. SettlesAndAsks) w (produce_rows m asked w)
+runs_generated : (asked : Generated) (w : State) → Comes w (RunsGenerated asked w)
+runs_generated asked w =
+    then_comes (ProducesRows asked) (λ x. SettlesAndAsks) w (produce_rows asked w)
     (λ x u.
-    then_comes (Settles false MOST_ROUNDS) (λ quiet. Asks) u (settles_comes m false MOST_ROUNDS u)
-    (λ quiet v. asks_query m (query_said (line_in v.setup generated_query)) v
+    then_comes (Settles false MOST_ROUNDS) (λ quiet. Asks) u (settles_comes false MOST_ROUNDS u)
+    (λ quiet v. asks_query (query_said (line_in v.setup generated_query)) v
     (query_fits v.setup.schema (line_in v.setup generated_query) (line_fits v.setup.schema v.setup.table.name generated_query))))
 
-pub generated_comes : (asked : Generated) → AllIsMade → (report : Report) × IsGenerated asked report
-generated_comes asked m = by_setup (generated_setup asked) refl
+pub generated_comes : (asked : Generated) → (report : Report) × IsGenerated asked report
+generated_comes asked = by_setup (generated_setup asked) refl
   where
     by_setup : (r : Result Setup PlayFault) → generated_setup asked ≡ r → (report : Report) × IsGeneratedBy asked r report
     by_setup (Ok setup) e =
-        let x = runs_generated m asked (start setup) (first_reached setup (subst (λ (s : Result Setup PlayFault). IfOk s IsSetup) e (setup_has asked))) in
+        let is = subst (λ (s : Result Setup PlayFault). IfOk s IsSetup) e (setup_has asked) in
+        let named = subst (λ (s : Result Setup PlayFault). IfOk s (λ t. HasTextNames t.schema)) e (setup_named asked) in
+        let x = runs_generated asked (start setup) (first_reached setup is named) in
         (report_by asked.partitions x.last.world x.told, record { last = x.last; told = x.told; run = x.came; same = refl })
     by_setup (Err why) e = (stopped why, refl)

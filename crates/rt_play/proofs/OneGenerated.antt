@@ -14,13 +14,15 @@ use Rattle.rt_exact.proofs.Acts.{each_from_one, gives_one, passed_one, refuses_o
 use Rattle.rt_exact.proofs.Macros.{query_one}
 use Rattle.rt_exact.proofs.Settles.{settles_one}
 use Rattle.rt_lines.specs.Header.{NumberedLine, header_of}
-use Rattle.rt_lines.specs.Lines.{ScriptLines, script_lines}
+use Rattle.rt_lines.specs.Lines.{script_lines}
 use Rattle.rt_lines.specs.declared.play_fault.PlayFault.{PlayFault}
 use Rattle.rt_lines.specs.declared.play_fault.PlayFault.TheVariants.{Limit}
 use Rattle.rt_lines.proofs.Headers.{header_taken}
 use Rattle.rt_macros.specs.Doing.{Gives, Passed, Then}
 use Rattle.rt_macros.specs.Settling.{Settles}
 use Rattle.rt_macros.specs.declared.settling.TheConstants.{MOST_ROUNDS}
+use Rattle.rt_made.proofs.Headers.{header_named}
+use Rattle.rt_made.specs.Named.{HasTextNames}
 use Rattle.rt_model.specs.Checked.{IsQuery}
 use Rattle.rt_model.specs.Setup.{IsSetup}
 use Rattle.rt_model.specs.declared.query.Query.{Query}
@@ -101,21 +103,29 @@ run_one asked w v k = runs_in MOST_ROUNDS asked w v k
 abbrev HeaderRead : Type 0
 HeaderRead = Result (Setup × List NumberedLine) PlayFault
 
-read_has : (script : ScriptLines) (r : HeaderRead) → header_of script ≡ r → IfOk (setup_read r) IsSetup
-read_has script (Ok (setup, lines)) e = header_taken script setup lines e
-read_has script (Err why) e = tt
+-- what a setup has that a header says, that of a generated run has
+module _ (P : Setup → Type 0) where
+  read_has : (r : HeaderRead) → ((setup : Setup) (lines : List NumberedLine) → r ≡ Ok (setup, lines) → P setup) → IfOk (setup_read r) P
+  read_has (Ok (setup, lines)) has = has setup lines refl
+  read_has (Err why) has = tt
 
-within_has : (few short : Bool) (r : HeaderRead) → IfOk (setup_read r) IsSetup
-    → IfOk (if few then (if short then setup_read r else Err (Limit Rows)) else Err (Limit Partitions)) IsSetup
-within_has true true r has = has
-within_has true false r has = tt
-within_has false short r has = tt
+  within_has : (few short : Bool) (r : HeaderRead) → IfOk (setup_read r) P
+      → IfOk (if few then (if short then setup_read r else Err (Limit Rows)) else Err (Limit Partitions)) P
+  within_has true true r has = has
+  within_has true false r has = tt
+  within_has false short r has = tt
+
+  generated_has : (asked : Generated) → ((setup : Setup) (lines : List NumberedLine) → header_of (script_lines (header_text asked.partitions)) ≡ Ok (setup, lines) → P setup)
+      → IfOk (generated_setup asked) P
+  generated_has asked has =
+      let read = header_of (script_lines (header_text asked.partitions)) in
+      within_has (nat_le 1 asked.partitions && nat_le asked.partitions MOST_PARTITIONS) (nat_le asked.rows MOST_ROWS) read (read_has read has)
 
 pub setup_has : (asked : Generated) → IfOk (generated_setup asked) IsSetup
-setup_has asked =
-    let script = script_lines (header_text asked.partitions) in
-    within_has (nat_le 1 asked.partitions && nat_le asked.partitions MOST_PARTITIONS) (nat_le asked.rows MOST_ROWS) (header_of script)
-    (read_has script (header_of script) refl)
+setup_has asked = generated_has IsSetup asked (header_taken (script_lines (header_text asked.partitions)))
+
+pub setup_named : (asked : Generated) → IfOk (generated_setup asked) (λ setup. HasTextNames setup.schema)
+setup_named asked = generated_has (λ setup. HasTextNames setup.schema) asked (header_named (script_lines (header_text asked.partitions)))
 
 -- ---- its report
 

@@ -8,7 +8,6 @@ pub mod Ledger
 pub mod Missed
 pub mod Named
 pub mod Plays
-pub mod Possible
 pub mod Reader
 pub mod Report
 pub mod Shown
