@@ -1,5 +1,5 @@
 -- What is noted of an event holds behind it, and what it tells agrees with the ranges.
-use Rattle.std.proofs.Common.{◌≡◌, ◌<◌, ◌==◌, ◌&&◌, ℕ, Bool, true, false, cond, not, List, [], ◌∷◌, ◌++◌, length, Option, Some, None, Ok, refl, sym, ◌∙◌, ap, subst, slice_get, ⊎_elim, inl, inr}
+use Rattle.std.proofs.Common.{◌≡◌, ◌<◌, ◌==◌, ◌&&◌, ◌||◌, ℕ, Bool, true, false, cond, not, is_none, List, [], ◌∷◌, ◌++◌, length, Option, Some, None, Ok, refl, sym, ◌∙◌, ap, subst, slice_get, ⊎_elim, inl, inr}
 use Rattle.std.specs.List.{filter}
 use Rattle.std.proofs.lemmas.Bool.{and_parts, eq-eqb, eqb-true, false≢true, ltb-true, ne_eqb}
 use Rattle.rt_base.specs.declared.numbers.ControllerId.{ControllerId}
@@ -8,6 +8,12 @@ use Rattle.rt_base.specs.declared.numbers.Offset.{Offset}
 use Rattle.rt_base.specs.declared.numbers.Partition.{Partition}
 use Rattle.rt_base.specs.declared.numbers.Sequence.{Sequence}
 use Rattle.rt_base.specs.declared.range.Range.{Range}
+use Rattle.rt_consumer.specs.Consumer.{state_at, state_of}
+use Rattle.rt_consumer.specs.declared.consumer.Consumer.{Consumer}
+use Rattle.rt_consumer.specs.declared.phase.Phase.{Phase}
+use Rattle.rt_consumer.specs.declared.phase.Phase.TheVariants as phase
+use Rattle.rt_consumer.specs.declared.stage.Stage.{Stage}
+use Rattle.rt_consumer.specs.declared.stage.Stage.TheVariants.{Building, CatchingUp, ConsumingToOnline, Ending, Holding, InitialConsuming, Retaining, Starting, Uploading}
 use Rattle.rt_controller.proofs.StartsAlone.{starts_at_machine}
 use Rattle.rt_controller.specs.Controller.{Controlling}
 use Rattle.rt_controller.specs.Steps.{Handles}
@@ -27,7 +33,7 @@ use Rattle.rt_model.proofs.Histories.{value_of-last}
 use Rattle.rt_model.proofs.Kept.{last_write-Has}
 use Rattle.rt_model.specs.History.{value_of}
 use Rattle.rt_model.specs.Messages.{asked_of}
-use Rattle.rt_model.specs.Metadata.{IsDone, IsDoneStatus, IsFinal, IsFinalStatus, node_key}
+use Rattle.rt_model.specs.Metadata.{IsDone, IsDoneStatus, IsFinal, IsFinalStatus, listed_write, node_key}
 use Rattle.rt_model.specs.declared.node.Node.{Node}
 use Rattle.rt_model.specs.declared.node.Node.TheVariants as node
 use Rattle.rt_model.specs.declared.node.Seen.{Seen}
@@ -42,27 +48,38 @@ use Rattle.rt_model.specs.declared.sent.Sent.TheVariants as sent
 use Rattle.rt_model.specs.declared.setup.Setup.{Setup}
 use Rattle.rt_model.specs.declared.status.Status.{Status}
 use Rattle.rt_model.specs.declared.status.Status.TheVariants.{Abandoned, Done, InProgress}
+use Rattle.rt_nodes.specs.Messages.{node_took, took}
 use Rattle.rt_nodes.specs.Requests.{NodeAsks}
 use Rattle.rt_nodes.specs.declared.controller_node.ControllerNode.{ControllerNode}
 use Rattle.rt_nodes.specs.declared.server_node.ServerNode.{ServerNode}
-use Rattle.rt_play.proofs.JobLines.{IsDoneTo, OwnStep, goes_on, own_step, succeeds}
+use Rattle.rt_past.specs.Segments.{WasDone}
+use Rattle.rt_play.proofs.JobLines.{IsDoneTo, OwnStep, goes_on, own_step, sets_done, succeeds}
 use Rattle.rt_play.proofs.Noted.{Holds, IsAtWork, IsPosted, WasCommitted, committed_stays, job_stays, posted_stays, stays_and_more, stays_but_jobs, stays_with_jobs, still_works}
 use Rattle.rt_play.proofs.Ranged.{AreRanged}
 use Rattle.rt_play.proofs.ShownStays.{node_of, stays_or_gone}
 use Rattle.rt_play.proofs.StartedJobs.{commit_started}
-use Rattle.rt_play.specs.Ledger.{IsDoneOver, Notes, Posted, Ranges, SaysDone, Segment, ShowsDone, TellsSo, Working, event_noted, is_commit_end, is_done_node, is_done_status, is_job, is_success, is_success_status, left_open, opens, segments_of, sent_noted, shows_done, shown_noted, started_noted, stepped_noted, tells_commit}
+use Rattle.rt_play.specs.Ledger.{IsDoneOver, Notes, Posted, Ranges, SaysDone, Segment, ShowsDone, TellsSo, Working, event_noted, is_commit_end, is_done_node, is_done_status, is_done_step, is_job, is_success, is_success_status, knows_commit, left_open, opens, segments_of, sent_noted, shows_done, shown_noted, started_noted, stepped_noted, tells_commit, took_noted}
 use Rattle.rt_safety.proofs.CommitOpens.{commit_opens}
+use Rattle.rt_replica.specs.Lasting.{HasUploaded, ToldAt, ToldIn}
+use Rattle.rt_safety.proofs.JobsOn.{own_slot}
+use Rattle.rt_safety.proofs.Runs.{leads_safe}
 use Rattle.rt_safety.specs.CommitRun.{IsOpen}
 use Rattle.rt_safety.specs.GoesOn.{GoesOn}
+use Rattle.rt_safety.specs.Runs.{happens}
 use Rattle.rt_script.specs.declared.line.Line.TheVariants as line
+use Rattle.rt_segment.specs.Segment.{SealedSegment}
+use Rattle.rt_server.proofs.LastingPuts.{replica_held}
 use Rattle.rt_server.proofs.LastingTold.{asks_right}
 use Rattle.rt_state.proofs.Bounds.{few_sent}
 use Rattle.rt_state.proofs.Possible.{only_passed}
+use Rattle.rt_server.specs.Calls.{replied_in}
+use Rattle.rt_server.specs.Table.{replica_of}
 use Rattle.rt_state.specs.Applying.{Next}
-use Rattle.rt_state.specs.Finding.{has_partition, request_at, request_in}
+use Rattle.rt_state.specs.Finding.{has_partition, reply_at, request_at, request_in}
 use Rattle.rt_state.specs.IsSafe.{past_of}
 use Rattle.rt_state.specs.IsSafeWorld.{IsSafeWorld}
-use Rattle.rt_state.specs.Messages.{DeliversAt, after_step, handed}
+use Rattle.rt_state.specs.Messages.{DeliversAt, RepliesAt, after_step, handed}
+use Rattle.rt_state.specs.Nodes.{ServerDoesAt}
 use Rattle.rt_state.specs.Requests.{SendsAt}
 use Rattle.rt_state.specs.Room.{no_cost, priced}
 use Rattle.rt_state.specs.declared.state.State.{State}
@@ -96,6 +113,11 @@ other_number c j x e f = false≢true (sym e ∙ its (same_controller c j x.cont
 
     its : x.controller.0 ≡ c.0 → x.job ≡ j → is_job c j x ≡ true
     its a b = ap (λ t. t && (x.job == j)) (eq-eqb x.controller.0 c.0 a) ∙ eq-eqb x.job j b
+
+no_more : (a b : Bool) → (a || (b && false)) ≡ true → a ≡ true
+no_more true b e = refl
+no_more false true e = absurd (false≢true e)
+no_more false false e = absurd (false≢true e)
 
 not_true : (b : Bool) → not b ≡ true → b ≡ false
 not_true true e = absurd (false≢true e)
@@ -147,6 +169,26 @@ started_only j n r e = cc
 commit_end : (q : RequestKind) → is_commit_end q ≡ true → (path : List ℕ) × (q ≡ kind.CommitEnd path)
 commit_end (kind.CommitEnd path) e = (path, refl)
 commit_end other e = absurd (false≢true e)
+
+-- a replica that knows of its segment's commit was told the metadata that says so
+knows_at : (h : List Seen) (p : Partition) (q : Sequence) (Up : Offset → SealedSegment → List ℕ → Type 0) (x : Offset) (stage : Stage) → knows_commit (state_at stage) ≡ true
+    → ToldAt (WasDone h p q) Up x stage → (done : SeenMeta) × WasDone h p q done
+knows_at h p q Up x (ConsumingToOnline end done) e told = (done, told)
+knows_at h p q Up x (Retaining done) e told = (done, told)
+knows_at h p q Up x InitialConsuming e told = absurd (false≢true e)
+knows_at h p q Up x (CatchingUp target reason) e told = absurd (false≢true e)
+knows_at h p q Up x (Holding reason) e told = absurd (false≢true e)
+knows_at h p q Up x (Building reason) e told = absurd (false≢true e)
+knows_at h p q Up x (Starting reason built) e told = absurd (false≢true e)
+knows_at h p q Up x (Uploading reason built) e told = absurd (false≢true e)
+knows_at h p q Up x (Ending reason built path) e told = absurd (false≢true e)
+
+knows_of : (h : List Seen) (p : Partition) (q : Sequence) (Up : Offset → SealedSegment → List ℕ → Type 0) (ph : Phase) → knows_commit (state_of ph) ≡ true
+    → ToldIn (WasDone h p q) Up ph → (done : SeenMeta) × WasDone h p q done
+knows_of h p q Up (phase.Unsealed o) e told = knows_at h p q Up o.rows.end o.stage e told
+knows_of h p q Up (phase.Retained kept) e told = (kept.done, told)
+knows_of h p q Up (phase.Committed kept) e told = (kept.done, told)
+knows_of h p q Up (phase.Discarded d) e told = absurd (false≢true e)
 
 module _ (ranges : Ranges) (w v : State) (notes : Notes) (safe : IsSafeWorld w) (goes : GoesOn w v) (ranged : AreRanged (starting_of v.setup) v.store.writes ranges)
     (k : Holds ranges w notes) where
@@ -307,14 +349,20 @@ module _ (ranges : Ranges) (w v : State) (notes : Notes) (safe : IsSafeWorld w) 
     done_to : (x : Working) → Has notes.jobs x → is_job c j x ≡ true → tells_commit did.did ≡ true → IsDoneTo v x.segment.partition x.segment.sequence x.end
     done_to x has e tells = by_reply did.did.reply refl tells
       where
-        by_reply : (r : Option Reply) → did.did.reply ≡ r → is_success r ≡ true → IsDoneTo v x.segment.partition x.segment.sequence x.end
-        by_reply None f t = absurd (false≢true t)
-        by_reply (Some reply) f t =
-            let at = subst (IsAtWork w) (working_is c j x e) (k.jobs x has) in
-            let success = success_of reply.status t in
-            let d = succeeds w v c j o safe did at.request at.left at.its reply success.0 f success.1 in
+        at : IsAtWork w (working c j x.segment x.end)
+        at = subst (IsAtWork w) (working_is c j x e) (k.jobs x has)
+
+        its_own : IsDoneTo v at.request.partition at.request.sequence at.request.offset → IsDoneTo v x.segment.partition x.segment.sequence x.end
+        its_own d =
             subst (λ (s : Segment). IsDoneTo v s.partition s.sequence x.end) at.segment
             (subst (IsDoneTo v at.request.partition at.request.sequence) at.end d)
+
+        by_reply : (r : Option Reply) → did.did.reply ≡ r → (is_success r || (is_done_step did.did.step && is_none r)) ≡ true
+            → IsDoneTo v x.segment.partition x.segment.sequence x.end
+        by_reply None f t = its_own (sets_done w v c j o safe did at.request at.left at.its f (and_parts (is_done_step did.did.step) true t).0)
+        by_reply (Some reply) f t =
+            let success = success_of reply.status (no_more (is_success_status reply.status) (is_done_step did.did.step) t) in
+            its_own (succeeds w v c j o safe did at.request at.left at.its reply success.0 f success.1)
 
     commits : (x : Working) → Has notes.jobs x → is_job c j x ≡ true → tells_commit did.did ≡ true → WasCommitted ranges v x.segment
     commits x has e tells =
@@ -349,6 +397,58 @@ module _ (ranges : Ranges) (w v : State) (notes : Notes) (safe : IsSafeWorld w) 
         (λ x tells has e.
         let d = done_to x has e tells in
         range_ends (ranges x.segment.partition x.segment.sequence) d.write.node (commits x has e tells).done ∙ d.ends)
+
+  -- ---- a replica that takes a reply
+
+  -- a replica of the world behind it that knows of its segment's commit
+  told_done : (n : ServerNode) (i : Instance) (p : Partition) (q : Sequence) (r : Consumer) → IsSafeWorld v → slice_get v.servers i.0 ≡ Some n
+      → replica_of n.server.table p q ≡ Some r → knows_commit (state_of r.phase) ≡ true → WasCommitted ranges v (record { partition = p; sequence = q })
+  told_done n i p q r later at found knows =
+      let held = replica_held v.setup (past_of v) n.server (later.safe.servers i.0 n at).over p q r found in
+      let done = knows_of v.store.writes r.partition r.sequence (HasUploaded v.setup (past_of v) n.server.numbers.instance n.server.numbers.incarnation r.partition r.sequence r.start)
+      r.phase knows held.2.told in
+      let one : (Partition × Sequence) → Segment = λ s. record { partition = s.0; sequence = s.1 } in
+      subst (WasCommitted ranges v) (ap one held.0)
+      (committed_by (record { partition = r.partition; sequence = r.sequence }) (listed_write r.partition (record { sequence = r.sequence; seen = done.0 })) held.2.partition
+      done.1.0 refl done.1.1)
+
+  reply_noted : (m : ℕ) (o : Outcome) → IsSafeWorld v → Steps w (event.Reply m) v (Ok o) → ((x : Working) → Has notes.jobs x → IsAtWork v x)
+      → Holds ranges v (took_noted o notes)
+  reply_noted m o later (cost, due, h) jobs = by_reply (reply_at w m) h
+    where
+      stays : Holds ranges v notes
+      stays = stays_but_jobs ranges w v notes notes.jobs goes k jobs
+
+      by_stand : (b : Bool) (p : Partition) (q : Sequence) → (b ≡ true → WasCommitted ranges v (record { partition = p; sequence = q }))
+          → Holds ranges v (record notes { committed = cond b (record { partition = p; sequence = q } ∷ notes.committed) notes.committed })
+      by_stand false p q committed = stays
+      by_stand true p q committed =
+          stays_and_more ranges v notes (record { partition = p; sequence = q } ∷ []) stays
+          (λ s has. ⊎_elim (λ same. subst (WasCommitted ranges v) same (committed refl)) (λ none. absurd none) has)
+
+      by_taken : (b : Bool) (reply : Reply) (n : ServerNode) → slice_get v.servers reply.number.instance.0 ≡ Some n → (r : Option Consumer)
+          → replica_of n.server.table reply.partition reply.sequence ≡ r → Holds ranges v (took_noted (took b reply r) notes)
+      by_taken false reply n at r found = stays
+      by_taken true reply n at None found = stays
+      by_taken true reply n at (Some r) found =
+          by_stand (knows_commit (state_of r.phase)) reply.partition reply.sequence (λ knows. told_done n reply.number.instance reply.partition reply.sequence r later at found knows)
+
+      by_server : (reply : Reply) (n : Option ServerNode) → slice_get w.servers reply.number.instance.0 ≡ n
+          → ServerDoesAt n w reply.number.instance (λ old new outcome. (outcome, new) ≡ node_took old reply) cost (v, o) → Holds ranges v (took_noted o notes)
+      by_server reply None at h = absurd h
+      by_server reply (Some old) at (new, step, is) =
+          let there : slice_get v.servers reply.number.instance.0 ≡ Some new =
+          ap (λ (z : State). slice_get z.servers reply.number.instance.0) is ∙ own_slot w.servers reply.number.instance.0 old new at in
+          let x = replied_in old.server.table reply in
+          let table : new.server.table ≡ x.1 = ap (λ (z : Outcome × ServerNode). z.1.server.table) step in
+          let found : replica_of new.server.table reply.partition reply.sequence ≡ replica_of x.1 reply.partition reply.sequence =
+          ap (λ t. replica_of t reply.partition reply.sequence) table in
+          subst (λ (z : Outcome). Holds ranges v (took_noted z notes)) (sym (ap (λ (z : Outcome × ServerNode). z.0) step))
+          (by_taken x.0 reply new there (replica_of x.1 reply.partition reply.sequence) found)
+
+      by_reply : (r : Option Reply) → RepliesAt r w cost (v, o) → Holds ranges v (took_noted o notes)
+      by_reply None h = absurd h
+      by_reply (Some reply) h = by_server reply (slice_get w.servers reply.number.instance.0) refl h
 
   -- ---- a node that is shown
 
@@ -429,6 +529,9 @@ module _ (ranges : Ranges) (w v : State) (notes : Notes) (safe : IsSafeWorld w) 
   noted (event.Deliver m c) o fits steps =
       deliver_noted m c o steps (λ x has. job_stays w v x (event.Deliver m c) o safe goes fits steps refl (λ e. cc) (k.jobs x has))
   noted (event.Job c j) o fits steps = job_noted c j fits o steps
+  noted (event.Reply m) o fits steps =
+      reply_noted m o (leads_safe w (happens (event.Reply m) o ∷ []) v safe (v, (fits, steps), refl)) steps
+      (λ x has. job_stays w v x (event.Reply m) o safe goes fits steps refl (λ e. cc) (k.jobs x has))
   noted (event.CrashController c) o fits steps = crash_noted c o steps
   noted (event.ShowMeta p q) o fits steps =
       show_noted p q o steps (λ x has. job_stays w v x (event.ShowMeta p q) o safe goes fits steps refl (λ e. cc) (k.jobs x has))

@@ -1,37 +1,54 @@
 -- A step of a commit job, and a delivery that opens one, in the notes.
-use Rattle.std.proofs.Common.{◌≡◌, ℕ, List, Option, Some, None, Ok, refl, sym, ◌∙◌, ap, subst, slice_get, slice_set, length, arith}
-use Rattle.std.proofs.lemmas.Option.{same_Some}
+use Rattle.std.proofs.Common.{◌≡◌, ◌<◌, ℕ, Bool, true, false, List, Option, Some, None, Ok, refl, sym, ◌∙◌, ap, subst, slice_get, slice_set, length, arith}
+use Rattle.std.proofs.lemmas.Bool.{false≢true}
+use Rattle.std.proofs.lemmas.Option.{none-some, same_Some}
 use Rattle.rt_base.specs.declared.numbers.ControllerId.{ControllerId}
+use Rattle.rt_base.specs.declared.numbers.Moment.{Moment}
 use Rattle.rt_base.specs.declared.numbers.Offset.{Offset}
 use Rattle.rt_base.specs.declared.numbers.Partition.{Partition}
 use Rattle.rt_base.specs.declared.numbers.Sequence.{Sequence}
+use Rattle.rt_commit.proofs.Replying.{replies_first}
+use Rattle.rt_commit.specs.Calls.{Answer}
+use Rattle.rt_commit.specs.IsJob.{IsAt, IsSetDone}
 use Rattle.rt_commit.specs.Job.{commits}
-use Rattle.rt_commit.specs.Lasting.{commit_end}
-use Rattle.rt_commit.specs.Laws.{steps_left}
+use Rattle.rt_commit.specs.Lasting.{IsJobOver, commit_end}
+use Rattle.rt_commit.specs.Laws.{IsNamedBy, IsTrying, steps_left}
 use Rattle.rt_commit.specs.Right.{EndsSo, MetFault, StatusSo}
 use Rattle.rt_commit.specs.declared.job.Job.{Job}
+use Rattle.rt_commit.specs.declared.job.JobStage.{JobStage}
+use Rattle.rt_commit.specs.declared.job.JobStage.TheVariants as stage
+use Rattle.rt_commit.specs.declared.stepped.Stepped.{Stepped}
+use Rattle.rt_commit.specs.declared.work.Work.TheVariants as work
 use Rattle.rt_controller.proofs.CallsOver.{works_over}
 use Rattle.rt_controller.specs.Controller.{Controlling}
-use Rattle.rt_controller.specs.Right.{LeavesJob, WorksOver, job_of}
+use Rattle.rt_controller.specs.Lasting.{IsControllerOver}
+use Rattle.rt_controller.specs.Right.{LeavesJob, WorksOver, job_at, job_of}
 use Rattle.rt_controller.specs.Steps.{Works}
+use Rattle.rt_controller.specs.Working.{Working, job_place, settled, with_stage, work as work_of, work_call}
 use Rattle.rt_deep.specs.Meaning.{Told as ToldDeep}
 use Rattle.rt_deep.specs.Memory.{means as deep_means}
 use Rattle.rt_events.specs.declared.event.Event.TheVariants as event
 use Rattle.rt_events.specs.declared.outcome.Outcome.{Outcome}
 use Rattle.rt_events.specs.declared.outcome.Outcome.TheVariants as came
+use Rattle.rt_lists.proofs.Lists.{All-found}
 use Rattle.rt_lists.specs.Members.{Has}
 use Rattle.rt_model.specs.Messages.{asked_of}
 use Rattle.rt_model.specs.Metadata.{IsDone, listed_write, node_key}
 use Rattle.rt_model.specs.declared.asked.Asked.{Asked}
 use Rattle.rt_model.specs.declared.job_step.JobStep.{JobStep}
+use Rattle.rt_model.specs.declared.job_step.StepName.{StepName}
+use Rattle.rt_model.specs.declared.job_step.StepName.TheVariants as name
 use Rattle.rt_model.specs.declared.node.Seen.{Seen}
 use Rattle.rt_model.specs.declared.reply.Reply.{Reply}
+use Rattle.rt_model.specs.declared.reply.ReplyStatus.{ReplyStatus}
 use Rattle.rt_model.specs.declared.reply.ReplyStatus.TheVariants as status
 use Rattle.rt_model.specs.declared.request.Request.{Request}
 use Rattle.rt_model.specs.declared.seg_meta.SeenMeta.{SeenMeta}
+use Rattle.rt_model.specs.declared.setup.Setup.{Setup}
 use Rattle.rt_nodes.specs.declared.controller_node.ControllerNode.{ControllerNode}
 use Rattle.rt_safety.proofs.JobsOn.{own_slot}
-use Rattle.rt_safety.proofs.SuccessEnds.{success_ends}
+use Rattle.rt_play.specs.Ledger.{is_done_step}
+use Rattle.rt_safety.proofs.SuccessEnds.{answer_made, step_of, success_ends}
 use Rattle.rt_safety.specs.CommitRun.{IsOpen, job_in, open_job}
 use Rattle.rt_state.specs.IsSafe.{past_of}
 use Rattle.rt_state.specs.IsSafeWorld.{IsSafeWorld}
@@ -42,6 +59,7 @@ use Rattle.rt_state.specs.declared.state.State.{State}
 use Rattle.rt_store.specs.Meaning.{Told}
 use Rattle.rt_store.specs.Memory.{means}
 use Rattle.rt_world.specs.Step.{Steps}
+use Rattle.rt_past.specs.Past.{Past, with_history}
 use Rattle.rt_past.specs.Segments.{WasDone}
 use Rattle.rt_znodes.specs.Znodes.{end_by, end_in}
 
@@ -91,6 +109,59 @@ own_step w v c j o (cost, due, h) = by_node (slice_get w.controllers c.0) refl h
           written = ap (λ (x : State × Outcome). x.0.store) is ∙ leaves.written;
         }
 
+-- ---- a step by its name
+
+-- the step has the name of the job's stage
+settled_step : (c : Controlling) (place : ℕ) (a : Asked) (commit : Bool) (did : Stepped) (o : Option ReplyStatus) → (settled c place a commit did o).step.step ≡ did.step
+settled_step c place a commit did None = refl
+settled_step c place a commit did (Some s) = refl
+
+named_step : (c : Controlling) (n : ℕ) (now : Moment) (answer : Answer) (w : Working) (job : Job) → job_of c n ≡ Some job → IsTrying job.stage → work_of c n now answer ≡ Some w
+    → IsNamedBy job.stage w.step.step
+named_step c n now answer w job there trying made =
+    let s = step_of c n now answer w made in
+    let own : s.job ≡ job = same_Some s.job job (sym (ap (job_at c.jobs) s.found ∙ s.there) ∙ there) in
+    let named = (replies_first s.job.asked now s.job.stage answer s.x (subst (λ (k : Job). IsTrying k.stage) (sym own) trying) s.made).0 in
+    let same = settled_step (with_stage c s.place s.job s.x.stage) s.place s.job.asked (commits s.job.stage) s.x.did s.x.did.status in
+    subst (IsNamedBy job.stage) (sym (ap (λ (v : Working). v.step.step) s.same ∙ same)) (subst (λ (k : Job). IsNamedBy k.stage s.x.did.step) own named)
+
+no_done : (n m : StepName) → n ≡ m → is_done_step m ≡ false → is_done_step n ≡ true → ⊥
+no_done n m same other is = false≢true (sym other ∙ ap is_done_step (sym same) ∙ is)
+
+-- a job that makes its step `done` has 22 steps left
+left_at_done : (from : JobStage) (n : StepName) → IsNamedBy from n → is_done_step n ≡ true → steps_left from ≡ 22
+left_at_done (stage.Check from end path) n same is = absurd (no_done n name.Check same refl is)
+left_at_done (stage.Done from commit) n same is = refl
+left_at_done (stage.Next done) n same is = absurd (no_done n name.Next same refl is)
+left_at_done (stage.IdealRead w found) n same is = absurd (no_done n name.IdealRead same refl is)
+left_at_done (stage.IdealSet w found ideal) n same is = absurd (no_done n name.IdealSet same refl is)
+left_at_done stage.Ended n same is = absurd same
+
+-- a job with fewer left that commits up to an offset has made its segment Done
+record HasSet (h : List Seen) (a : Asked) (end : Offset) : Type 0 where
+  write : Seen
+  set : IsSetDone h a.partition a.sequence write
+  ends : end_in write.node ≡ end
+
+past_done : (h : List Seen) (a : Asked) (s : JobStage) (end : Offset) → IsAt h a s → steps_left s < 22 → commit_end s ≡ Some end → HasSet h a end
+past_done h a (stage.Check from last path) end at few ends = let no : ⊥ = omega (arith, few) in absurd no
+past_done h a (stage.Done from commit) end at few ends = let no : ⊥ = omega (arith, few) in absurd no
+past_done h a (stage.Next done) end at few ends = record { write = done; set = at; ends = same_Some (end_in done.node) end ends }
+past_done h a (stage.IdealRead (work.Commit done) found) end at few ends = record { write = done; set = at.done; ends = same_Some (end_in done.node) end ends }
+past_done h a (stage.IdealRead work.Offline found) end at few ends = absurd (none-some end ends)
+past_done h a (stage.IdealSet (work.Commit done) found ideal) end at few ends =
+    record { write = done; set = at.work.done; ends = same_Some (end_in done.node) end ends }
+past_done h a (stage.IdealSet work.Offline found ideal) end at few ends = absurd (none-some end ends)
+past_done h a stage.Ended end at few ends = absurd at
+
+-- a job of a controller lasts with it
+job_over : (setup : Setup) (past : Past) (c : Controlling) (n : ℕ) (job : Job) → IsControllerOver setup past c → job_of c n ≡ Some job → IsJobOver setup past job
+job_over setup past c n job over there = by_place (job_place c.jobs n) there
+  where
+    by_place : (o : Option ℕ) → job_at c.jobs o ≡ Some job → IsJobOver setup past job
+    by_place None at = absurd (none-some job at)
+    by_place (Some place) at = All-found (IsJobOver setup past) c.jobs place job over.jobs at
+
 -- ---- the job that is stepped
 
 -- a segment is DONE up to an offset
@@ -136,6 +207,27 @@ module _ (w v : State) (c : ControllerId) (j : ℕ) (o : Outcome) (safe : IsSafe
 
   abbrev Was : SeenMeta → Asked → Type 0
   Was seen a = WasDone k.store.writes a.partition a.sequence seen
+
+  -- behind its step `done` it has committed
+  pub sets_done : k.did.reply ≡ None → is_done_step k.did.step ≡ true → IsDoneTo v request.partition request.sequence request.offset
+  sets_done none is =
+      let l = subst (λ (r : Option Reply). LeavesJob over.job r (job_of k.new j)) none over.leaves in
+      let made = answer_made (means w.store) (means k.store) (deep_means w.deep) (deep_means k.deep) (work_call k.node.controller j w.moment)
+      (λ answer. work_of k.node.controller j w.moment answer ≡ Some (record { controller = k.new; step = k.did })) k.works in
+      let before = job_over w.setup (past_of w) k.node.controller j over.job (safe.safe.controllers c.0 k.node k.at).over over.open_job in
+      let named = named_step k.node.controller j w.moment made.0 (record { controller = k.new; step = k.did }) over.job over.open_job before.trying made.1 in
+      let after = job_over w.setup (with_history (past_of w) k.store.writes) k.new j l.0 over.over l.1 in
+      let ends : commit_end l.0.stage ≡ Some request.offset = l.4 ∙ ap (λ (x : Job). commit_end x.stage) same_job ∙ works.ends_at in
+      let few : steps_left l.0.stage < 22 = omega (arith, l.5, left_at_done over.job.stage k.did.step named is) in
+      let set = past_done k.store.writes l.0.asked l.0.stage request.offset after.job.at few ends in
+      let asked : l.0.asked ≡ asked_of request = l.3 ∙ its_asked in
+      record {
+        write = set.write;
+        has = subst (λ (t : Told). Has t.writes set.write) (sym k.written) set.set.has;
+        of = set.set.of ∙ ap (λ (a : Asked). node_key a.partition a.sequence.0) asked;
+        done = set.set.done;
+        ends = set.ends;
+      }
 
   -- with COMMIT_SUCCESS it has committed
   pub succeeds : (reply : Reply) (seen : SeenMeta) → k.did.reply ≡ Some reply → reply.status ≡ status.CommitSuccess seen

@@ -1,6 +1,6 @@
 -- What the report of a script tells of commits, by the script and the report alone: what was committed stays, and an answer that misses
 -- nothing of a partition goes without a gap through all of it.
-use Rattle.std.specs.Prelude.{◌≡◌, ◌<◌, ◌≤◌, ◌⊎◌, ◌==◌, ◌&&◌, not, ℕ, Bool, true, false, List, [], ◌∷◌, ◌++◌, map, Option, None, Some, if◌then◌else◌}
+use Rattle.std.specs.Prelude.{◌≡◌, ◌<◌, ◌≤◌, ◌⊎◌, ◌==◌, ◌&&◌, ◌||◌, not, is_none, ℕ, Bool, true, false, List, [], ◌∷◌, ◌++◌, map, Option, None, Some, if◌then◌else◌}
 use Rattle.std.specs.List.{filter}
 use Rattle.rt_base.specs.declared.numbers.ControllerId.{ControllerId}
 use Rattle.rt_base.specs.declared.numbers.Offset.{Offset}
@@ -8,16 +8,21 @@ use Rattle.rt_base.specs.declared.numbers.Partition.{Partition}
 use Rattle.rt_base.specs.declared.numbers.Sequence.{Sequence}
 use Rattle.rt_base.specs.declared.range.Range.{Range}
 use Rattle.rt_events.specs.declared.event.Event.{Event}
+use Rattle.rt_events.specs.declared.event.Event.TheVariants as event
 use Rattle.rt_events.specs.declared.event.Event.TheVariants.{Consume, CrashController, Deliver, Job, Report, ShowMeta}
 use Rattle.rt_events.specs.declared.outcome.Outcome.{Outcome}
-use Rattle.rt_events.specs.declared.outcome.Outcome.TheVariants.{Answered, Sent, Shown, Started, Stepped}
+use Rattle.rt_events.specs.declared.outcome.Outcome.TheVariants.{Answered, Sent, Shown, Started, Stepped, Took}
 use Rattle.rt_lines.specs.Header.{NumberedLine}
 use Rattle.rt_lists.specs.Members.{Has}
 use Rattle.rt_model.specs.declared.answer.Answer.{Answer}
 use Rattle.rt_model.specs.declared.job_step.JobStep.{JobStep}
+use Rattle.rt_model.specs.declared.job_step.StepName.{StepName}
+use Rattle.rt_model.specs.declared.job_step.StepName.TheVariants as name
 use Rattle.rt_model.specs.declared.node.Node.{Node}
 use Rattle.rt_model.specs.declared.node.Node.TheVariants as node
 use Rattle.rt_model.specs.declared.node.Seen.{Seen}
+use Rattle.rt_model.specs.declared.replica_state.ReplicaState.{ReplicaState}
+use Rattle.rt_model.specs.declared.replica_state.ReplicaState.TheVariants as state
 use Rattle.rt_model.specs.declared.reply.Reply.{Reply}
 use Rattle.rt_model.specs.declared.reply.ReplyStatus.{ReplyStatus}
 use Rattle.rt_model.specs.declared.reply.ReplyStatus.TheVariants.{CommitSuccess}
@@ -97,9 +102,16 @@ abbrev pub is_success : Option Reply → Bool
 is_success None = false
 is_success (Some reply) = is_success_status reply.status
 
--- a COMMIT_SUCCESS tells that the job has committed its segment
+abbrev pub is_done_step : StepName → Bool
+is_done_step name.Check = false
+is_done_step name.Done = true
+is_done_step name.Next = false
+is_done_step name.IdealRead = false
+is_done_step name.IdealSet = false
+
+-- that a job has committed its segment a COMMIT_SUCCESS tells, and a step `done` behind which it goes on
 abbrev pub tells_commit : JobStep → Bool
-tells_commit done = is_success done.reply
+tells_commit done = is_success done.reply || (is_done_step done.step && is_none done.reply)
 
 -- the segments of these jobs that have the number
 abbrev pub segments_of : ControllerId → ℕ → List Working → List Segment
@@ -133,6 +145,26 @@ stepped_noted controller job (Stepped done message) notes =
     }
 stepped_noted controller job other notes = notes
 
+-- where a replica stands that was told of its segment's commit
+abbrev pub knows_commit : ReplicaState → Bool
+knows_commit state.InitialConsuming = false
+knows_commit state.CatchingUp = false
+knows_commit state.Holding = false
+knows_commit state.ConsumingToOnline = true
+knows_commit state.Retaining = true
+knows_commit state.Retained = true
+knows_commit state.Committing = false
+knows_commit state.Committed = true
+knows_commit state.Discarded = false
+
+abbrev pub took_noted : Outcome → Notes → Notes
+took_noted (Took instance partition sequence stands) notes =
+    record notes {
+      committed =
+          if knows_commit stands then record { partition = partition; sequence = sequence } ∷ notes.committed else notes.committed;
+    }
+took_noted other notes = notes
+
 abbrev pub is_done_status : Status → Bool
 is_done_status InProgress = false
 is_done_status (Done commit) = true
@@ -156,12 +188,13 @@ shown_noted partition sequence (Shown seen) notes =
     }
 shown_noted partition sequence other notes = notes
 
--- a `report` line tells a commitEnd, a `deliver` line a job that it opened, a `job` line its steps, and a `show meta` line a node. A controller
--- that crashes loses its jobs
+-- a `report` line tells a commitEnd, a `deliver` line a job that it opened, a `job` line its steps, a `reply` line where the replica then
+-- stands, and a `show meta` line a node. A controller that crashes loses its jobs
 abbrev pub event_noted : Event → Outcome → Notes → Notes
 event_noted (Report instance partition sequence) outcome notes = sent_noted partition sequence outcome notes
 event_noted (Deliver message controller) outcome notes = started_noted message controller outcome notes
 event_noted (Job controller job) outcome notes = stepped_noted controller job outcome notes
+event_noted (event.Reply message) outcome notes = took_noted outcome notes
 event_noted (CrashController controller) outcome notes =
     record notes { jobs = filter (λ w. not (w.controller.0 == controller.0)) notes.jobs }
 event_noted (ShowMeta partition sequence) outcome notes = shown_noted partition sequence outcome notes
