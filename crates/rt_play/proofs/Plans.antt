@@ -6,6 +6,7 @@ use Rattle.rt_base.specs.declared.numbers.Offset.{Offset}
 use Rattle.rt_base.specs.declared.numbers.Partition.{Partition}
 use Rattle.rt_base.specs.declared.range.Range.{Range}
 use Rattle.rt_lists.specs.Members.{Has}
+use Rattle.rt_model.proofs.Tilings.{ends_value, open_value}
 use Rattle.rt_model.specs.Chain.{InOrder, IsLife, IsLinked, deletions_of, start_by, start_in}
 use Rattle.rt_model.specs.History.{last_of, value_by, value_in, value_of}
 use Rattle.rt_model.specs.Metadata.{Ends, Follows, IsEndFrom, IsInProgress, IsOpen, StartsAfter, life_of, listed_by, listed_in, metadata_below, metadata_of, node_key, sequences_of}
@@ -62,15 +63,6 @@ lead_chain a b (l ∷ xs) ys (start, t) u = (start, by_status l.seen.meta.status
     by_status Abandoned further h = further a h
 
 -- ---- what is listed of one life
-
-open_value : (n : Node) (w : Seen) → IsOpen n → value_by n w ≡ Some w
-open_value (node.Meta m) w o = refl
-open_value _ w o = absurd o
-
-ends_value : (c n : Node) (w : Seen) → Ends c n → value_by n w ≡ Some w
-ends_value (node.Meta c) (node.Meta m) w o = refl
-ends_value (node.Meta c) _ w o = absurd o
-ends_value _ _ w o = absurd o
 
 status_leads : (s : Status) (start first next : Offset) → start ≡ first → IsEndFrom start s → StartsAfter s start next → LeadBy s first.0 (λ x. next.0 ≡ x)
 status_leads InProgress start first next same e f = absurd e

@@ -1,5 +1,5 @@
 -- The range with which a segment was committed, and where it stands: among the committed ranges of its partition, or below the mark.
-use Rattle.std.proofs.Common.{◌≡◌, ◌<◌, ◌≤◌, ◌⊎◌, inl, inr, ℕ, zero, suc, List, [], ◌∷◌, ◌++◌, Option, Some, None, refl, sym, ◌∙◌, ap, subst, arith, ⊎_elim}
+use Rattle.std.proofs.Common.{◌≡◌, ◌<◌, ◌≤◌, ◌⊎◌, inl, inr, ℕ, List, [], ◌∷◌, ◌++◌, Option, Some, None, refl, sym, ◌∙◌, ap, subst, arith, ⊎_elim}
 use Rattle.std.specs.List.{cons_option}
 use Rattle.std.proofs.lemmas.Bool.{cases_lt}
 use Rattle.std.proofs.lemmas.Option.{none-some, same_Some}
@@ -7,7 +7,7 @@ use Rattle.rt_base.specs.declared.numbers.Offset.{Offset}
 use Rattle.rt_base.specs.declared.numbers.Partition.{Partition}
 use Rattle.rt_base.specs.declared.numbers.Sequence.{Sequence}
 use Rattle.rt_base.specs.declared.range.Range.{Range}
-use Rattle.rt_lists.proofs.Members.{Has-append_cases, Has-append_left, Has-append_right, Has-same}
+use Rattle.rt_lists.proofs.Members.{Has-append_cases, Has-same}
 use Rattle.rt_lists.specs.Members.{Has}
 use Rattle.rt_model.proofs.Histories.{Has-writes_of, writes_of-Has}
 use Rattle.rt_model.proofs.Lawful.{has_chains, has_endings, has_tiles}
@@ -16,7 +16,7 @@ use Rattle.rt_model.specs.Chain.{IsPastStart}
 use Rattle.rt_model.specs.Lawful.{IsLawfulHistory}
 use Rattle.rt_model.specs.Metadata.{IsDone, IsDoneStatus, IsEndFrom, IsFinal, IsFinalStatus, life_of, node_key, sequences_of}
 use Rattle.rt_model.specs.Starting.{Starting}
-use Rattle.rt_model.specs.Tiled.{Tiles, committed_of, done_range, done_ranges_below, done_ranges_in, done_ranges_of, mark_of, range_by}
+use Rattle.rt_model.specs.Tiled.{Tiles, committed_of, done_range, done_ranges_in, done_ranges_of, mark_of, range_by}
 use Rattle.rt_model.specs.declared.node.Node.{Node}
 use Rattle.rt_model.specs.declared.node.Node.TheVariants as node
 use Rattle.rt_model.specs.declared.node.Seen.{Seen}
@@ -24,6 +24,7 @@ use Rattle.rt_model.specs.declared.seg_meta.SegMeta.{SegMeta}
 use Rattle.rt_model.specs.declared.status.Status.{Status}
 use Rattle.rt_model.specs.declared.status.Status.TheVariants.{Abandoned, Done, InProgress}
 use Rattle.rt_play.specs.Ledger.{IsDoneOver, Ranges, SaysDone}
+use Rattle.rt_safety.proofs.Committed.{among_all}
 
 -- ---- a node that says DONE
 
@@ -142,16 +143,6 @@ among (v ∷ ws) w r (inr has) e = behind (done_range v.node) (among ws w r has 
     behind : (o : Option Range) → Has (done_ranges_in ws) r → Has (cons_option o (done_ranges_in ws)) r
     behind None k = k
     behind (Some x) k = inr k
-
-among_all : (h : List Seen) (p : Partition) (n s : ℕ) (r : Range) → s < n → Has (done_ranges_in (life_of h p s)) r → Has (done_ranges_below h p n) r
-among_all h p zero s r lt has = absurd (omega (arith, lt))
-among_all h p (suc n) s r lt has = by_order (λ k. among_all h p n s r k has) (cases_lt s n)
-  where
-    by_order : (s < n → Has (done_ranges_below h p n) r) → (s < n) ⊎ (n ≤ s) → Has (done_ranges_below h p (suc n)) r
-    by_order further (inl k) = Has-append_left (done_ranges_below h p n) (done_ranges_in (life_of h p n)) r (further k)
-    by_order further (inr k) =
-        let last : s ≡ n = omega (arith, lt, k) in
-        Has-append_right (done_ranges_below h p n) (done_ranges_in (life_of h p n)) r (subst (λ m. Has (done_ranges_in (life_of h p m)) r) last has)
 
 ends_before : (from to : ℕ) (rs : List Range) (r : Range) → Tiles from rs to → Has rs r → r.end.0 ≤ to
 ends_before from to [] r t has = absurd has
