@@ -1,5 +1,6 @@
 pub mod Asked
 pub mod Asking
+pub mod Discards
 pub mod Less
 pub mod LessRounds
 pub mod LessWorld

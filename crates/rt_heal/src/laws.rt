@@ -14,7 +14,7 @@ ghost use Rattle.rt_macros.specs.Settling.{Round, Settles};
 ghost use Rattle.rt_model.specs.Checked.{IsQuery};
 ghost use Rattle.rt_model.specs.Entries.{entries_of};
 ghost use Rattle.rt_model.specs.Ideal.{mode_of};
-ghost use Rattle.rt_model.specs.Metadata.{metadata_of, sequences_of, IsInProgress};
+ghost use Rattle.rt_model.specs.Metadata.{metadata_of, sequences_of, BecameFinal, IsInProgress};
 ghost use Rattle.rt_model.specs.Plan.{plan_of};
 ghost use Rattle.rt_model.specs.Setup.{IsSetup};
 ghost use Rattle.rt_model.specs.declared.answer.Answer.{Answer};
@@ -22,6 +22,9 @@ ghost use Rattle.rt_model.specs.declared.ideal_state.Mode.TheVariants.{Consuming
 ghost use Rattle.rt_model.specs.declared.node.Listed.{Listed};
 ghost use Rattle.rt_model.specs.declared.piece.Piece.{Piece};
 ghost use Rattle.rt_model.specs.declared.query.Query.{Query};
+ghost use Rattle.rt_model.specs.declared.reply.Reply.{Reply};
+ghost use Rattle.rt_model.specs.declared.reply.ReplyStatus.TheVariants.{Discard};
+ghost use Rattle.rt_model.specs.declared.sent.Sent.TheVariants as sent;
 ghost use Rattle.rt_model.specs.declared.setup.Setup.{Setup};
 ghost use Rattle.rt_past.specs.IsPast.{IsPast};
 ghost use Rattle.rt_past.specs.Past.{Past};
@@ -80,6 +83,14 @@ pub fn committed_segments_are_turned_online()
     ensures goes_on { (from : State) (turns : List Turn) (to : State) → IsSafeWorld from → IsTurned from → Leads from turns to → IsTurned to }
     ensures online { (w : State) (p : Partition) → IsSafeWorld w → IsTurned w → p.0 < w.setup.partitions → GoesOn w.store.writes p
         → NoneHalfRetired w.store.writes p → AreOnline w.store.writes p }
+{}
+
+/// Each DISCARD of a run is told of a segment that has ended, by a commit or given up: no replica of a segment in progress drops its
+/// rows by such an answer.
+#[tactic(auto, using(crate::proofs::Discards::discards_end))]
+pub fn a_discard_is_told_of_a_segment_that_ended()
+    ensures { (setup : Setup) (turns : List Turn) (w : State) (r : Reply) → IsSetup setup → Runs setup turns w
+        → Has w.sent (sent.Reply r) → r.status ≡ Discard → BecameFinal w.store.writes r.partition r.sequence.0 }
 {}
 
 /// At rest each piece of a partition's plan is served whole by a replica, the committed ones from their start to their end and the

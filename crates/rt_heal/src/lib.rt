@@ -5,9 +5,9 @@
 mod laws;
 
 pub use laws::{
-    a_batch_and_a_build_leave_less_to_do, a_partition_without_need_of_repair_goes_on,
-    a_quiet_round_leaves_all_at_rest, at_rest_a_query_is_answered_whole,
-    at_rest_an_answer_is_whole, at_rest_each_instance_has_what_is_asked,
-    at_rest_each_piece_is_served_whole, committed_segments_are_turned_online,
-    settle_ends_where_no_replica_asks,
+    a_batch_and_a_build_leave_less_to_do, a_discard_is_told_of_a_segment_that_ended,
+    a_partition_without_need_of_repair_goes_on, a_quiet_round_leaves_all_at_rest,
+    at_rest_a_query_is_answered_whole, at_rest_an_answer_is_whole,
+    at_rest_each_instance_has_what_is_asked, at_rest_each_piece_is_served_whole,
+    committed_segments_are_turned_online, settle_ends_where_no_replica_asks,
 };
