@@ -34,6 +34,7 @@ use Rattle.rt_server.specs.Transition.{moved_if, transit_due, transited}
 use Rattle.rt_store.specs.Meaning.{Meaning}
 use Rattle.rt_store.specs.declared.refused.StoreRefused.{StoreRefused}
 use Rattle.rt_store.specs.declared.refused.StoreRefused.TheVariants as store
+use Rattle.rt_nodes.proofs.Standing.{not_refused}
 use Rattle.rt_nodes.specs.Refused.{IsFailure}
 use Rattle.rt_nodes.specs.Servers.{FindsItsFile}
 
@@ -41,18 +42,6 @@ use Rattle.rt_nodes.specs.Servers.{FindsItsFile}
 abbrev Fails : {X : Type 0} → Result X ServerRefused → Type 0
 Fails (Ok x) = Unit {0}
 Fails (Err e) = IsFailure e
-
-abbrev answer : (X : Type 0) → X → Result X ServerRefused
-answer X x = Ok x
-
-abbrev refuse : (X : Type 0) → ServerRefused → Result X ServerRefused
-refuse X e = Err e
-
-not_refused : (X : Type 0) (e : ServerRefused) (x : X) → refuse X e ≡ answer X x → ⊥
-not_refused X e x h = cc
-
-same_refusal : (X : Type 0) (a b : ServerRefused) → refuse X a ≡ refuse X b → a ≡ b
-same_refusal X a b e = cc
 
 -- so does a call that comes to it
 comes_fails : {S X : Type 0} (step : Step S X) (old new : S) (e : ServerRefused) → Fails step → Comes step old new (Err e) → IsFailure e

@@ -1,7 +1,9 @@
 pub mod Failures
+pub mod Looks
 pub mod Resting
 pub mod SeenReplicas
 pub mod Standing
 pub mod Starting
 pub mod Taking
+pub mod Unchanged
 pub mod Upkeeping

@@ -1,5 +1,6 @@
 -- The replicas of a server are seen one after the other.
-use Rattle.std.proofs.Common.{◌≡◌, ◌+◌, ◌<◌, ◌++◌, ℕ, suc, List, ◌∷◌, length, drop, drop-cons, get_or, append_assoc, add-one, sym, ap, ◌∙◌}
+use Rattle.std.proofs.Common.{◌≡◌, ◌+◌, ◌<◌, ◌≤◌, ◌++◌, ℕ, suc, List, ◌∷◌, length, length-append, take, drop, drop-cons, get_or, append_assoc, add-one, arith, refl, sym, ap, ◌∙◌}
+use Rattle.std.proofs.lemmas.List.{take-append-le, take_at}
 use Rattle.rt_base.specs.declared.numbers.Instance.{Instance}
 use Rattle.rt_pause.specs.declared.replica_seen.ReplicaSeen.{ReplicaSeen}
 use Rattle.rt_server.specs.Table.{Segment, Segments, replica_of}
@@ -16,3 +17,11 @@ one_seen i t seen next total ss k d within so_far added =
     ap (λ (r : List ReplicaSeen). r ++ rest) added ∙ append_assoc seen (seen_as i x (replica_of t x.0 x.1)) rest
     ∙ ap (λ (xs : List Segment). seen ++ seen_among i t (x ∷ xs)) tail
     ∙ ap (λ (xs : List Segment). seen ++ seen_among i t xs) (sym (drop-cons ss k d within)) ∙ so_far
+
+pub still_longer : (first seen next more : List ReplicaSeen) → length first ≤ length seen → next ≡ seen ++ more → length first ≤ length next
+still_longer first seen next more longer added = omega (arith, longer, ap (λ (xs : List ReplicaSeen). length xs) added, length-append seen more)
+
+-- what stood there first is what is left of as many
+pub earlier_kept : (first seen rest all : List ReplicaSeen) → length first ≤ length seen → seen ++ rest ≡ first ++ all → take (length first) seen ≡ first
+earlier_kept first seen rest all longer so_far =
+    sym (take-append-le (length first) seen rest longer) ∙ ap (take (length first)) so_far ∙ take_at first all (length first) refl

@@ -49,13 +49,13 @@ put_stands t p q r next found =
 
 -- ---- through the server
 
-abbrev answer : (X : Type 0) → X → Result X ServerRefused
+abbrev pub answer : (X : Type 0) → X → Result X ServerRefused
 answer X x = Ok x
 
-abbrev refuse : (X : Type 0) → ServerRefused → Result X ServerRefused
+abbrev pub refuse : (X : Type 0) → ServerRefused → Result X ServerRefused
 refuse X e = Err e
 
-not_refused : (X : Type 0) (e : ServerRefused) (x : X) → refuse X e ≡ answer X x → ⊥
+pub not_refused : (X : Type 0) (e : ServerRefused) (x : X) → refuse X e ≡ answer X x → ⊥
 not_refused X e x h = cc
 
 same_refusal : (X : Type 0) (a b : ServerRefused) → refuse X a ≡ refuse X b → a ≡ b

@@ -1,5 +1,5 @@
 -- The nodes that there are at first.
-use Rattle.std.specs.Prelude.{◌+◌, ◌++◌, ◌∷◌, [], ◌==◌, if◌then◌else◌, ℕ, zero, suc, true, List, replicate, None}
+use Rattle.std.specs.Prelude.{◌++◌, ◌∷◌, [], ◌==◌, if◌then◌else◌, ℕ, zero, suc, true, List, replicate, None}
 use Rattle.rt_controller.specs.Controller.{Controlling, beginning, believing}
 use Rattle.rt_model.specs.declared.setup.Setup.{Setup}
 use Rattle.rt_server.specs.Fresh.{fresh}

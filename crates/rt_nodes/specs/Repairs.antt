@@ -1,7 +1,9 @@
 -- What is under way for a partition at a controller: its repair, and its retirement.
-use Rattle.std.specs.Prelude.{◌≡◌, if◌then◌else◌, slice_get, slice_set, List, Option, Some, None, unwrap_or, Ok}
+use Rattle.std.specs.Prelude.{◌≡◌, if◌then◌else◌, slice_get, slice_set, List, Option, Some, None, IsNone, IsSome, unwrap_or, Ok}
 use Rattle.rt_base.specs.declared.numbers.Moment.{Moment}
 use Rattle.rt_base.specs.declared.numbers.Partition.{Partition}
+use Rattle.rt_events.specs.declared.outcome.Outcome.{Outcome}
+use Rattle.rt_events.specs.declared.outcome.Outcome.TheVariants as told
 use Rattle.rt_model.specs.declared.setup.Setup.{Setup}
 use Rattle.rt_repair.specs.RepairSteps.{Steps as RepairSteps}
 use Rattle.rt_repair.specs.IsRepair.{IsRepair}
@@ -17,6 +19,8 @@ use Rattle.rt_repair.specs.declared.repair_step.RepairStep.{RepairStep}
 use Rattle.rt_repair.specs.declared.retiring.RetireStep.{RetireStep}
 use Rattle.rt_store.specs.Meaning.{Told}
 use Rattle.rt_store.specs.Memory.{means}
+use Rattle.rt_nodes.specs.declared.chore.Chore.{Chore}
+use Rattle.rt_nodes.specs.declared.chore.Chore.TheVariants.{Repair, Retire}
 use Rattle.rt_nodes.specs.declared.controller_node.ControllerNode.{ControllerNode}
 use Rattle.rt_nodes.specs.declared.upkeep.Upkeep.{Upkeep}
 
@@ -40,28 +44,26 @@ retiring setup p (Some r) = r
 abbrev pub retiring_on : Retirement → Option Retirement
 retiring_on r = if retire_is_ended r.stage then None else Some r
 
-abbrev pub UpkeepRetires : Setup → Partition → Told → Told → Moment → Upkeep → Upkeep → RetireStep → Type 0
-UpkeepRetires setup p before after now old new did =
+abbrev pub UpkeepRetires : Setup → Partition → Moment → Told → Told → Upkeep → Upkeep → RetireStep → Type 0
+UpkeepRetires setup p now before after old new did =
     (r : Retirement) × RetireSteps {E = Unit {0}} (means before) (means after) (retiring setup p old.retirement) now r (Ok did)
     × (new ≡ record old { retirement = retiring_on r })
 
-abbrev pub NodeRepairsAt : Option Upkeep → Setup → Partition → Moment → Told → Told → ControllerNode → ControllerNode → RepairStep → Type 0
-NodeRepairsAt None setup p now before after old new did = ⊥
-NodeRepairsAt (Some u) setup p now before after old new did =
-    (v : Upkeep) × UpkeepRepairs setup p now before after u v did × (new ≡ record old { upkeep = slice_set old.upkeep p.0 v })
+-- the next step of what is done for a partition, and what it tells
+abbrev pub UpkeepSteps : Chore → Setup → Partition → Moment → Told → Told → Upkeep → Upkeep → Outcome → Type 0
+UpkeepSteps Repair setup p now before after old new outcome =
+    (did : RepairStep) × UpkeepRepairs setup p now before after old new did × (outcome ≡ told.Repaired did)
+UpkeepSteps Retire setup p now before after old new outcome =
+    (did : RetireStep) × UpkeepRetires setup p now before after old new did × (outcome ≡ told.Retired did)
 
--- a controller's step of the repair of a partition
-abbrev pub NodeRepairs : Setup → Partition → Moment → Told → Told → ControllerNode → ControllerNode → RepairStep → Type 0
-NodeRepairs setup p now before after old new did = NodeRepairsAt (slice_get old.upkeep p.0) setup p now before after old new did
+abbrev pub NodeKeepsAt : Option Upkeep → Chore → Setup → Partition → Moment → Told → Told → ControllerNode → ControllerNode → Outcome → Type 0
+NodeKeepsAt None chore setup p now before after old new outcome = ⊥
+NodeKeepsAt (Some u) chore setup p now before after old new outcome =
+    (v : Upkeep) × UpkeepSteps chore setup p now before after u v outcome × (new ≡ record old { upkeep = slice_set old.upkeep p.0 v })
 
-abbrev pub NodeRetiresAt : Option Upkeep → Setup → Partition → Moment → Told → Told → ControllerNode → ControllerNode → RetireStep → Type 0
-NodeRetiresAt None setup p now before after old new did = ⊥
-NodeRetiresAt (Some u) setup p now before after old new did =
-    (v : Upkeep) × UpkeepRetires setup p before after now u v did × (new ≡ record old { upkeep = slice_set old.upkeep p.0 v })
-
--- and one of its retirement
-abbrev pub NodeRetires : Setup → Partition → Moment → Told → Told → ControllerNode → ControllerNode → RetireStep → Type 0
-NodeRetires setup p now before after old new did = NodeRetiresAt (slice_get old.upkeep p.0) setup p now before after old new did
+-- a controller's step of what it does for a partition
+abbrev pub NodeKeeps : Chore → Setup → Partition → Moment → Told → Told → ControllerNode → ControllerNode → Outcome → Type 0
+NodeKeeps chore setup p now before after old new outcome = NodeKeepsAt (slice_get old.upkeep p.0) chore setup p now before after old new outcome
 
 -- what is to step is ready, and hasn't ended
 abbrev pub IsReadyRepair : List Seen → Repairing → Type 0
@@ -69,3 +71,8 @@ IsReadyRepair seen r = repair_unended r.stage × ((s : Starting) × IsRepair s s
 
 abbrev pub IsReadyRetirement : List Seen → Retirement → Type 0
 IsReadyRetirement seen r = retire_unended r.stage × ((s : Starting) × IsRetire s seen r)
+
+-- a retirement begins only where a retention is set
+abbrev pub IsReadyFor : Chore → Setup → List Seen → Partition → Upkeep → Type 0
+IsReadyFor Repair setup seen p u = IsReadyRepair seen (begun setup p u.repair)
+IsReadyFor Retire setup seen p u = (IsNone u.retirement → IsSome setup.retention) × IsReadyRetirement seen (retiring setup p u.retirement)

@@ -4,6 +4,7 @@
 //! came of it. Each call has its `due` above, where all nodes stand: here it is there and has something to do.
 #![tactic(auto)]
 
+mod chore;
 mod controller_node;
 mod fresh;
 mod lives;
@@ -17,6 +18,7 @@ mod server_node;
 mod servers;
 mod upkeep;
 
+pub use chore::Chore;
 pub use controller_node::ControllerNode;
 pub use fresh::{first_controllers, first_servers};
 pub use queries::{note_answer, piece_outcome, route_query};

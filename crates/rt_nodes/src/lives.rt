@@ -1,5 +1,5 @@
 //! Nodes crash, and are up again.
-ghost use Rattle.std.specs.Prelude.{◌≡◌, IfOk};
+ghost use Rattle.std.specs.Prelude.{◌≡◌, IfOk, OnErr};
 ghost use Rattle.rt_nodes.specs.Lives.{node_crashed, controller_crashed, controller_restarted, NodeRestarts};
 
 use crate::servers::failed;
@@ -17,10 +17,12 @@ impl ServerNode {
         self.up = false;
     }
 
-    /// Bumps the server's boot node. Where the store fails the server stays down. Fails only where memory is refused.
-    #[tactic(auto, using(crate::proofs::Failures::restarts_fail))]
+    /// Bumps the server's boot node. Where the store fails the server stays down. Fails only where memory is refused, with
+    /// nothing done.
+    #[tactic(auto, using(crate::proofs::Failures::restarts_fail, crate::proofs::Unchanged::restarts_whole))]
     pub fn restart(&mut self, alloc: Global, store: &mut MemoryStore) -> Result<Outcome, AllocError>
-        ensures { IfOk result (NodeRestarts store.old store.new self.old self.new) }
+        ensures ok { IfOk result (NodeRestarts store.old store.new self.old self.new) }
+        ensures err { OnErr result ((self.new ≡ self.old) × (store.new ≡ store.old)) }
     {
         match self.server.restart(alloc, store) {
             Ok(version) => {

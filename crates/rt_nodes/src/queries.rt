@@ -1,5 +1,5 @@
 //! What the broker and the servers do for a query.
-ghost use Rattle.std.specs.Prelude.{◌≡◌, ◌<◌, ◌≤◌, false, length, IfOk, IfSome, OnOk, Ok};
+ghost use Rattle.std.specs.Prelude.{◌≡◌, ◌<◌, ◌≤◌, false, length, IfOk, IfSome, OnOk, OnErr, Ok};
 ghost use Rattle.rt_model.specs.Checked.{IsQuery};
 ghost use Rattle.rt_broker.specs.Asking.{is_tried};
 ghost use Rattle.rt_broker.specs.Noting.{FitsPiece, IsNoteDue, Notes};
@@ -32,7 +32,9 @@ impl ServerNode {
     }
 }
 
-/// Lists the metadata of a partition, and notes its plan, unless the store fails. Fails only where memory is refused.
+/// Lists the metadata of a partition, and notes its plan, unless the store fails. Fails only where memory is refused, with
+/// nothing done.
+#[tactic(auto, using(crate::proofs::Unchanged::routes_out))]
 pub fn route_query(
     asked: &mut Asked,
     alloc: Global,
@@ -41,7 +43,8 @@ pub fn route_query(
 ) -> Result<Outcome, AllocError>
     requires there { partition.0 < length asked.old.routes }
     requires due { is_tried asked.old partition ≡ false }
-    ensures { IfOk result (QueryRoutes partition store.old store.new asked.old asked.new) }
+    ensures ok { IfOk result (QueryRoutes partition store.old store.new asked.old asked.new) }
+    ensures err { OnErr result ((asked.new ≡ asked.old) × (store.new ≡ store.old)) }
 {
     match asked.route(alloc, partition, store) {
         Ok(pieces) => Ok(Outcome::Routed(pieces)),
@@ -51,7 +54,7 @@ pub fn route_query(
     }
 }
 
-/// Notes what a server gave for a piece. Fails only where memory is refused.
+/// Notes what a server gave for a piece. Fails only where memory is refused; nothing is noted then.
 pub fn note_answer(
     asked: &mut Asked,
     piece: Piece,
@@ -60,7 +63,8 @@ pub fn note_answer(
 ) -> Result<(), AllocError>
     requires fits { FitsPiece piece got }
     requires due { IsNoteDue asked.old piece from }
-    ensures { OnOk result (Notes asked.old piece from got asked.new (Ok tt)) }
+    ensures ok { OnOk result (Notes asked.old piece from got asked.new (Ok tt)) }
+    ensures err { OnErr result (asked.new ≡ asked.old) }
 {
     match asked.note_piece(piece, from, got) {
         Ok(()) => Ok(()),

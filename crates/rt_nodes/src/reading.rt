@@ -1,5 +1,5 @@
 //! What is told of a node.
-ghost use Rattle.std.specs.Prelude.{◌≡◌, ◌≤◌, ◌++◌, IfOk, IfSome, OnOk, Some, option_map};
+ghost use Rattle.std.specs.Prelude.{◌≡◌, ◌≤◌, ◌++◌, IfOk, IfSome, OnOk, OnErr, Some, option_map};
 ghost use Rattle.std.specs.List.{prefix_len};
 ghost use Rattle.rt_server.specs.Table.{replica_of};
 ghost use Rattle.rt_nodes.specs.Reading.{leads, rows_of_node, seen_of, seen_as, replica_up, rests_up, stage_of, file_bytes, file_in};
@@ -38,21 +38,29 @@ impl ServerNode {
         }
     }
 
-    /// Adds the replicas of a server that is up.
+    /// Adds the replicas of a server that is up; where memory is refused, none.
     pub fn add_replicas(
         &self,
         alloc: Global,
         instance: Instance,
         seen: &mut Items<ReplicaSeen>,
     ) -> Result<(), AllocError>
-        ensures { OnOk result (seen.new ≡ seen.old ++ seen_of instance self.now) }
+        ensures ok { OnOk result (seen.new ≡ seen.old ++ seen_of instance self.now) }
+        ensures err { OnErr result (seen.new ≡ seen.old) }
     {
         if !self.up {
             return Ok(());
         }
         let held = self.server.held(alloc)?;
+        let before = seen.len();
         for segment in held.as_slice() {
-            self.add_replica(instance, *segment, seen)?;
+            match self.add_replica(instance, *segment, seen) {
+                Ok(()) => {}
+                Err(refused) => {
+                    seen.truncate(before);
+                    return Err(refused);
+                }
+            }
         }
         Ok(())
     }
@@ -64,7 +72,8 @@ impl ServerNode {
         segment: (Partition, Sequence),
         seen: &mut Items<ReplicaSeen>,
     ) -> Result<(), AllocError>
-        ensures { OnOk result (seen.new ≡ seen.old ++ seen_as instance segment (replica_of self.now.server.table segment.0 segment.1)) }
+        ensures ok { OnOk result (seen.new ≡ seen.old ++ seen_as instance segment (replica_of self.now.server.table segment.0 segment.1)) }
+        ensures err { OnErr result (seen.new ≡ seen.old) }
     {
         let (partition, sequence) = segment;
         match self.server.replica(partition, sequence) {

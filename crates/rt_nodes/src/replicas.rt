@@ -1,5 +1,5 @@
 //! The calls of a replica, at its server.
-ghost use Rattle.std.specs.Prelude.{◌≡◌, true, Some, IsSome, IfOk};
+ghost use Rattle.std.specs.Prelude.{◌≡◌, true, Some, IsSome, IfOk, OnErr};
 ghost use Rattle.rt_entry.specs.declared.refused.ServerRefused.TheVariants.{Memory};
 ghost use Rattle.rt_server.specs.Logs.{HasMessages};
 ghost use Rattle.rt_server.specs.Table.{replica_of};
@@ -15,8 +15,9 @@ use rt_stream::StreamLog;
 use std::alloc::{AllocError, Global};
 
 impl ServerNode {
-    /// A replica that takes messages takes a batch of at most `max` of them. Fails only where memory is refused.
-    #[tactic(auto, using(crate::proofs::Standing::takes_refused, crate::proofs::Standing::takes_stands))]
+    /// A replica that takes messages takes a batch of at most `max` of them. Fails only where memory is refused; the node
+    /// is then as it was.
+    #[tactic(auto, using(crate::proofs::Standing::takes_refused, crate::proofs::Standing::takes_stands, crate::proofs::Looks::takes_looks, crate::proofs::Unchanged::takes_whole))]
     pub fn consume(
         &mut self,
         alloc: Global,
@@ -28,7 +29,8 @@ impl ServerNode {
     ) -> Result<Outcome, AllocError>
         requires messages { HasMessages log.old self.old.server.table partition sequence }
         requires due { passes (takes_now max) (replica_of self.old.server.table partition sequence) ≡ true }
-        ensures { IfOk result (NodeConsumes partition sequence max now log.old log.new self.old self.new) }
+        ensures ok { IfOk result (NodeConsumes partition sequence max now log.old log.new self.old self.new) }
+        ensures err { OnErr result ((self.new ≡ self.old) × (log.new ≡ log.old)) }
     {
         let taken = self
             .server
@@ -44,11 +46,12 @@ impl ServerNode {
         })
     }
 
-    /// A replica's consuming is ended. Fails only where memory is refused.
-    #[tactic(auto, using(crate::proofs::Standing::forces_refused, crate::proofs::Standing::forces_stands))]
+    /// A replica's consuming is ended. Fails only where memory is refused; the node is then as it was.
+    #[tactic(auto, using(crate::proofs::Standing::forces_refused, crate::proofs::Standing::forces_stands, crate::proofs::Unchanged::forces_whole))]
     pub fn force(&mut self, partition: Partition, sequence: Sequence) -> Result<Outcome, AllocError>
         requires { passes forces_now (replica_of self.old.server.table partition sequence) ≡ true }
-        ensures { IfOk result (NodeForces partition sequence self.old self.new) }
+        ensures ok { IfOk result (NodeForces partition sequence self.old self.new) }
+        ensures err { OnErr result (self.new ≡ self.old) }
     {
         if let Err(refused) = self.server.force(partition, sequence) {
             return Err(out_of_memory(refused));
@@ -56,11 +59,12 @@ impl ServerNode {
         Ok(Outcome::Stands(self.replica(partition, sequence).state()))
     }
 
-    /// A replica drops its rows. Fails only where memory is refused.
-    #[tactic(auto, using(crate::proofs::Standing::stops_refused, crate::proofs::Standing::stops_stands))]
+    /// A replica drops its rows. Fails only where memory is refused; the node is then as it was.
+    #[tactic(auto, using(crate::proofs::Standing::stops_refused, crate::proofs::Standing::stops_stands, crate::proofs::Unchanged::stops_whole))]
     pub fn stop(&mut self, partition: Partition, sequence: Sequence) -> Result<Outcome, AllocError>
         requires { passes stops_now (replica_of self.old.server.table partition sequence) ≡ true }
-        ensures { IfOk result (NodeStops partition sequence self.old self.new) }
+        ensures ok { IfOk result (NodeStops partition sequence self.old self.new) }
+        ensures err { OnErr result (self.new ≡ self.old) }
     {
         if let Err(refused) = self.server.stop(partition, sequence) {
             return Err(out_of_memory(refused));
@@ -68,8 +72,8 @@ impl ServerNode {
         Ok(Outcome::Stands(self.replica(partition, sequence).state()))
     }
 
-    /// A replica seals its rows. Fails only where memory is refused.
-    #[tactic(auto, using(crate::proofs::Standing::seals_refused, crate::proofs::Standing::seals_stands))]
+    /// A replica seals its rows. Fails only where memory is refused; the node is then as it was.
+    #[tactic(auto, using(crate::proofs::Standing::seals_refused, crate::proofs::Standing::seals_stands, crate::proofs::Unchanged::seals_whole))]
     pub fn build(
         &mut self,
         alloc: Global,
@@ -77,7 +81,8 @@ impl ServerNode {
         sequence: Sequence,
     ) -> Result<Outcome, AllocError>
         requires { passes builds_now (replica_of self.old.server.table partition sequence) ≡ true }
-        ensures { IfOk result (NodeBuilds partition sequence self.old self.new) }
+        ensures ok { IfOk result (NodeBuilds partition sequence self.old self.new) }
+        ensures err { OnErr result (self.new ≡ self.old) }
     {
         if let Err(refused) = self.server.build(alloc, partition, sequence) {
             return Err(out_of_memory(refused));

@@ -1,13 +1,18 @@
-ghost use Rattle.std.specs.Prelude.{◌≡◌, ◌<◌, ◌≤◌, IfOk, OnOk, IsNone, IsSome, Some, None};
+ghost use Rattle.std.specs.Prelude.{◌≡◌, ◌<◌, ◌≤◌, IfOk, OnErr, IsNone, IsSome, Some, None, unwrap_or};
 ghost use Rattle.rt_base.specs.declared.limits.TheConstants.{LAST_MOMENT};
 ghost use Rattle.rt_model.specs.Setup.{IsSetup};
-ghost use Rattle.rt_nodes.specs.Repairs.{begun, going_on, retiring, retiring_on, IsReadyRepair, IsReadyRetirement, UpkeepRepairs, UpkeepRetires};
+ghost use Rattle.rt_repair.specs.Repairing.{Repairing, beginning as repair_beginning};
+ghost use Rattle.rt_repair.specs.Retirement.{Retirement, beginning as retire_beginning};
+ghost use Rattle.rt_nodes.specs.Repairs.{begun, going_on, retiring, retiring_on, IsReadyFor, IsReadyRepair, IsReadyRetirement, UpkeepRepairs, UpkeepRetires, UpkeepSteps};
 
+use crate::Chore;
 use rt_base::{Moment, Partition};
+use rt_events::Outcome;
 use rt_model::Setup;
 use rt_repair::{Repair, RepairStep, Retire, RetireStep};
 use rt_store::MemoryStore;
 use std::alloc::{AllocError, Global};
+use std::mem;
 
 /// What a controller has under way for a partition. It goes on across a crash of the controller.
 #[derive(Drop)]
@@ -17,43 +22,38 @@ pub struct Upkeep {
 }
 
 impl Upkeep {
-    /// The repair that is under way, or one that begins.
-    fn begun(
+    /// The next step of a chore, which begins where none is under way, and what came of it. Where memory is refused,
+    /// nothing is done.
+    pub(crate) fn step(
         &mut self,
         alloc: Global,
+        chore: Chore,
         partition: Partition,
         setup: &Setup,
-    ) -> Result<Repair, AllocError>
-        requires { IsSetup setup.now }
-        ensures repair { IfOk result (λ repair. repair ≡ begun setup.now partition self.old.repair) }
-        ensures rest { OnOk result (self.new ≡ record self.old { repair = None }) }
-    {
-        match self.repair.take() {
-            Some(repair) => Ok(repair),
-            None => Repair::begin(alloc, partition, setup),
-        }
-    }
-
-    /// The retirement that is under way, or one that begins.
-    fn retiring(
-        &mut self,
-        alloc: Global,
-        partition: Partition,
-        setup: &Setup,
-    ) -> Result<Retire, AllocError>
+        now: Moment,
+        store: &mut MemoryStore,
+    ) -> Result<Outcome, AllocError>
+        requires setup { IsSetup setup.now }
         requires within { partition.0 < setup.now.partitions }
-        requires kept { IsNone self.old.retirement → IsSome setup.now.retention }
-        ensures retirement { IfOk result (λ retirement. retirement ≡ retiring setup.now partition self.old.retirement) }
-        ensures rest { OnOk result (self.new ≡ record self.old { retirement = None }) }
+        requires moment { now.0 ≤ LAST_MOMENT }
+        requires ready { IsReadyFor chore setup.now store.old.writes partition self.old }
+        ensures ok { IfOk result (UpkeepSteps chore setup.now partition now store.old store.new self.old self.new) }
+        ensures err { OnErr result ((self.new ≡ self.old) × (store.new ≡ store.old)) }
     {
-        match self.retirement.take() {
-            Some(retirement) => Ok(retirement),
-            None => Retire::begin(alloc, partition, setup),
+        match chore {
+            Chore::Repair => {
+                let did = self.step_repair(alloc, partition, setup, now, store)?;
+                Ok(Outcome::Repaired(did))
+            }
+            Chore::Retire => {
+                let did = self.step_retirement(alloc, partition, setup, now, store)?;
+                Ok(Outcome::Retired(did))
+            }
         }
     }
 
     /// The next step of the repair, which begins where none is under way.
-    pub(crate) fn step_repair(
+    fn step_repair(
         &mut self,
         alloc: Global,
         partition: Partition,
@@ -64,23 +64,55 @@ impl Upkeep {
         requires setup { IsSetup setup.now }
         requires moment { now.0 ≤ LAST_MOMENT }
         requires ready { IsReadyRepair store.old.writes (begun setup.now partition self.old.repair) }
-        ensures { IfOk result (UpkeepRepairs setup.now partition now store.old store.new self.old self.new) }
+        ensures ok { IfOk result (UpkeepRepairs setup.now partition now store.old store.new self.old self.new) }
+        ensures err { OnErr result ((self.new ≡ self.old) × (store.new ≡ store.old)) }
     {
-        let mut repair = self.begun(alloc, partition, setup)?;
+        let Some(repair) = &mut self.repair else {
+            return self.begin_repair(alloc, partition, setup, now, store);
+        };
         let did = repair.step(alloc, now, store)?;
-        self.keep_repair(repair);
+        self.end_repair();
         Ok(did)
     }
 
-    /// Keeps a repair under way, unless it has ended.
-    fn keep_repair(&mut self, repair: Repair)
-        ensures { self.new ≡ record self.old { repair = going_on repair } }
+    /// The first step of a repair.
+    fn begin_repair(
+        &mut self,
+        alloc: Global,
+        partition: Partition,
+        setup: &Setup,
+        now: Moment,
+        store: &mut MemoryStore,
+    ) -> Result<RepairStep, AllocError>
+        requires none { self.old.repair ≡ None }
+        requires setup { IsSetup setup.now }
+        requires moment { now.0 ≤ LAST_MOMENT }
+        requires ready { IsReadyRepair store.old.writes (repair_beginning partition setup.now) }
+        ensures ok { IfOk result (UpkeepRepairs setup.now partition now store.old store.new self.old self.new) }
+        ensures err { OnErr result ((self.new ≡ self.old) × (store.new ≡ store.old)) }
     {
-        self.repair = unended_repair(repair);
+        let mut repair = Repair::begin(alloc, partition, setup)?;
+        let did = repair.step(alloc, now, store)?;
+        drop(mem::replace(&mut self.repair, Some(repair)));
+        self.end_repair();
+        Ok(did)
+    }
+
+    /// Lets a repair go that has ended.
+    fn end_repair(&mut self)
+        requires { IsSome self.old.repair }
+        ensures { (r : Repairing) → self.old.repair ≡ Some r → self.new ≡ record self.old { repair = going_on r } }
+    {
+        let Some(repair) = &self.repair else {
+            unreachable!()
+        };
+        if repair.ended() {
+            drop(self.repair.take());
+        }
     }
 
     /// The next step of the retirement, which begins where none is under way.
-    pub(crate) fn step_retirement(
+    fn step_retirement(
         &mut self,
         alloc: Global,
         partition: Partition,
@@ -91,36 +123,50 @@ impl Upkeep {
         requires within { partition.0 < setup.now.partitions }
         requires kept { IsNone self.old.retirement → IsSome setup.now.retention }
         requires ready { IsReadyRetirement store.old.writes (retiring setup.now partition self.old.retirement) }
-        ensures { IfOk result (UpkeepRetires setup.now partition store.old store.new now self.old self.new) }
+        ensures ok { IfOk result (UpkeepRetires setup.now partition now store.old store.new self.old self.new) }
+        ensures err { OnErr result ((self.new ≡ self.old) × (store.new ≡ store.old)) }
     {
-        let mut retirement = self.retiring(alloc, partition, setup)?;
+        let Some(retirement) = &mut self.retirement else {
+            return self.begin_retirement(alloc, partition, setup, now, store);
+        };
         let did = retirement.step(alloc, now, store)?;
-        self.keep_retirement(retirement);
+        self.end_retirement();
         Ok(did)
     }
 
-    /// Keeps a retirement under way, unless it has ended.
-    fn keep_retirement(&mut self, retirement: Retire)
-        ensures { self.new ≡ record self.old { retirement = retiring_on retirement } }
+    /// The first step of a retirement.
+    fn begin_retirement(
+        &mut self,
+        alloc: Global,
+        partition: Partition,
+        setup: &Setup,
+        now: Moment,
+        store: &mut MemoryStore,
+    ) -> Result<RetireStep, AllocError>
+        requires none { self.old.retirement ≡ None }
+        requires within { partition.0 < setup.now.partitions }
+        requires kept { IsSome setup.now.retention }
+        requires ready { IsReadyRetirement store.old.writes (retire_beginning partition (unwrap_or setup.now.retention 0)) }
+        ensures ok { IfOk result (UpkeepRetires setup.now partition now store.old store.new self.old self.new) }
+        ensures err { OnErr result ((self.new ≡ self.old) × (store.new ≡ store.old)) }
     {
-        self.retirement = unended_retirement(retirement);
+        let mut retirement = Retire::begin(alloc, partition, setup)?;
+        let did = retirement.step(alloc, now, store)?;
+        drop(mem::replace(&mut self.retirement, Some(retirement)));
+        self.end_retirement();
+        Ok(did)
     }
-}
 
-fn unended_repair(repair: Repair) -> Option<Repair>
-    ensures { result ≡ going_on repair }
-{
-    if repair.ended() {
-        return None;
+    /// Lets a retirement go that has ended.
+    fn end_retirement(&mut self)
+        requires { IsSome self.old.retirement }
+        ensures { (r : Retirement) → self.old.retirement ≡ Some r → self.new ≡ record self.old { retirement = retiring_on r } }
+    {
+        let Some(retirement) = &self.retirement else {
+            unreachable!()
+        };
+        if retirement.ended() {
+            drop(self.retirement.take());
+        }
     }
-    Some(repair)
-}
-
-fn unended_retirement(retirement: Retire) -> Option<Retire>
-    ensures { result ≡ retiring_on retirement }
-{
-    if retirement.ended() {
-        return None;
-    }
-    Some(retirement)
 }

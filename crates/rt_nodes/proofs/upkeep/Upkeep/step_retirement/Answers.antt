@@ -1,7 +1,8 @@
-use Rattle.rt_nodes.proofs.Upkeeping.{retirement_steps}
+use Rattle.std.proofs.Common.{Some, refl}
+use Rattle.rt_nodes.proofs.Upkeeping.{retirement_stepped}
 use Rattle.rt_nodes.proofs.upkeep.Upkeep.step_retirement.Goals as goal
 
-pub returns : goal.returns
-returns c =
-    retirement_steps c.args.setup.now c.args.partition c.args.now c.args.store.now c.step.new.store c.args.self.now c.retiring.new.self c.keep_retirement.new.self c.in_ok-did.did
-    c.in_ok-retirement.retirement c.step.new.self c.in_ok-retirement.ensures.retirement c.in_ok-retirement.ensures.rest c.in_ok-did.ensures.step c.keep_retirement.ensures
+pub returns-clause-ok : goal.returns-clause-ok
+returns-clause-ok c =
+    retirement_stepped c.args.setup.now c.args.partition c.args.now c.args.store.now c.step.new.store c.args.self.now c.end_retirement.new.self c.in_ok-did.did (Some c.in-Some.retirement)
+    c.in-Some.retirement c.step.new.self c.in-Some.is refl c.in_ok-did.ensures.step (c.end_retirement.ensures c.step.new.self refl)
