@@ -8,11 +8,8 @@ use Rattle.rt_controller.specs.declared.handled.Handled.{Handled}
 use Rattle.rt_deep.specs.Meaning.{Told as ToldDeep}
 use Rattle.rt_deep.specs.Memory.{means as deep_means}
 use Rattle.rt_events.specs.declared.outcome.Outcome.{Outcome}
-use Rattle.rt_events.specs.declared.outcome.Outcome.TheVariants as told
 use Rattle.rt_model.specs.declared.job_step.JobStep.{JobStep}
 use Rattle.rt_model.specs.declared.request.Request.{Request}
-use Rattle.rt_repair.specs.declared.repair_step.RepairStep.{RepairStep}
-use Rattle.rt_repair.specs.declared.retiring.RetireStep.{RetireStep}
 use Rattle.rt_store.specs.Meaning.{Told}
 use Rattle.rt_store.specs.Memory.{means}
 use Rattle.rt_state.proofs.NeedsNodes.{stepped_told}
@@ -20,7 +17,8 @@ use Rattle.rt_state.specs.Finding.{request_at}
 use Rattle.rt_state.specs.Jobs.{JobSteps, JobStepsAt, job_told, noted_set, stepped}
 use Rattle.rt_state.specs.Messages.{Delivers, DeliversAt, after_step, handed, tells}
 use Rattle.rt_state.specs.Nodes.{ControllerDoes, ControllerDoesAt, with_controller}
-use Rattle.rt_state.specs.Repairs.{NodeRepairs, NodeRepairsAt, NodeRetires, NodeRetiresAt, Repairs, RepairsAt, Retires, RetiresAt, upkeep_in}
+use Rattle.rt_nodes.specs.declared.chore.Chore.{Chore}
+use Rattle.rt_state.specs.Repairs.{Keeps, KeepsAt, NodeKeeps, NodeKeepsAt, upkeep_in}
 use Rattle.rt_state.specs.Room.{counted, spent, with_set}
 use Rattle.rt_nodes.specs.declared.controller_node.ControllerNode.{ControllerNode}
 use Rattle.rt_state.specs.declared.cost.Cost.{Cost}
@@ -75,43 +73,25 @@ job_delivered w mid s c j cost step outcome noted counts steps notes tells spend
     let same : stepped set cost step ≡ (counted s cost, outcome) = stepped_told set cost step ∙ ap (λ (x : State × Outcome). (counted x.0 cost, x.1)) (sym done) in
     subst (λ k. JobSteps w c j cost (record s { counts = k }, outcome)) (sym spends) (subst (λ x. JobSteps w c j cost x) same (steps cost))
 
--- ---- a repair, and a retirement
+-- ---- a chore
 
 -- the state after a controller's step that calls the store
 abbrev pub after_node : State → ControllerId → ControllerNode → Told → Cost → State
 after_node w c node store cost =
     counted (noted_set (record w { controllers = slice_set w.controllers c.0 node; store = store }) cost (length w.store.writes)) cost
 
-repairs_by : (w : State) (c : ControllerId) (p : Partition) (cost : Cost) (node new : ControllerNode) (store : Told) (did : RepairStep) (o : Option Upkeep)
-    → NodeRepairsAt o w.setup p w.moment w.store store node new did
-    → RepairsAt (Some node) o w c p cost (after_node w c new store cost, told.Repaired did)
-repairs_by w c p cost node new store did None h = absurd h
-repairs_by w c p cost node new store did (Some u) (v, k, e) =
-    (v, store, did, k, ap (λ (n : ControllerNode). (after_node w c n store cost, told.Repaired did)) e)
+keeps_by : (w : State) (c : ControllerId) (p : Partition) (chore : Chore) (cost : Cost) (node new : ControllerNode) (store : Told) (outcome : Outcome) (o : Option Upkeep)
+    → NodeKeepsAt o chore w.setup p w.moment w.store store node new outcome
+    → KeepsAt (Some node) o w c p chore cost (after_node w c new store cost, outcome)
+keeps_by w c p chore cost node new store outcome None h = absurd h
+keeps_by w c p chore cost node new store outcome (Some u) (v, k, e) = (v, store, k, ap (λ (n : ControllerNode). after_node w c n store cost) e)
 
-pub node_repaired : (w : State) (c : ControllerId) (p : Partition) (cost : Cost) (node new : ControllerNode) (store : Told) (did : RepairStep) (noted counts : Counts)
-    → slice_get w.controllers c.0 ≡ Some node → NodeRepairs w.setup p w.moment w.store store node new did
+pub node_kept : (w : State) (c : ControllerId) (p : Partition) (chore : Chore) (cost : Cost) (node new : ControllerNode) (store : Told) (outcome : Outcome) (noted counts : Counts)
+    → slice_get w.controllers c.0 ≡ Some node → NodeKeeps chore w.setup p w.moment w.store store node new outcome
     → noted ≡ with_set w.counts cost (length w.store.writes) (length store.writes) → counts ≡ spent noted cost
-    → Repairs w c p cost (record w { controllers = slice_set w.controllers c.0 new; store = store; counts = counts }, told.Repaired did)
-node_repaired w c p cost node new store did noted counts found h notes spends =
-    let by : Counts → Type 0 = λ k. Repairs w c p cost (record w { controllers = slice_set w.controllers c.0 new; store = store; counts = k }, told.Repaired did) in
+    → Keeps w c p chore cost (record w { controllers = slice_set w.controllers c.0 new; store = store; counts = counts }, outcome)
+node_kept w c p chore cost node new store outcome noted counts found h notes spends =
+    let by : Counts → Type 0 = λ k. Keeps w c p chore cost (record w { controllers = slice_set w.controllers c.0 new; store = store; counts = k }, outcome) in
     subst by (sym (spends ∙ ap (λ (k : Counts). spent k cost) notes))
-    (subst (λ o. RepairsAt o (upkeep_in o p) w c p cost (after_node w c new store cost, told.Repaired did)) (sym found)
-    (repairs_by w c p cost node new store did (slice_get node.upkeep p.0) h))
-
-retires_by : (w : State) (c : ControllerId) (p : Partition) (cost : Cost) (node new : ControllerNode) (store : Told) (did : RetireStep) (o : Option Upkeep)
-    → NodeRetiresAt o w.setup p w.moment w.store store node new did
-    → RetiresAt (Some node) o w c p cost (after_node w c new store cost, told.Retired did)
-retires_by w c p cost node new store did None h = absurd h
-retires_by w c p cost node new store did (Some u) (v, k, e) =
-    (v, store, did, k, ap (λ (n : ControllerNode). (after_node w c n store cost, told.Retired did)) e)
-
-pub node_retired : (w : State) (c : ControllerId) (p : Partition) (cost : Cost) (node new : ControllerNode) (store : Told) (did : RetireStep) (noted counts : Counts)
-    → slice_get w.controllers c.0 ≡ Some node → NodeRetires w.setup p w.moment w.store store node new did
-    → noted ≡ with_set w.counts cost (length w.store.writes) (length store.writes) → counts ≡ spent noted cost
-    → Retires w c p cost (record w { controllers = slice_set w.controllers c.0 new; store = store; counts = counts }, told.Retired did)
-node_retired w c p cost node new store did noted counts found h notes spends =
-    let by : Counts → Type 0 = λ k. Retires w c p cost (record w { controllers = slice_set w.controllers c.0 new; store = store; counts = k }, told.Retired did) in
-    subst by (sym (spends ∙ ap (λ (k : Counts). spent k cost) notes))
-    (subst (λ o. RetiresAt o (upkeep_in o p) w c p cost (after_node w c new store cost, told.Retired did)) (sym found)
-    (retires_by w c p cost node new store did (slice_get node.upkeep p.0) h))
+    (subst (λ o. KeepsAt o (upkeep_in o p) w c p chore cost (after_node w c new store cost, outcome)) (sym found)
+    (keeps_by w c p chore cost node new store outcome (slice_get node.upkeep p.0) h))

@@ -31,7 +31,9 @@ use Rattle.rt_repair.specs.Repairing.{IsUnended as repair_unended}
 use Rattle.rt_repair.specs.Retirement.{IsUnended as retire_unended}
 use Rattle.rt_state.specs.Lives.{crash_server_due, restart_server_due, restart_controller_due}
 use Rattle.rt_state.specs.Messages.{deliver_due, reply_by, reply_due}
-use Rattle.rt_state.specs.Repairs.{IsReadyRepair, IsReadyRetirement, begun, believes_at, find_upkeep, repair_by, repair_due, repair_in, retain_by, retain_due, retirement_in, retiring, upkeep_at, upkeep_in}
+use Rattle.rt_nodes.specs.declared.chore.Chore.{Chore}
+use Rattle.rt_nodes.specs.declared.chore.Chore.TheVariants.{Repair, Retire}
+use Rattle.rt_state.specs.Repairs.{IsReadyFor, IsReadyRepair, IsReadyRetirement, begun, believes_at, chore_by, chore_due, find_upkeep, repair_by, repair_in, retain_by, retirement_in, retiring, upkeep_at, upkeep_in}
 use Rattle.rt_state.specs.Room.{counted, message_cost, no_cost, priced, set_cost, time_cost}
 use Rattle.rt_state.specs.Stream.{produce_due}
 use Rattle.rt_nodes.specs.declared.controller_node.ControllerNode.{ControllerNode}
@@ -149,25 +151,6 @@ repair_spends : (w : State) (c : ControllerId) (r : Option Repairing) (cost : Co
 repair_spends w c None cost h = priced_spends w no_cost cost (only_passed (believes_at w c) NothingToDo (priced w no_cost) cost h).1
 repair_spends w c (Some r) cost h = priced_spends w (set_cost (set_entries r w.moment)) cost h
 
-pub repair_needs : (w : State) (c : ControllerId) (p : Partition) (cost : Cost) → IsSafeWorld w → repair_due w c p ≡ Ok cost
-    → (c.0 < length w.controllers) × IsSetup w.setup × (w.moment.0 ≤ LAST_MOMENT)
-    × ((n : ControllerNode) → slice_get w.controllers c.0 ≡ Some n → (p.0 < length n.upkeep)
-    × ((u : Upkeep) → slice_get n.upkeep p.0 ≡ Some u → IsReadyRepair w.store.writes (begun w.setup p u.repair)))
-    × Spends w cost
-repair_needs w c p cost s h =
-    let found = then_passed (find_upkeep w c p) (repair_by w c (repair_in (upkeep_at w c p))) cost h in
-    let there = upkeep_there w c p found.0 in (
-      there.controller,
-      s.safe.setup,
-      s.few.moment,
-      λ n at.
-          let node = node_at w c n s at in (
-            omega (arith, there.partition, node.partitions),
-            λ u stands. begun_ready w p u u.repair s there.partition refl (node.upkeep p.0 u stands),
-          ),
-      repair_spends w c (repair_in (upkeep_at w c p)) cost found.1,
-    )
-
 -- a retirement begins with the retention, where one is set
 pub retention_kept : (o : Option ℕ) → IsSome o → Some (unwrap_or o 0) ≡ o
 retention_kept None set = absurd (cc)
@@ -209,27 +192,38 @@ retirement_there : (w : State) (c : ControllerId) (p : Partition) (n : Controlle
     → slice_get w.controllers c.0 ≡ Some n → slice_get n.upkeep p.0 ≡ Some u → retirement_in (upkeep_at w c p) ≡ u.retirement
 retirement_there w c p n u found stands = ap (λ o. retirement_in (upkeep_in o p)) found ∙ ap (λ o. retirement_in o) stands
 
-pub retain_needs : (w : State) (c : ControllerId) (p : Partition) (cost : Cost) → IsSafeWorld w → retain_due w c p ≡ Ok cost
-    → (c.0 < length w.controllers) × (p.0 < w.setup.partitions)
+chore_ready : (w : State) (c : ControllerId) (p : Partition) (n : ControllerNode) (u : Upkeep) (chore : Chore) (cost : Cost) → IsSafeWorld w → p.0 < w.setup.partitions
+    → slice_get w.controllers c.0 ≡ Some n → slice_get n.upkeep p.0 ≡ Some u → IsUpkeepOver w.setup (past_of w) u
+    → chore_by chore w c (upkeep_at w c p) ≡ Ok cost → IsReadyFor chore w.setup w.store.writes p u
+chore_ready w c p n u Repair cost s within found stands k due = begun_ready w p u u.repair s within refl k
+chore_ready w c p n u Retire cost s within found stands k due =
+    let set : IsNone u.retirement → IsSome w.setup.retention =
+    λ none. retain_keeps w c (retirement_in (upkeep_at w c p)) cost due
+    (subst (λ o. IsNone o) (sym (retirement_there w c p n u found stands)) none)
+    in (set, retiring_ready w p u u.retirement s within set refl k)
+
+chore_spends : (w : State) (c : ControllerId) (u : Option Upkeep) (chore : Chore) (cost : Cost) → chore_by chore w c u ≡ Ok cost → Spends w cost
+chore_spends w c u Repair cost h = repair_spends w c (repair_in u) cost h
+chore_spends w c u Retire cost h = retain_spends w c (retirement_in u) cost h
+
+pub chore_needs : (w : State) (c : ControllerId) (p : Partition) (chore : Chore) (cost : Cost) → IsSafeWorld w → chore_due w c p chore ≡ Ok cost
+    → (c.0 < length w.controllers) × IsSetup w.setup × (p.0 < w.setup.partitions) × (w.moment.0 ≤ LAST_MOMENT)
     × ((n : ControllerNode) → slice_get w.controllers c.0 ≡ Some n → (p.0 < length n.upkeep)
-    × ((u : Upkeep) → slice_get n.upkeep p.0 ≡ Some u → (IsNone u.retirement → IsSome w.setup.retention)
-    × IsReadyRetirement w.store.writes (retiring w.setup p u.retirement)))
+    × ((u : Upkeep) → slice_get n.upkeep p.0 ≡ Some u → IsReadyFor chore w.setup w.store.writes p u))
     × Spends w cost
-retain_needs w c p cost s h =
-    let found = then_passed (find_upkeep w c p) (retain_by w c (retirement_in (upkeep_at w c p))) cost h in
+chore_needs w c p chore cost s h =
+    let found = then_passed (find_upkeep w c p) (chore_by chore w c (upkeep_at w c p)) cost h in
     let there = upkeep_there w c p found.0 in (
       there.controller,
+      s.safe.setup,
       there.partition,
+      s.few.moment,
       λ n at.
           let node = node_at w c n s at in (
             omega (arith, there.partition, node.partitions),
-            λ u stands.
-                let set : IsNone u.retirement → IsSome w.setup.retention =
-                λ none. retain_keeps w c (retirement_in (upkeep_at w c p)) cost found.1
-                (subst (λ o. IsNone o) (sym (retirement_there w c p n u at stands)) none)
-                in (set, retiring_ready w p u u.retirement s there.partition set refl (node.upkeep p.0 u stands)),
+            λ u stands. chore_ready w c p n u chore cost s there.partition at stands (node.upkeep p.0 u stands) found.1,
           ),
-      retain_spends w c (retirement_in (upkeep_at w c p)) cost found.1,
+      chore_spends w c (upkeep_at w c p) chore cost found.1,
     )
 
 -- ---- what a job's step tells

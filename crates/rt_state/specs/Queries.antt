@@ -1,5 +1,5 @@
 -- The broker's queries, piece by piece.
-use Rattle.std.specs.Prelude.{◌≡◌, ◌+◌, ◌++◌, ◌∷◌, [], ◌&&◌, not, ℕ, length, slice_get, slice_set, Option, Some, None, Result, Ok, Err, ◌≤◌, IfSome}
+use Rattle.std.specs.Prelude.{◌≡◌, ◌++◌, ◌∷◌, [], ◌&&◌, not, ℕ, length, slice_get, slice_set, Option, Some, None, Result, Ok, Err, ◌≤◌, IfSome}
 use Rattle.rt_base.specs.declared.numbers.Instance.{Instance}
 use Rattle.rt_base.specs.declared.numbers.Partition.{Partition}
 use Rattle.rt_base.specs.declared.numbers.Sequence.{Sequence}

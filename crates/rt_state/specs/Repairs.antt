@@ -5,19 +5,18 @@ use Rattle.rt_base.specs.declared.numbers.Partition.{Partition}
 use Rattle.rt_events.specs.declared.refusal.Refusal.TheVariants.{NoSuchNode, NodeDown, NothingToDo}
 use Rattle.rt_repair.specs.Repairing.{Repairing, set_entries}
 use Rattle.rt_repair.specs.Retirement.{Retirement, set_entries as retire_sets}
-use Rattle.rt_repair.specs.declared.repair_step.RepairStep.{RepairStep}
-use Rattle.rt_repair.specs.declared.retiring.RetireStep.{RetireStep}
 use Rattle.rt_store.specs.Meaning.{Told}
 use Rattle.rt_state.specs.Applying.{Next}
 use Rattle.rt_state.specs.Finding.{has_partition, has_controller, is_controller_up}
 use Rattle.rt_state.specs.Jobs.{noted_set}
 use Rattle.rt_state.specs.Room.{only_if, Found, Due, then_due, no_cost, set_cost, priced, counted}
+use Rattle.rt_nodes.specs.declared.chore.Chore.{Chore}
+use Rattle.rt_nodes.specs.declared.chore.Chore.TheVariants.{Repair, Retire}
 use Rattle.rt_nodes.specs.declared.controller_node.ControllerNode.{ControllerNode}
 use Rattle.rt_state.specs.declared.cost.Cost.{Cost}
 use Rattle.rt_state.specs.declared.state.State.{State}
 use Rattle.rt_nodes.specs.declared.upkeep.Upkeep.{Upkeep}
-use Rattle.rt_events.specs.declared.outcome.Outcome.TheVariants as told
-pub use Rattle.rt_nodes.specs.Repairs.{begun, going_on, UpkeepRepairs, retiring, retiring_on, UpkeepRetires, NodeRepairsAt, NodeRepairs, NodeRetiresAt, NodeRetires, IsReadyRepair, IsReadyRetirement}
+pub use Rattle.rt_nodes.specs.Repairs.{begun, going_on, UpkeepRepairs, retiring, retiring_on, UpkeepRetires, UpkeepSteps, NodeKeepsAt, NodeKeeps, IsReadyFor, IsReadyRepair, IsReadyRetirement}
 
 -- what a controller has under way for a partition
 abbrev pub upkeep_in : Option ControllerNode → Partition → Option Upkeep
@@ -50,7 +49,7 @@ after_upkeep w c p node upkeep store cost =
     }) cost (length w.store.writes))
     cost
 
--- ---- repair
+-- ---- when it can happen
 
 abbrev pub repair_by : State → ControllerId → Option Repairing → Due
 repair_by w c None = only_if (believes_at w c) NothingToDo (priced w no_cost)
@@ -59,21 +58,6 @@ repair_by w c (Some r) = priced w (set_cost (set_entries r w.moment))
 abbrev pub repair_in : Option Upkeep → Option Repairing
 repair_in None = None
 repair_in (Some u) = u.repair
-
-abbrev pub repair_due : State → ControllerId → Partition → Due
-repair_due w c p = then_due (find_upkeep w c p) (repair_by w c (repair_in (upkeep_at w c p)))
-
-abbrev pub RepairsAt : Option ControllerNode → Option Upkeep → State → ControllerId → Partition → Cost → Next → Type 0
-RepairsAt None u w c p cost x = ⊥
-RepairsAt (Some node) None w c p cost x = ⊥
-RepairsAt (Some node) (Some old) w c p cost x =
-    (new : Upkeep) × (store : Told) × (did : RepairStep) × UpkeepRepairs w.setup p w.moment w.store store old new did
-    × (x ≡ (after_upkeep w c p node new store cost, told.Repaired did))
-
-abbrev pub Repairs : State → ControllerId → Partition → Cost → Next → Type 0
-Repairs w c p cost x = RepairsAt (slice_get w.controllers c.0) (upkeep_at w c p) w c p cost x
-
--- ---- retain
 
 abbrev pub retain_by : State → ControllerId → Option Retirement → Due
 retain_by w c None =
@@ -84,15 +68,21 @@ abbrev pub retirement_in : Option Upkeep → Option Retirement
 retirement_in None = None
 retirement_in (Some u) = u.retirement
 
-abbrev pub retain_due : State → ControllerId → Partition → Due
-retain_due w c p = then_due (find_upkeep w c p) (retain_by w c (retirement_in (upkeep_at w c p)))
+abbrev pub chore_by : Chore → State → ControllerId → Option Upkeep → Due
+chore_by Repair w c u = repair_by w c (repair_in u)
+chore_by Retire w c u = retain_by w c (retirement_in u)
 
-abbrev pub RetiresAt : Option ControllerNode → Option Upkeep → State → ControllerId → Partition → Cost → Next → Type 0
-RetiresAt None u w c p cost x = ⊥
-RetiresAt (Some node) None w c p cost x = ⊥
-RetiresAt (Some node) (Some old) w c p cost x =
-    (new : Upkeep) × (store : Told) × (did : RetireStep) × UpkeepRetires w.setup p w.store store w.moment old new did
-    × (x ≡ (after_upkeep w c p node new store cost, told.Retired did))
+abbrev pub chore_due : State → ControllerId → Partition → Chore → Due
+chore_due w c p chore = then_due (find_upkeep w c p) (chore_by chore w c (upkeep_at w c p))
 
-abbrev pub Retires : State → ControllerId → Partition → Cost → Next → Type 0
-Retires w c p cost x = RetiresAt (slice_get w.controllers c.0) (upkeep_at w c p) w c p cost x
+-- ---- where it leads
+
+abbrev pub KeepsAt : Option ControllerNode → Option Upkeep → State → ControllerId → Partition → Chore → Cost → Next → Type 0
+KeepsAt None u w c p chore cost x = ⊥
+KeepsAt (Some node) None w c p chore cost x = ⊥
+KeepsAt (Some node) (Some old) w c p chore cost x =
+    (new : Upkeep) × (store : Told) × UpkeepSteps chore w.setup p w.moment w.store store old new x.1
+    × (x.0 ≡ after_upkeep w c p node new store cost)
+
+abbrev pub Keeps : State → ControllerId → Partition → Chore → Cost → Next → Type 0
+Keeps w c p chore cost x = KeepsAt (slice_get w.controllers c.0) (upkeep_at w c p) w c p chore cost x

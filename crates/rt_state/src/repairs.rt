@@ -1,11 +1,11 @@
 //! When a controller can do something for a partition on its own: the repair, and the retiring of old segments.
 ghost use Rattle.std.specs.Prelude.{◌≡◌, option_map};
-ghost use Rattle.rt_state.specs.Repairs.{repair_due, retain_due, upkeep_at, believes_at, find_upkeep, repair_in, retirement_in};
+ghost use Rattle.rt_state.specs.Repairs.{chore_due, repair_by, retain_by, upkeep_at, believes_at, find_upkeep, repair_in, retirement_in};
 
 use crate::{Cost, State};
 use rt_base::{ControllerId, Partition};
 use rt_events::Refusal;
-use rt_nodes::Upkeep;
+use rt_nodes::{Chore, Upkeep};
 use rt_repair::{Repair, Retire};
 
 impl State {
@@ -61,15 +61,26 @@ impl State {
         }
     }
 
-    /// What it costs that a controller makes the next step of a repair, or why that can't happen now. Takes no memory.
-    pub fn repair_due(
+    /// What it costs that a controller makes the next step of a chore of a partition, or why that can't happen now. Takes no
+    /// memory.
+    pub fn chore_due(
         &self,
         controller: ControllerId,
         partition: Partition,
+        chore: Chore,
     ) -> Result<Cost, Refusal>
-        ensures { result ≡ repair_due self.now controller partition }
+        ensures { result ≡ chore_due self.now controller partition chore }
     {
         self.find_upkeep(controller, partition)?;
+        match chore {
+            Chore::Repair => self.repair_due(controller, partition),
+            Chore::Retire => self.retain_due(controller, partition),
+        }
+    }
+
+    fn repair_due(&self, controller: ControllerId, partition: Partition) -> Result<Cost, Refusal>
+        ensures { result ≡ repair_by self.now controller (repair_in (upkeep_at self.now controller partition)) }
+    {
         match self.repair_of(controller, partition) {
             Some(repair) => self.price(Cost::of_set(repair.sets(self.moment))),
             None => {
@@ -81,15 +92,9 @@ impl State {
         }
     }
 
-    /// What it costs that a controller makes the next step of a retirement, or why that can't happen now. Takes no memory.
-    pub fn retain_due(
-        &self,
-        controller: ControllerId,
-        partition: Partition,
-    ) -> Result<Cost, Refusal>
-        ensures { result ≡ retain_due self.now controller partition }
+    fn retain_due(&self, controller: ControllerId, partition: Partition) -> Result<Cost, Refusal>
+        ensures { result ≡ retain_by self.now controller (retirement_in (upkeep_at self.now controller partition)) }
     {
-        self.find_upkeep(controller, partition)?;
         match self.retirement_of(controller, partition) {
             Some(retirement) => self.price(Cost::of_set(retirement.sets(self.moment))),
             None => {
