@@ -29,13 +29,13 @@ use Rattle.rt_state.specs.IsSafeWorld.{open_in, IsFewOver, IsFew, IsSafeWorld}
 use Rattle.rt_state.specs.Queries.{asked, routed_by, RoutesAt, Routes, PiecesOf, PiecesAt, Pieces, closed, AnswersAt, Answers}
 use Rattle.rt_state.specs.Room.{no_cost, query_cost, priced, spent, counted}
 use Rattle.rt_state.specs.declared.cost.Cost.{Cost}
+use Rattle.rt_nodes.proofs.Looks.{reads_look, unwritten}
 use Rattle.rt_nodes.specs.declared.server_node.ServerNode.{ServerNode}
 use Rattle.rt_state.specs.declared.state.State.{State}
 use Rattle.rt_world.proofs.Few.{GrowsFew, few_after, none_started}
 use Rattle.rt_state.proofs.Pieces.{given_right, open_closed, piece_order}
 use Rattle.rt_state.proofs.Possible.{HasRoom, priced_room}
 use Rattle.rt_world.proofs.Sets.{query_set, query_added}
-use Rattle.rt_world.proofs.Stores.{read_told}
 
 -- ---- how many are open
 
@@ -125,9 +125,9 @@ query_put w q a b cost s at possible k =
 
 pub routed_reads : (w : State) (store : Told) (a b : Asking) (p : Partition) (answer : Result ℕ BrokerRefused) (o : Outcome)
     → broker_routes (means w.store) (means store) a p b answer → routed_by answer ≡ Some o → store.writes ≡ w.store.writes
-routed_reads w store a b p (Ok count) o r e = read_told w.store store _ _ r.1.listed
+routed_reads w store a b p (Ok count) o r e = unwritten w.store store (reads_look w.store store _ _ r.1.listed)
 routed_reads w store a b p (Err broker.NotDue) o r e = absurd (none-some o e)
-routed_reads w store a b p (Err broker.StoreFault) o r e = read_told w.store store _ _ r.1
+routed_reads w store a b p (Err broker.StoreFault) o r e = unwritten w.store store (reads_look w.store store _ _ r.1)
 routed_reads w store a b p (Err broker.Memory) o r e = absurd (none-some o e)
 
 pub routed_query : (old new : Meaning) (a b : Asking) (p : Partition) (answer : Result ℕ BrokerRefused) → broker_routes old new a p b answer → b.query ≡ a.query

@@ -1,4 +1,4 @@
--- A step of a repair, and one of a retirement, keeps a world safe.
+-- A step of a chore keeps a world safe.
 use Rattle.std.proofs.Common.{◌≡◌, ℕ, ◌+◌, ◌<◌, ◌≤◌, Bool, true, false, cond, Ok, Option, Some, None, refl, sym, ◌∙◌, ap, subst, slice_get, length, arith, ◌&&◌}
 use Rattle.std.specs.Prelude.{slice_set, IfSome, IsNone, IsSome}
 use Rattle.std.proofs.lemmas.Bool.{ltb-true, and_parts, true≢false}
@@ -30,7 +30,10 @@ use Rattle.rt_state.specs.Finding.{has_controller, has_partition}
 use Rattle.rt_state.specs.IsSafe.{IsUpkeepAt, IsSafe, past_of}
 use Rattle.rt_state.specs.IsSafeWorld.{IsSafeWorld}
 use Rattle.rt_state.proofs.NeedsNodes.{retain_keeps as retention_needed, retention_kept}
-use Rattle.rt_state.specs.Repairs.{upkeep_in, upkeep_at, find_upkeep, after_upkeep, repair_by, repair_in, repair_due, begun, going_on, UpkeepRepairs, RepairsAt, Repairs, retain_by, retirement_in, retain_due, retiring, retiring_on, UpkeepRetires, RetiresAt, Retires}
+use Rattle.rt_nodes.specs.declared.chore.Chore.{Chore}
+use Rattle.rt_nodes.specs.declared.chore.Chore.TheVariants.{Repair, Retire}
+use Rattle.rt_events.specs.declared.outcome.Outcome.{Outcome}
+use Rattle.rt_state.specs.Repairs.{upkeep_in, upkeep_at, find_upkeep, after_upkeep, begun, going_on, UpkeepRepairs, UpkeepSteps, retain_by, retirement_in, retiring, retiring_on, UpkeepRetires, chore_by, chore_due, KeepsAt, Keeps}
 use Rattle.rt_state.specs.Room.{set_cost, priced}
 use Rattle.rt_nodes.specs.declared.controller_node.ControllerNode.{ControllerNode}
 use Rattle.rt_state.specs.declared.cost.Cost.{Cost}
@@ -43,7 +46,7 @@ use Rattle.rt_state.proofs.Possible.{came, only_passed, then_passed, HasRoom, pr
 use Rattle.rt_world.proofs.Sets.{drawn_same, safe_grows, controller_set}
 use Rattle.rt_world.proofs.Topics.{if_some, controller_at_grows}
 use Rattle.rt_world.proofs.WritesOnce.{repair_few, retire_few}
-use Rattle.rt_world.specs.Step.{set_by_repair, set_by_retirement}
+use Rattle.rt_world.specs.Step.{set_by}
 
 -- ---- what is under way is put back
 
@@ -160,19 +163,6 @@ repair_writes w p old new store did s within k (after, steps, is) =
           });
     }
 
-pub repair_keeps : (w : State) (c : ControllerId) (p : Partition) (cost : Cost) (x : Next) → IsSafeWorld w → repair_due w c p ≡ Ok cost
-    → priced w (set_cost (set_by_repair (repair_in (upkeep_at w c p)) w.moment)) ≡ Ok cost → Repairs w c p cost x → IsSafeWorld x.0
-repair_keeps w c p cost x s possible room h = by_found (slice_get w.controllers c.0) refl (upkeep_at w c p) refl h
-  where
-    by_found : (o : Option ControllerNode) → slice_get w.controllers c.0 ≡ o → (u : Option Upkeep) → upkeep_at w c p ≡ u → RepairsAt o u w c p cost x → IsSafeWorld x.0
-    by_found None there u at h = absurd h
-    by_found (Some n) there None at h = absurd h
-    by_found (Some n) there (Some old) at (new, store, did, steps, is) =
-        let due = then_passed (find_upkeep w c p) (repair_by w c (repair_in (upkeep_at w c p))) cost possible in
-        subst (λ (y : Next). IsSafeWorld y.0) (sym is)
-        (upkeep_put w c p n new store (set_by_repair (repair_in (upkeep_at w c p)) w.moment) cost s there room
-        (repair_writes w p old new store did s.safe (found_within w c p due.0) (upkeep_there w c p n old s.safe there at) steps))
-
 -- ---- a retirement
 
 retiring_over : (setup : Setup) (past : Past) (p : Partition) (o : Option Retirement) → p.0 < setup.partitions → (IsNone o → IsSome setup.retention)
@@ -208,7 +198,7 @@ retention_set w c p old cost at due none =
     (subst (λ o. IsNone (retirement_in o)) (sym at) none)
 
 pub retire_writes : (w : State) (p : Partition) (old new : Upkeep) (store : Told) (did : RetireStep) → IsSafe w → p.0 < w.setup.partitions
-    → (IsNone old.retirement → IsSome w.setup.retention) → IsUpkeepAt w.setup (past_of w) p.0 old → UpkeepRetires w.setup p w.store store w.moment old new did → UpkeepWrites w new store
+    → (IsNone old.retirement → IsSome w.setup.retention) → IsUpkeepAt w.setup (past_of w) p.0 old → UpkeepRetires w.setup p w.moment w.store store old new did → UpkeepWrites w new store
 retire_writes w p old new store did s within set k (after, steps, is) =
     let a = past_of w in
     let r = retiring w.setup p old.retirement in
@@ -237,16 +227,33 @@ retire_writes w p old new store did s within set k (after, steps, is) =
           });
     }
 
-pub retain_keeps : (w : State) (c : ControllerId) (p : Partition) (cost : Cost) (x : Next) → IsSafeWorld w → retain_due w c p ≡ Ok cost
-    → priced w (set_cost (set_by_retirement (retirement_in (upkeep_at w c p)) w.moment)) ≡ Ok cost → Retires w c p cost x → IsSafeWorld x.0
-retain_keeps w c p cost x s possible room h = by_found (slice_get w.controllers c.0) refl (upkeep_at w c p) refl h
+-- ---- any chore
+
+-- a retirement that begins has a retention that is set
+abbrev pub Begins : Chore → State → Upkeep → Type 0
+Begins Repair w old = Unit {0}
+Begins Retire w old = IsNone old.retirement → IsSome w.setup.retention
+
+pub chore_begins : (w : State) (c : ControllerId) (p : Partition) (chore : Chore) (old : Upkeep) (cost : Cost) → upkeep_at w c p ≡ Some old
+    → chore_by chore w c (upkeep_at w c p) ≡ Ok cost → Begins chore w old
+chore_begins w c p Repair old cost at due = tt
+chore_begins w c p Retire old cost at due = retention_set w c p old cost at due
+
+pub chore_writes : (w : State) (p : Partition) (chore : Chore) (old new : Upkeep) (store : Told) (outcome : Outcome) → IsSafe w → p.0 < w.setup.partitions
+    → Begins chore w old → IsUpkeepAt w.setup (past_of w) p.0 old → UpkeepSteps chore w.setup p w.moment w.store store old new outcome → UpkeepWrites w new store
+chore_writes w p Repair old new store outcome s within begins k (did, steps, told) = repair_writes w p old new store did s within k steps
+chore_writes w p Retire old new store outcome s within begins k (did, steps, told) = retire_writes w p old new store did s within begins k steps
+
+pub chore_keeps : (w : State) (c : ControllerId) (p : Partition) (chore : Chore) (cost : Cost) (x : Next) → IsSafeWorld w → chore_due w c p chore ≡ Ok cost
+    → priced w (set_cost (set_by chore (upkeep_at w c p) w.moment)) ≡ Ok cost → Keeps w c p chore cost x → IsSafeWorld x.0
+chore_keeps w c p chore cost x s possible room h = by_found (slice_get w.controllers c.0) refl (upkeep_at w c p) refl h
   where
-    by_found : (o : Option ControllerNode) → slice_get w.controllers c.0 ≡ o → (u : Option Upkeep) → upkeep_at w c p ≡ u → RetiresAt o u w c p cost x → IsSafeWorld x.0
+    by_found : (o : Option ControllerNode) → slice_get w.controllers c.0 ≡ o → (u : Option Upkeep) → upkeep_at w c p ≡ u → KeepsAt o u w c p chore cost x → IsSafeWorld x.0
     by_found None there u at h = absurd h
     by_found (Some n) there None at h = absurd h
-    by_found (Some n) there (Some old) at (new, store, did, steps, is) =
-        let due = then_passed (find_upkeep w c p) (retain_by w c (retirement_in (upkeep_at w c p))) cost possible in
-        subst (λ (y : Next). IsSafeWorld y.0) (sym is)
-        (upkeep_put w c p n new store (set_by_retirement (retirement_in (upkeep_at w c p)) w.moment) cost s there room
-        (retire_writes w p old new store did s.safe (found_within w c p due.0) (retention_set w c p old cost at due.1)
+    by_found (Some n) there (Some old) at (new, store, steps, is) =
+        let due = then_passed (find_upkeep w c p) (chore_by chore w c (upkeep_at w c p)) cost possible in
+        subst IsSafeWorld (sym is)
+        (upkeep_put w c p n new store (set_by chore (upkeep_at w c p) w.moment) cost s there room
+        (chore_writes w p chore old new store x.1 s.safe (found_within w c p due.0) (chore_begins w c p chore old cost at due.1)
         (upkeep_there w c p n old s.safe there at) steps))

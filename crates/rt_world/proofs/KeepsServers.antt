@@ -29,12 +29,12 @@ use Rattle.rt_state.specs.Replicas.{Builds, Consumes, Forces, NodeBuilds, NodeCo
 use Rattle.rt_state.specs.Room.{no_cost, only_if, priced, spent}
 use Rattle.rt_state.specs.Servers.{Loads, Moves, NodeLoads, NodeMoves, NodeSees, Sees, download_due, moves_at, see_due, transit_due, wants_at}
 use Rattle.rt_state.specs.declared.cost.Cost.{Cost}
+use Rattle.rt_nodes.proofs.Looks.{downloads_looks, sees_looks, takes_looks, transits_looks, unput, unwritten}
 use Rattle.rt_nodes.specs.declared.server_node.ServerNode.{ServerNode}
 use Rattle.rt_state.specs.declared.state.State.{State}
 use Rattle.rt_world.proofs.Does.{IsServerOf, ServerWrites, server_calls_keeps, server_does_keeps, server_gets_keeps, server_of}
 use Rattle.rt_state.proofs.Dues.{replica_due_is, server_there}
 use Rattle.rt_world.proofs.KeepsClock.{free_keeps}
-use Rattle.rt_world.proofs.Quiet.{downloads_quiet, sees_quiet, takes_quiet, transits_quiet}
 use Rattle.rt_state.proofs.Possible.{only_passed, then_passed}
 use Rattle.rt_world.proofs.Sets.{server_set}
 use Rattle.rt_world.proofs.Stores.{writes_same}
@@ -91,7 +91,7 @@ module _ (w : State) (i : Instance) (p : Partition) (q : Sequence) (cost : Cost)
       let d = replica_due_is w i p q (takes_now max) cost due in
       server_fetches_keeps w i (NodeConsumes p q max w.moment) cost x s d.priced
       (λ old new log o e k step.
-      let same = takes_quiet w.log log old.server.table new.server.table p q max w.moment (Ok tt) step.0 in (
+      let same = takes_looks w.log log old.server.table new.server.table p q max w.moment (Ok tt) step.0 in (
         same,
         stays_at w (past_of w) i.0 old new k (up_there w i old d.there.up e) step.2 step.1.1
             (takes_over w.setup (past_of w) old.server new.server p q step.1 k.at.over (log_meaning w.log) (log_meaning log) max w.moment (Ok tt) (sym same) step.0),
@@ -151,7 +151,7 @@ module _ (w : State) (i : Instance) (cost : Cost) (x : Next) (s : IsSafeWorld w)
       let up = only_passed (is_server_up w i) NodeDown (priced w no_cost) cost there.1 in
       server_calls_keeps w i NodeSees cost x s up.1
       (λ old new store o e k step.
-      looks_on w i.0 old new store s (sees_quiet w.store store old.server new.server step.0 step.1) k (up_there w i old up.0 e) step.3
+      looks_on w i.0 old new store s (unwritten w.store store (sees_looks w.store store old.server new.server step.0 step.1)) k (up_there w i old up.0 e) step.3
       (λ over right. sees_keep w.setup (with_history (past_of w) store.writes) (means w.store) (means store) old.server new.server step.0 refl over step.1))
       h
 
@@ -161,7 +161,7 @@ module _ (w : State) (i : Instance) (cost : Cost) (x : Next) (s : IsSafeWorld w)
       let moves = only_passed (moves_at w i p q) NothingToDo (priced w no_cost) cost there.1 in
       server_calls_keeps w i (NodeMoves p q w.moment) cost x s moves.1
       (λ old new store o e k step.
-      looks_on w i.0 old new store s (transits_quiet old.server new.server p q w.moment step.0 w.store store step.1) k
+      looks_on w i.0 old new store s (unwritten w.store store (transits_looks w.store store old.server new.server p q w.moment step.0 step.1)) k
       (up_there w i old (server_there w i p there.0).up e) step.3
       (λ over right.
       transits_keep w.setup (with_history (past_of w) store.writes) (means w.store) (means store) old.server new.server p q w.moment step.0 refl right over step.1))
@@ -173,7 +173,7 @@ module _ (w : State) (i : Instance) (cost : Cost) (x : Next) (s : IsSafeWorld w)
       let wants = only_passed (wants_at w i p q) NothingToDo (priced w no_cost) cost there.1 in
       server_gets_keeps w i (NodeLoads p q) cost x s wants.1
       (λ old new deep o e k step.
-      let same = downloads_quiet w.deep deep old.server.setup.schema p q step.0 old.server.table new.server.table step.1 in (
+      let same = unput w.deep deep (downloads_looks w.deep deep old.server.setup.schema old.server.table new.server.table p q step.0 step.1) in (
         same,
         stays_at w (past_of w) i.0 old new k (up_there w i old (server_there w i p there.0).up e) step.4 step.2.1
             (downloads_over w.setup (past_of w) (deep_means w.deep) (deep_means deep) old.server new.server p q (sym same) s.safe.past k.at.over step.0 step.1 step.2),

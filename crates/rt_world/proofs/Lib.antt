@@ -16,7 +16,6 @@ pub mod KeepsServers
 pub mod KeepsStream
 pub mod Places
 pub mod Producing
-pub mod Quiet
 pub mod Refusing
 pub mod Resting
 pub mod SafeSteps

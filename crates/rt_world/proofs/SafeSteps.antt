@@ -6,6 +6,7 @@ use Rattle.rt_events.specs.declared.event.Event.TheVariants as event
 use Rattle.rt_events.specs.declared.outcome.Outcome.{Outcome}
 use Rattle.rt_events.specs.declared.refusal.Refusal.{Refusal}
 use Rattle.rt_events.specs.declared.refusal.Refusal.TheVariants.{Memory}
+use Rattle.rt_nodes.specs.declared.chore.Chore.TheVariants.{Repair, Retire}
 use Rattle.rt_state.specs.Applying.{Next}
 use Rattle.rt_state.specs.Clock.{deep_faulted, store_faulted}
 use Rattle.rt_state.specs.Finding.{replica_at}
@@ -21,7 +22,7 @@ use Rattle.rt_world.proofs.KeepsJobs.{job_keeps}
 use Rattle.rt_world.proofs.KeepsLives.{crash_controller_keeps, crash_server_keeps, restart_controller_keeps, restart_server_keeps}
 use Rattle.rt_world.proofs.KeepsMessages.{deliver_keeps, reply_keeps}
 use Rattle.rt_world.proofs.KeepsQueries.{answer_keeps, ask_keeps, piece_keeps, route_keeps}
-use Rattle.rt_world.proofs.KeepsRepairs.{repair_keeps, retain_keeps}
+use Rattle.rt_world.proofs.KeepsRepairs.{chore_keeps}
 use Rattle.rt_world.proofs.KeepsRequests.{extend_keeps, report_keeps}
 use Rattle.rt_world.proofs.KeepsServers.{build_keeps, consume_keeps, download_keeps, force_keeps, see_keeps, stop_keeps, transit_keeps}
 use Rattle.rt_world.proofs.KeepsStream.{produce_keeps}
@@ -51,8 +52,8 @@ goes_keep w (event.RestartController c) cost x fits s due room h = restart_contr
 goes_keep w (event.See i) cost x fits s due room h = see_keeps w i cost x s due h
 goes_keep w (event.Transit i p q) cost x fits s due room h = transit_keeps w i cost x s p q due h
 goes_keep w (event.Download i p q) cost x fits s due room h = download_keeps w i cost x s p q due h
-goes_keep w (event.Repair c p) cost x fits s due room h = repair_keeps w c p cost x s due room h
-goes_keep w (event.Retain c p) cost x fits s due room h = retain_keeps w c p cost x s due room h
+goes_keep w (event.Repair c p) cost x fits s due room h = chore_keeps w c p Repair cost x s due room h
+goes_keep w (event.Retain c p) cost x fits s due room h = chore_keeps w c p Retire cost x s due room h
 goes_keep w (event.FaultStore kept) cost x fits s due room h = comes_safe (store_faulted w kept cost) x s.safe (free_keeps w cost s room) h
 goes_keep w (event.FaultDeep kept) cost x fits s due room h = comes_safe (deep_faulted w kept cost) x s.safe (free_keeps w cost s room) h
 goes_keep w (event.Ask query) cost x fits s due room h = ask_keeps w query cost x s fits room h

@@ -1,5 +1,5 @@
 -- What a call leaves of a store that tells everything, and that all that was written, put and sent grows by it.
-use Rattle.std.proofs.Common.{◌≡◌, ◌+◌, ◌≤◌, inl, inr, List, [], ◌∷◌, Result, length, sym, ◌∙◌, ap, subst, arith, length-append}
+use Rattle.std.proofs.Common.{◌≡◌, ◌+◌, ◌≤◌, inl, inr, List, [], ◌∷◌, Result, length, sym, ap, subst, arith, length-append}
 use Rattle.rt_model.specs.declared.node.Seen.{Seen}
 use Rattle.rt_model.specs.declared.setup.Setup.{Setup}
 use Rattle.rt_model.specs.Lawful.{Write, IsLawful, written_by}
@@ -14,19 +14,9 @@ use Rattle.rt_store.specs.Calls.{Calls, IsExact}
 use Rattle.rt_store.specs.Meaning.{Told}
 use Rattle.rt_store.specs.Memory.{means}
 use Rattle.rt_store.proofs.Seeing.{told_exact}
-use Rattle.rt_store.proofs.Told.{leaves_on, read_same}
+use Rattle.rt_store.proofs.Told.{leaves_on}
 
 -- ---- one call
-
-read_by : {X : Type 0} (t u : Told) (answer : List Seen → Result X StoreRefused) (result : Result X StoreRefused) → IsExact t u answer (λ base. base) result
-    → u.writes ≡ t.writes
-read_by t u answer result (inl ran_out) = ap (λ (x : Told). x.writes) ran_out.1
-read_by t u answer result (inr came) = ap (λ (x : Told). x.writes) came.1 ∙ read_same t
-
--- a read leaves all as it was
-pub read_told : {X : Type 0} (t u : Told) (answer : List Seen → Result X StoreRefused) (result : Result X StoreRefused)
-    → Calls (means t) (means u) answer (λ base. base) result → u.writes ≡ t.writes
-read_told t u answer result c = read_by t u answer result (told_exact t u answer (λ base. base) result c)
 
 wrote_by : {X : Type 0} (tell : Seen → X) (t u : Told) (call : Write) (result : Result X StoreRefused)
     → IsExact t u (answer_of tell call) (after_call call) result → Leaves call t.writes u.writes

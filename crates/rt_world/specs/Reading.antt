@@ -1,6 +1,6 @@
 -- What the reading calls give.
 use Rattle.std.specs.List.{position}
-use Rattle.std.specs.Prelude.{Bool, List, None, Option, Some, [], false, if◌then◌else◌, nat_le, nat_lt, slice_get, suc, zero, ℕ, ◌&&◌, ◌++◌, ◌+◌, ◌-◌, ◌∷◌, ◌≡◌}
+use Rattle.std.specs.Prelude.{Bool, List, None, Option, Some, [], false, if◌then◌else◌, nat_le, nat_lt, slice_get, suc, zero, ℕ, ◌&&◌, ◌++◌, ◌-◌, ◌∷◌, ◌≡◌}
 use Rattle.rt_base.specs.declared.gate.NodeId.{NodeId}
 use Rattle.rt_base.specs.declared.limits.TheConstants.{MOST_EVENTS}
 use Rattle.rt_base.specs.declared.limits.TheConstants.{LAST_NUMBER}

@@ -9,6 +9,9 @@ use Rattle.rt_events.specs.declared.outcome.Outcome.{Outcome}
 use Rattle.rt_events.specs.declared.outcome.Outcome.TheVariants as told
 use Rattle.rt_events.specs.declared.refusal.Refusal.{Refusal}
 use Rattle.rt_events.specs.declared.refusal.Refusal.TheVariants.{Memory}
+use Rattle.rt_nodes.specs.declared.chore.Chore.{Chore}
+use Rattle.rt_nodes.specs.declared.chore.Chore.TheVariants.{Repair, Retire}
+use Rattle.rt_nodes.specs.declared.upkeep.Upkeep.{Upkeep}
 use Rattle.rt_repair.specs.Repairing.{Repairing, set_entries as repair_sets}
 use Rattle.rt_repair.specs.Retirement.{Retirement, set_entries as retire_sets}
 use Rattle.rt_state.specs.Applying.{Applies}
@@ -18,7 +21,7 @@ use Rattle.rt_state.specs.Jobs.{job_due, sets_of_job}
 use Rattle.rt_state.specs.Lives.{controller_crashed, controller_restarted, crash_controller_due, crash_server_due, NodeCrashes, NodeRestarts, restart_controller_due, restart_server_due}
 use Rattle.rt_state.specs.Messages.{deliver_due, reply_due}
 use Rattle.rt_state.specs.Queries.{answer_due, ask_due, asked, piece_due, route_due}
-use Rattle.rt_state.specs.Repairs.{repair_due, repair_in, retain_due, retirement_in, upkeep_at}
+use Rattle.rt_state.specs.Repairs.{chore_due, repair_in, retirement_in, upkeep_at}
 use Rattle.rt_state.specs.Replicas.{build_due, consume_due, force_due, NodeBuilds, NodeConsumes, NodeForces, NodeStops, stop_due}
 use Rattle.rt_state.specs.Requests.{extend_due, NodeAsks, NodeAsksFor, report_due}
 use Rattle.rt_state.specs.Room.{Due, dropped, Found, message_cost, no_cost, query_cost, set_cost, time_cost, upload_cost}
@@ -52,8 +55,8 @@ due_at w (event.RestartController c) = restart_controller_due w c
 due_at w (event.See i) = see_due w i
 due_at w (event.Transit i p q) = transit_due w i p q
 due_at w (event.Download i p q) = download_due w i p q
-due_at w (event.Repair c p) = repair_due w c p
-due_at w (event.Retain c p) = retain_due w c p
+due_at w (event.Repair c p) = chore_due w c p Repair
+due_at w (event.Retain c p) = chore_due w c p Retire
 due_at w (event.FaultStore kept) = fault_due w
 due_at w (event.FaultDeep kept) = fault_due w
 due_at w (event.Ask query) = ask_due w
@@ -77,14 +80,18 @@ abbrev pub set_by_retirement : Option Retirement → Moment → Option ℕ
 set_by_retirement None now = None
 set_by_retirement (Some r) now = retire_sets r now
 
+abbrev pub set_by : Chore → Option Upkeep → Moment → Option ℕ
+set_by Repair u now = set_by_repair (repair_in u) now
+set_by Retire u now = set_by_retirement (retirement_in u) now
+
 -- what an event costs, beside its place among the events
 abbrev pub cost_of : State → Event → Cost
 cost_of w (event.Produce p message) = message_cost (length message)
 cost_of w (event.Tick millis) = time_cost millis
 cost_of w (event.Report i p q) = upload_cost (size_of (replica_at w i p q))
 cost_of w (event.Job c j) = set_cost (sets_of_job w c j)
-cost_of w (event.Repair c p) = set_cost (set_by_repair (repair_in (upkeep_at w c p)) w.moment)
-cost_of w (event.Retain c p) = set_cost (set_by_retirement (retirement_in (upkeep_at w c p)) w.moment)
+cost_of w (event.Repair c p) = set_cost (set_by Repair (upkeep_at w c p) w.moment)
+cost_of w (event.Retain c p) = set_cost (set_by Retire (upkeep_at w c p) w.moment)
 cost_of w (event.Ask query) = query_cost
 cost_of w _ = no_cost
 
@@ -109,8 +116,8 @@ way_of w (event.RestartController c) = way.turns c controller_restarted (told.Up
 way_of w (event.See i) = way.calls i NodeSees
 way_of w (event.Transit i p q) = way.calls i (NodeMoves p q w.moment)
 way_of w (event.Download i p q) = way.gets i (NodeLoads p q)
-way_of w (event.Repair c p) = way.mends c p
-way_of w (event.Retain c p) = way.drops c p
+way_of w (event.Repair c p) = way.keeps c p Repair
+way_of w (event.Retain c p) = way.keeps c p Retire
 way_of w (event.FaultStore kept) = way.outside (store_faulted w kept)
 way_of w (event.FaultDeep kept) = way.outside (deep_faulted w kept)
 way_of w (event.Ask query) = way.outside (asked w query)

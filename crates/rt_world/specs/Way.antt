@@ -6,13 +6,14 @@ use Rattle.rt_base.specs.declared.numbers.Partition.{Partition}
 use Rattle.rt_base.specs.declared.numbers.Sequence.{Sequence}
 use Rattle.rt_deep.specs.Meaning.{Told as ToldDeep}
 use Rattle.rt_events.specs.declared.outcome.Outcome.{Outcome}
+use Rattle.rt_nodes.specs.declared.chore.Chore.{Chore}
 use Rattle.rt_nodes.specs.declared.controller_node.ControllerNode.{ControllerNode}
 use Rattle.rt_state.specs.Applying.{Next, comes}
 use Rattle.rt_state.specs.Jobs.{JobSteps}
 use Rattle.rt_state.specs.Messages.{Delivers, Replies}
 use Rattle.rt_state.specs.Nodes.{ControllerDoes, ServerCalls, ServerDoes, ServerFetches, ServerGets, ServerStep}
 use Rattle.rt_state.specs.Queries.{Answers, Pieces, Routes}
-use Rattle.rt_state.specs.Repairs.{Repairs, Retires}
+use Rattle.rt_state.specs.Repairs.{Keeps}
 use Rattle.rt_state.specs.Requests.{AskStep, SendsRequest}
 use Rattle.rt_state.specs.declared.cost.Cost.{Cost}
 use Rattle.rt_state.specs.declared.state.State.{State}
@@ -33,8 +34,7 @@ pub data Way : Type 1 where
   -- a controller with calls of the stores: for a message, for a job, and for a partition on its own
   handles : ℕ → ControllerId → Way
   works : ControllerId → ℕ → Way
-  mends : ControllerId → Partition → Way
-  drops : ControllerId → Partition → Way
+  keeps : ControllerId → Partition → Chore → Way
   -- the broker, for a query: with a call of the store, with a server's answer, and alone
   routes : ℕ → Partition → Way
   serves : ℕ → Partition → Sequence → Instance → Way
@@ -53,8 +53,7 @@ Goes w (takes m) = Replies w m
 Goes w (turns c does outcome) = ControllerDoes w c does outcome
 Goes w (handles m c) = Delivers w m c
 Goes w (works c j) = JobSteps w c j
-Goes w (mends c p) = Repairs w c p
-Goes w (drops c p) = Retires w c p
+Goes w (keeps c p chore) = Keeps w c p chore
 Goes w (routes q p) = Routes w q p
 Goes w (serves q p s i) = Pieces w q p s i
 Goes w (closes q) = Answers w q

@@ -6,6 +6,7 @@ ghost use Rattle.rt_state.specs.IsSafeWorld.{IsSafeWorld};
 
 use crate::steps;
 use rt_events::{Event, Outcome, Refusal};
+use rt_nodes::Chore;
 use rt_state::State;
 use std::alloc::Global;
 
@@ -73,11 +74,11 @@ pub(crate) fn due(state: &State, event: &Event) -> Result<(), Refusal>
         Event::Repair {
             controller,
             partition,
-        } => state.repair_due(*controller, *partition)?,
+        } => state.chore_due(*controller, *partition, Chore::Repair)?,
         Event::Retain {
             controller,
             partition,
-        } => state.retain_due(*controller, *partition)?,
+        } => state.chore_due(*controller, *partition, Chore::Retire)?,
         Event::FaultStore { kept: _ } => state.fault_due()?,
         Event::FaultDeep { kept: _ } => state.fault_due()?,
         Event::Ask { query: _ } => state.ask_due()?,
@@ -164,11 +165,11 @@ pub(crate) fn apply(state: &mut State, alloc: Global, event: &Event) -> Result<O
         Event::Repair {
             controller,
             partition,
-        } => steps::repair(state, alloc, *controller, *partition),
+        } => steps::keep(state, alloc, *controller, *partition, Chore::Repair),
         Event::Retain {
             controller,
             partition,
-        } => steps::retain(state, alloc, *controller, *partition),
+        } => steps::keep(state, alloc, *controller, *partition, Chore::Retire),
         Event::FaultStore { kept } => steps::fault_store(state, *kept),
         Event::FaultDeep { kept } => steps::fault_deep(state, *kept),
         Event::Ask { query } => steps::ask(state, alloc, query),

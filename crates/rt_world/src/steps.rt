@@ -19,7 +19,7 @@ pub(crate) use jobs::job;
 pub(crate) use lives::{crash_controller, crash_server, restart_controller, restart_server};
 pub(crate) use messages::{deliver, reply};
 pub(crate) use queries::{answer, ask, piece, route};
-pub(crate) use repairs::{repair, retain};
+pub(crate) use repairs::keep;
 pub(crate) use replicas::{build, consume, force, stop};
 pub(crate) use requests::{extend, report};
 pub(crate) use servers::{download, see, transit};

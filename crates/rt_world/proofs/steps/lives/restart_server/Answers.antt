@@ -7,5 +7,5 @@ returns c = (
   c.in_ok-cost.cost,
   sym c.restart_server_due.ensures ∙ c.in_ok-cost.was,
   server_calls c.args.state.now c.args.instance c.in_ok-cost.cost c.at_mut-node.result.now _ c.at_mut-node.ensures.item
-      _ _ c.in_ok-outcome.outcome _ (c.in_ok-outcome.ensures {u = tt}) c.spend.ensures,
+      _ _ c.in_ok-outcome.outcome _ c.in_ok-outcome.ensures.ok c.spend.ensures,
 )

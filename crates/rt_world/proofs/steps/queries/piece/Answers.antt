@@ -20,6 +20,6 @@ returns-in-Ok c = (
   c.in_ok-cost.cost,
   sym c.piece_due.ensures ∙ c.in_ok-cost.was,
   piece_noted c.args.state.now c.args.query c.args.partition c.args.sequence c.args.instance c.in_ok-cost.cost c.in-Some.asked _ c.in_ok-piece.piece c.in_ok-piece.got
-      (c.at_mut.ensures.item ∙ ap (λ o. Some o) c.in-Some.is) (c.in_ok-piece.ensures {u = tt}) (c.in-Ok.ensures {u = tt})
+      (c.at_mut.ensures.item ∙ ap (λ o. Some o) c.in-Some.is) (c.in_ok-piece.ensures {u = tt}) c.in-Ok.ensures.ok
       _ _ c.piece_outcome-outcome.ensures c.spend.ensures,
 )

@@ -9,5 +9,5 @@ returns c = (
   sym c.extend_due.ensures ∙ c.in_ok-cost.was,
   server_asks c.args.state.now c.args.instance c.in_ok-cost.cost c.at_mut-node.result.now _ c.at_mut-node.ensures.item
       (NodeAsksFor c.args.partition c.args.sequence c.args.millis) c.in_ok-request.request _ c.in_ok-outcome.outcome _
-      (c.in_ok-request.ensures {u = tt}) (c.in_ok-outcome.ensures {u = tt}) c.spend.ensures,
+      c.in_ok-request.ensures.ok (c.in_ok-outcome.ensures {u = tt}) c.spend.ensures,
 )
