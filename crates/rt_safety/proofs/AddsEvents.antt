@@ -31,17 +31,18 @@ use Rattle.rt_state.specs.IsSafeWorld.{IsSafeWorld}
 use Rattle.rt_state.specs.Finding.{request_at}
 use Rattle.rt_state.specs.Jobs.{JobSteps, JobStepsAt, noted_set, stepped_by}
 use Rattle.rt_state.specs.Messages.{DeliversAt, Delivers, after_step, handed, with_reply}
-use Rattle.rt_state.specs.Repairs.{RepairsAt, Repairs, RetiresAt, Retires, after_upkeep, upkeep_at}
+use Rattle.rt_nodes.specs.declared.chore.Chore.{Chore}
+use Rattle.rt_state.specs.Repairs.{KeepsAt, Keeps, after_upkeep, upkeep_at}
 use Rattle.rt_state.specs.Room.{counted}
 use Rattle.rt_nodes.specs.declared.controller_node.ControllerNode.{ControllerNode}
 use Rattle.rt_state.specs.declared.cost.Cost.{Cost}
 use Rattle.rt_state.specs.declared.state.State.{State}
 use Rattle.rt_nodes.specs.declared.upkeep.Upkeep.{Upkeep}
 use Rattle.rt_safety.proofs.Adds.{Adds, adds_quietly, adds_reply, grows_sent}
-use Rattle.rt_safety.proofs.Ways.{BeginsRetained}
+use Rattle.rt_safety.proofs.Ways.{BeginsRightly}
 use Rattle.rt_state.proofs.Bounds.{few_writes}
 use Rattle.rt_world.proofs.KeepsMessages.{request_sent}
-use Rattle.rt_world.proofs.KeepsRepairs.{upkeep_there, repair_writes, retire_writes}
+use Rattle.rt_world.proofs.KeepsRepairs.{chore_writes, upkeep_there}
 
 -- ---- possible replies
 
@@ -128,25 +129,15 @@ job_adds w c j cost x s h = by_node (slice_get w.controllers c.0) refl h
         (job_adds_at w c n new store deep cost step step.reply
         (subst (λ (files : List DeepPut). Grows a (with_history (with_files a files) store.writes)) (sym k.files) k.grows) (possible n new store deep step k))
 
--- ---- repairs and retirements
+-- ---- chores
 
-pub repair_adds : (w : State) (c : ControllerId) (p : Partition) (cost : Cost) (x : Next) → IsSafeWorld w → p.0 < w.setup.partitions → Repairs w c p cost x → Adds w x.0
-repair_adds w c p cost x s within h = by_found (slice_get w.controllers c.0) refl (upkeep_at w c p) refl h
+pub chore_adds : (w : State) (c : ControllerId) (p : Partition) (chore : Chore) (cost : Cost) (x : Next) → IsSafeWorld w
+    → (p.0 < w.setup.partitions) × BeginsRightly chore w c p → Keeps w c p chore cost x → Adds w x.0
+chore_adds w c p chore cost x s left h = by_found (slice_get w.controllers c.0) refl (upkeep_at w c p) refl h
   where
-    by_found : (o : Option ControllerNode) → slice_get w.controllers c.0 ≡ o → (u : Option Upkeep) → upkeep_at w c p ≡ u → RepairsAt o u w c p cost x → Adds w x.0
+    by_found : (o : Option ControllerNode) → slice_get w.controllers c.0 ≡ o → (u : Option Upkeep) → upkeep_at w c p ≡ u → KeepsAt o u w c p chore cost x → Adds w x.0
     by_found None there u at h = absurd h
     by_found (Some n) there None at h = absurd h
-    by_found (Some n) there (Some old) at (new, store, did, steps, is) =
-        let k = repair_writes w p old new store did s.safe within (upkeep_there w c p n old s.safe there at) steps in
-        subst (λ (y : Next). Adds w y.0) (sym is) (adds_quietly w (after_upkeep w c p n new store cost) refl refl k.grows)
-
-pub retain_adds : (w : State) (c : ControllerId) (p : Partition) (cost : Cost) (x : Next) → IsSafeWorld w → (p.0 < w.setup.partitions) × BeginsRetained w c p
-    → Retires w c p cost x → Adds w x.0
-retain_adds w c p cost x s left h = by_found (slice_get w.controllers c.0) refl (upkeep_at w c p) refl h
-  where
-    by_found : (o : Option ControllerNode) → slice_get w.controllers c.0 ≡ o → (u : Option Upkeep) → upkeep_at w c p ≡ u → RetiresAt o u w c p cost x → Adds w x.0
-    by_found None there u at h = absurd h
-    by_found (Some n) there None at h = absurd h
-    by_found (Some n) there (Some old) at (new, store, did, steps, is) =
-        let k = retire_writes w p old new store did s.safe left.0 (left.1 old at) (upkeep_there w c p n old s.safe there at) steps in
-        subst (λ (y : Next). Adds w y.0) (sym is) (adds_quietly w (after_upkeep w c p n new store cost) refl refl k.grows)
+    by_found (Some n) there (Some old) at (new, store, steps, is) =
+        let k = chore_writes w p chore old new store x.1 s.safe left.0 (left.1 old at) (upkeep_there w c p n old s.safe there at) steps in
+        subst (Adds w) (sym is) (adds_quietly w (after_upkeep w c p n new store cost) refl refl k.grows)

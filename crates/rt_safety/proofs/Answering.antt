@@ -2,6 +2,7 @@
 use Rattle.std.proofs.Common.{◌≡◌, ℕ, zero, suc, ◌<◌, ◌≤◌, List, [], ◌∷◌, length, get_or, Option, Some, None, Result, Ok, refl, sym, ◌∙◌, ap, subst, arith}
 use Rattle.rt_assign.specs.Placement.{replicas_of}
 use Rattle.rt_base.specs.declared.numbers.Partition.{Partition}
+use Rattle.rt_broker.specs.Answering.{AreServed}
 use Rattle.rt_broker.specs.Asking.{Asking}
 use Rattle.rt_broker.specs.IsAsked.{messages_in}
 use Rattle.rt_broker.specs.declared.refused.BrokerRefused.{BrokerRefused}
@@ -40,6 +41,10 @@ one_within (ms ∷ log) (suc i) = omega (arith, one_within log i)
 pub few_at : (w : State) (p : Partition) → IsSafeWorld w → length (messages_of w.log p) < 9223372036854775808
 few_at w p s = omega (arith, one_within w.log p.0, few_messages w s)
 
+-- what was served of a query that is there is of the stream
+pub are_served : (w : State) (q : ℕ) (a : Asking) → IsSafeWorld w → query_at w q ≡ Some a → AreServed w.setup.schema w.log a
+are_served w q a s there = asked_served w.setup (past_of w) a (asked_there w q a s.safe there).over s.safe.past (few_messages w s)
+
 answer_of : (w : State) (q : ℕ) (a : Asking) (answer : Answer) → IsSafeWorld w → query_at w q ≡ Some a → IsAnswerOf a answer → IsAnswered w q answer
 answer_of w q a answer s there k =
     let over = (asked_there w q a s.safe there).over in
@@ -48,8 +53,7 @@ answer_of w q a answer s there k =
       there = there;
       over = over;
       right =
-          answer_right a (given answer) k.ranges k.missing k.rows w.setup.schema w.log
-          (asked_served w.setup (past_of w) a over s.safe.past (few_messages w s));
+          answer_right a (given answer) k.ranges k.missing k.rows w.setup.schema w.log (are_served w q a s there);
       assigned =
           λ p. ap (λ n. replicas_of p n a.servers) over.replication ∙ ap (λ n. replicas_of p w.setup.table.replication n) over.servers;
       missing = k.causes;

@@ -3,6 +3,7 @@ use Rattle.std.proofs.Common.{◌≡◌, true, length, Option, Some, None, Ok, E
 use Rattle.std.specs.Prelude.{slice_set}
 use Rattle.rt_base.specs.declared.numbers.ControllerId.{ControllerId}
 use Rattle.rt_base.specs.declared.numbers.Instance.{Instance}
+use Rattle.rt_base.specs.declared.numbers.Partition.{Partition}
 use Rattle.rt_broker.specs.Asking.{Asking, piece_at}
 use Rattle.rt_broker.specs.Noting.{noted, Notes}
 use Rattle.rt_broker.specs.declared.piece_got.PieceGot.{PieceGot}
@@ -24,15 +25,15 @@ use Rattle.rt_model.specs.declared.piece.Piece.{Piece}
 use Rattle.rt_model.specs.declared.reply.Reply.{Reply}
 use Rattle.rt_model.specs.declared.request.Request.{Request}
 use Rattle.rt_nodes.specs.Queries.{Gives, QueryRoutes}
-use Rattle.rt_nodes.specs.Repairs.{UpkeepRepairs, UpkeepRetires}
+use Rattle.rt_nodes.specs.declared.chore.Chore.{Chore}
+use Rattle.rt_nodes.specs.declared.chore.Chore.TheVariants.{Repair, Retire}
+use Rattle.rt_state.specs.Repairs.{chore_due}
 use Rattle.rt_nodes.specs.declared.controller_node.ControllerNode.{ControllerNode}
 use Rattle.rt_nodes.specs.declared.server_node.ServerNode.{ServerNode}
 use Rattle.rt_nodes.specs.declared.upkeep.Upkeep.{Upkeep}
-use Rattle.rt_repair.specs.declared.repair_step.RepairStep.{RepairStep}
-use Rattle.rt_repair.specs.declared.retiring.RetireStep.{RetireStep}
 use Rattle.rt_state.proofs.Asking.{piece_noted, query_answered, query_routed, query_stands}
 use Rattle.rt_state.proofs.Going.{server_asks, server_calls, server_does, server_fetches, server_gets}
-use Rattle.rt_state.proofs.Leading.{controller_does, job_stepped, node_repaired, node_retired, request_handed}
+use Rattle.rt_state.proofs.Leading.{controller_does, job_stepped, node_kept, request_handed}
 use Rattle.rt_state.proofs.Taking.{reply_taken}
 use Rattle.rt_state.specs.Applying.{Next}
 use Rattle.rt_state.specs.Finding.{query_at, reply_at, request_at}
@@ -48,7 +49,7 @@ use Rattle.rt_lists.proofs.Lists.{All-found}
 use Rattle.rt_nodes.specs.Lives.{node_crashed}
 use Rattle.rt_nodes.specs.Messages.{node_took}
 use Rattle.rt_nodes.specs.Queries.{piece_outcome}
-use Rattle.rt_nodes.specs.Repairs.{begun, going_on, NodeRepairsAt, NodeRetiresAt, retiring, retiring_on}
+use Rattle.rt_nodes.specs.Repairs.{begun, going_on, IsReadyFor, NodeKeepsAt, retiring, retiring_on, UpkeepSteps}
 use Rattle.rt_repair.proofs.Realized.{retire_steps_told, steps_told}
 use Rattle.rt_repair.specs.Told.{repair_at, retire_at}
 use Rattle.rt_safety.proofs.ControllersCan.{repair_gives, request_gives, retire_gives, stands_at, work_gives}
@@ -56,7 +57,7 @@ use Rattle.rt_safety.proofs.QueriesCan.{answers_can, gives_can, routes_can}
 use Rattle.rt_safety.proofs.Sealing.{seals_can}
 use Rattle.rt_safety.proofs.ServersCan.{asks_can, asks_for_can, builds_can, consumes_can, forces_can, loads_can, moves_can, restarts_can, sees_can, stops_can}
 use Rattle.rt_safety.specs.Possible.{IsTyped}
-use Rattle.rt_state.proofs.NeedsNodes.{crash_server_needs, deliver_needs, job_needs, lead_needs, repair_needs, reply_needs, restart_controller_needs, restart_server_needs, retain_needs}
+use Rattle.rt_state.proofs.NeedsNodes.{chore_needs, crash_server_needs, deliver_needs, job_needs, lead_needs, reply_needs, restart_controller_needs, restart_server_needs}
 use Rattle.rt_state.proofs.NeedsQueries.{answer_needs, piece_needs, route_needs}
 use Rattle.rt_state.proofs.NeedsServers.{build_needs, consume_needs, download_needs, extend_needs, force_needs, report_needs, see_needs, stop_needs, transit_needs}
 use Rattle.rt_state.specs.Finding.{replica_in}
@@ -95,12 +96,9 @@ CanGo w (way.handles m c) =
 CanGo w (way.works c j) =
     ControllerCan w c (λ n. (new : Controlling) × (step : JobStep) × (store : Told) × (deep : ToldDeep)
     × Works (means w.store) (means store) (deep_means w.deep) (deep_means deep) n.controller j w.moment new (Ok step))
-CanGo w (way.mends c p) =
+CanGo w (way.keeps c p chore) =
     ControllerCan w c (λ n. (old : Upkeep) × (slice_get n.upkeep p.0 ≡ Some old)
-    × (new : Upkeep) × (store : Told) × (did : RepairStep) × UpkeepRepairs w.setup p w.moment w.store store old new did)
-CanGo w (way.drops c p) =
-    ControllerCan w c (λ n. (old : Upkeep) × (slice_get n.upkeep p.0 ≡ Some old)
-    × (new : Upkeep) × (store : Told) × (did : RetireStep) × UpkeepRetires w.setup p w.store store w.moment old new did)
+    × (new : Upkeep) × (store : Told) × (o : Outcome) × UpkeepSteps chore w.setup p w.moment w.store store old new o)
 CanGo w (way.routes q p) =
     (a : Asking) × (slice_get w.queries q ≡ Some (Some a)) × (new : Asking) × (store : Told) × (o : Outcome) × QueryRoutes p w.store store a new o
 CanGo w (way.serves q p s i) =
@@ -123,17 +121,11 @@ can_go w (way.takes m) cost (r, is, (n, at, u)) =
 can_go w (way.turns c does told) cost (n, at, u) = (_, controller_does w c cost n does told at)
 can_go w (way.handles m c) cost (q, is, (n, at, (new, what, store, deep, h))) = (_, request_handed w m c q n new what store deep is at h cost)
 can_go w (way.works c j) cost (n, at, (new, step, store, deep, h)) = (_, job_stepped w c j n new step store deep at h cost)
-can_go w (way.mends c p) cost (n, at, (old, stands, new, store, did, h)) =
+can_go w (way.keeps c p chore) cost (n, at, (old, stands, new, store, o, h)) =
     let node : ControllerNode = record n { upkeep = slice_set n.upkeep p.0 new } in (
       _,
-      node_repaired w c p cost n node store did (with_set w.counts cost (length w.store.writes) (length store.writes)) _ at
-          (subst (λ o. NodeRepairsAt o w.setup p w.moment w.store store n node did) (sym stands) (new, h, refl)) refl refl,
-    )
-can_go w (way.drops c p) cost (n, at, (old, stands, new, store, did, h)) =
-    let node : ControllerNode = record n { upkeep = slice_set n.upkeep p.0 new } in (
-      _,
-      node_retired w c p cost n node store did (with_set w.counts cost (length w.store.writes) (length store.writes)) _ at
-          (subst (λ o. NodeRetiresAt o w.setup p w.moment w.store store n node did) (sym stands) (new, h, refl)) refl refl,
+      node_kept w c p chore cost n node store o (with_set w.counts cost (length w.store.writes) (length store.writes)) _ at
+          (subst (λ u. NodeKeepsAt u chore w.setup p w.moment w.store store n node o) (sym stands) (new, h, refl)) refl refl,
     )
 can_go w (way.routes q p) cost (a, at, new, store, o, h) = (_, query_routed w q p cost a new store o at h)
 can_go w (way.serves q p s i) cost (a, at, piece, planned, (n, stands, (new, what, gives, notes))) =
@@ -148,6 +140,34 @@ can_go w (way.outside next) cost u = (next cost, refl)
 some_there : {X : Type 0} (o : Option X) → is_some o ≡ true → (x : X) × (o ≡ Some x)
 some_there None e = absurd (cc)
 some_there (Some x) e = (x, refl)
+
+-- what is under way for a partition can make its next step
+upkeep_can : (w : State) (p : Partition) (chore : Chore) (u : Upkeep) → IsReadyFor chore w.setup w.store.writes p u
+    → (new : Upkeep) × (store : Told) × (o : Outcome) × UpkeepSteps chore w.setup p w.moment w.store store u new o
+upkeep_can w p Repair u ready =
+    let r = begun w.setup p u.repair in
+    let x = repair_gives w.store r w.moment r.stage ready.0 in (
+      record u { repair = going_on x.0.repair },
+      (repair_at w.store r w.moment r.stage).told,
+      told.Repaired x.0.step,
+      (x.0.step, (x.0.repair, steps_told w.store r w.moment x.0 r.stage x.1, refl), refl),
+    )
+upkeep_can w p Retire u ready =
+    let r = retiring w.setup p u.retirement in
+    let x = retire_gives w.store r w.moment r.stage ready.1.0 in (
+      record u { retirement = retiring_on x.0.retire },
+      (retire_at w.store r w.moment r.stage).told,
+      told.Retired x.0.step,
+      (x.0.step, (x.0.retire, retire_steps_told w.store r w.moment x.0 r.stage x.1, refl), refl),
+    )
+
+chore_can : (w : State) (c : ControllerId) (p : Partition) (chore : Chore) (cost : Cost) → IsSafeWorld w → chore_due w c p chore ≡ Ok cost → CanGo w (way.keeps c p chore)
+chore_can w c p chore cost s due =
+    let k = chore_needs w c p chore cost s due in
+    let n = stands_at w.controllers c.0 k.0 in
+    let there = k.4 n.0 n.1 in
+    let u = stands_at n.0.upkeep p.0 there.0 in
+    let can = upkeep_can w p chore u.0 (there.1 u.0 u.1) in (n.0, n.1, (u.0, u.1, can.0, can.1, can.2, can.3))
 
 event_can : (w : State) (e : Event) (cost : Cost) → IsSafeWorld w → IsTyped w e → due_at w e ≡ Ok cost → CanGo w (way_of w e)
 event_can w (event.Lead c on) cost s typed due = let n = stands_at w.controllers c.0 (lead_needs w c cost due).0 in (n.0, n.1, tt)
@@ -224,42 +244,8 @@ event_can w (event.Download i p q) cost s typed due =
     let k = download_needs w i p q cost s due in
     let n = stands_at w.servers i.0 k.0 in
     let d = k.2 n.0 n.1 in (n.0, n.1, loads_can w.deep n.0 p q s.safe.past.once d.0 d.1)
-event_can w (event.Repair c p) cost s typed due =
-    let k = repair_needs w c p cost s due in
-    let n = stands_at w.controllers c.0 k.0 in
-    let there = k.3 n.0 n.1 in
-    let u = stands_at n.0.upkeep p.0 there.0 in
-    let r = begun w.setup p u.0.repair in
-    let x = repair_gives w.store r w.moment r.stage (there.1 u.0 u.1).0 in (
-      n.0,
-      n.1,
-      (
-        u.0,
-        u.1,
-        record u.0 { repair = going_on x.0.repair },
-        (repair_at w.store r w.moment r.stage).told,
-        x.0.step,
-        (x.0.repair, steps_told w.store r w.moment x.0 r.stage x.1, refl),
-      ),
-    )
-event_can w (event.Retain c p) cost s typed due =
-    let k = retain_needs w c p cost s due in
-    let n = stands_at w.controllers c.0 k.0 in
-    let there = k.2 n.0 n.1 in
-    let u = stands_at n.0.upkeep p.0 there.0 in
-    let r = retiring w.setup p u.0.retirement in
-    let x = retire_gives w.store r w.moment r.stage (there.1 u.0 u.1).1.0 in (
-      n.0,
-      n.1,
-      (
-        u.0,
-        u.1,
-        record u.0 { retirement = retiring_on x.0.retire },
-        (retire_at w.store r w.moment r.stage).told,
-        x.0.step,
-        (x.0.retire, retire_steps_told w.store r w.moment x.0 r.stage x.1, refl),
-      ),
-    )
+event_can w (event.Repair c p) cost s typed due = chore_can w c p Repair cost s due
+event_can w (event.Retain c p) cost s typed due = chore_can w c p Retire cost s due
 event_can w (event.Route q p) cost s typed due =
     let k = route_needs w q p cost s due in
     let o = stands_at w.queries q k.0 in

@@ -55,7 +55,9 @@ use Rattle.rt_state.specs.Finding.{request_at}
 use Rattle.rt_state.specs.Jobs.{JobSteps, JobStepsAt, noted_set, sets_in, sets_of_job, stepped_by}
 use Rattle.rt_state.specs.Messages.{after_step, Delivers, DeliversAt, handed}
 use Rattle.rt_state.specs.Nodes.{ControllerDoes, ControllerDoesAt}
-use Rattle.rt_state.specs.Repairs.{after_upkeep, begun, repair_in, Repairs, RepairsAt, retirement_in, Retires, RetiresAt, retiring, upkeep_at}
+use Rattle.rt_nodes.specs.declared.chore.Chore.{Chore}
+use Rattle.rt_nodes.specs.declared.chore.Chore.TheVariants.{Repair, Retire}
+use Rattle.rt_state.specs.Repairs.{after_upkeep, begun, Keeps, KeepsAt, retiring, upkeep_at, UpkeepSteps}
 use Rattle.rt_state.specs.Room.{no_cost}
 use Rattle.rt_state.specs.Start.{entries_at_first, start}
 use Rattle.rt_state.specs.declared.state.State.{State}
@@ -64,7 +66,7 @@ use Rattle.rt_store.specs.Answers.{Leaves}
 use Rattle.rt_store.specs.Contents.{starting_of}
 use Rattle.rt_store.specs.Meaning.{Told}
 use Rattle.rt_world.proofs.KeepsJobs.{set_counted}
-use Rattle.rt_world.specs.Step.{due_at, set_by_repair, set_by_retirement, way_of}
+use Rattle.rt_world.specs.Step.{due_at, set_by, set_by_repair, set_by_retirement, way_of}
 use Rattle.rt_world.specs.Way.{Goes, Way}
 use Rattle.rt_world.specs.Way as way
 
@@ -197,51 +199,43 @@ module _ (w : State) (c : ControllerId) (cost : Cost) (x : Next) where
   begun_sets p None = refl
   begun_sets p (Some r) = refl
 
-  mends_count : (p : Partition) → cost.uploads ≡ 0 → count_of (set_by_repair (repair_in (upkeep_at w c p)) w.moment) ≡ cost.stored → Repairs w c p cost x → Counting w x.0
-  mends_count p free price h = by_found (slice_get w.controllers c.0) (upkeep_at w c p) refl h
-    where
-      by_found : (o : Option ControllerNode) (u : Option Upkeep) → upkeep_at w c p ≡ u → RepairsAt o u w c p cost x → Counting w x.0
-      by_found None u at h = absurd h
-      by_found (Some n) None at h = absurd h
-      by_found (Some n) (Some old) at (new, store, did, (after, steps, put), is) =
-          let r = begun w.setup p old.repair in
-          let y : of_repair.Stepped = record { repair = after; step = did } in
-          let left = told_repair w.store store r w.moment y steps in
-          let own = begun_sets p old.repair ∙ ap (λ o. count_of (set_by_repair (repair_in o) w.moment)) (sym at) ∙ price in
-          subst (λ (z : Next). Counting w z.0) (sym is)
-          (upkeep_count p n new store free
-          (subst (λ (t : Told). Sets cost.stored w.store.writes t.writes) (sym left.0)
-          (subst (λ k. Sets k w.store.writes (repair_at w.store r w.moment r.stage).told.writes) own (repair_sets w.store r w.moment r.stage))))
-
   retiring_sets : (p : Partition) (o : Option Retirement)
       → let r = retiring w.setup p o in count_of (retirements.set_at r w.moment r.stage) ≡ count_of (set_by_retirement o w.moment)
   retiring_sets p None = refl
   retiring_sets p (Some r) = refl
 
-  drops_count : (p : Partition) → cost.uploads ≡ 0 → count_of (set_by_retirement (retirement_in (upkeep_at w c p)) w.moment) ≡ cost.stored → Retires w c p cost x
-      → Counting w x.0
-  drops_count p free price h = by_found (slice_get w.controllers c.0) (upkeep_at w c p) refl h
+  chore_sets : (p : Partition) (chore : Chore) (old new : Upkeep) (store : Told) (outcome : Outcome) → UpkeepSteps chore w.setup p w.moment w.store store old new outcome
+      → Sets (count_of (set_by chore (Some old) w.moment)) w.store.writes store.writes
+  chore_sets p Repair old new store outcome (did, (after, steps, put), tells) =
+      let r = begun w.setup p old.repair in
+      let y : of_repair.Stepped = record { repair = after; step = did } in
+      let left = told_repair w.store store r w.moment y steps in
+      subst (λ (t : Told). Sets (count_of (set_by Repair (Some old) w.moment)) w.store.writes t.writes) (sym left.0)
+      (subst (λ k. Sets k w.store.writes (repair_at w.store r w.moment r.stage).told.writes) (begun_sets p old.repair) (repair_sets w.store r w.moment r.stage))
+  chore_sets p Retire old new store outcome (did, (after, steps, put), tells) =
+      let r = retiring w.setup p old.retirement in
+      let y : of_retire.Stepped = record { retire = after; step = did } in
+      let left = told_retire w.store store r w.moment y steps in
+      subst (λ (t : Told). Sets (count_of (set_by Retire (Some old) w.moment)) w.store.writes t.writes) (sym left.0)
+      (subst (λ k. Sets k w.store.writes (retire_at w.store r w.moment r.stage).told.writes) (retiring_sets p old.retirement) (retire_sets w.store r w.moment r.stage))
+
+  chore_count : (p : Partition) (chore : Chore) → cost.uploads ≡ 0 → count_of (set_by chore (upkeep_at w c p) w.moment) ≡ cost.stored → Keeps w c p chore cost x → Counting w x.0
+  chore_count p chore free price h = by_found (slice_get w.controllers c.0) (upkeep_at w c p) refl h
     where
-      by_found : (o : Option ControllerNode) (u : Option Upkeep) → upkeep_at w c p ≡ u → RetiresAt o u w c p cost x → Counting w x.0
+      by_found : (o : Option ControllerNode) (u : Option Upkeep) → upkeep_at w c p ≡ u → KeepsAt o u w c p chore cost x → Counting w x.0
       by_found None u at h = absurd h
       by_found (Some n) None at h = absurd h
-      by_found (Some n) (Some old) at (new, store, did, (after, steps, put), is) =
-          let r = retiring w.setup p old.retirement in
-          let y : of_retire.Stepped = record { retire = after; step = did } in
-          let left = told_retire w.store store r w.moment y steps in
-          let own = retiring_sets p old.retirement ∙ ap (λ o. count_of (set_by_retirement (retirement_in o) w.moment)) (sym at) ∙ price in
-          subst (λ (z : Next). Counting w z.0) (sym is)
-          (upkeep_count p n new store free
-          (subst (λ (t : Told). Sets cost.stored w.store.writes t.writes) (sym left.0)
-          (subst (λ k. Sets k w.store.writes (retire_at w.store r w.moment r.stage).told.writes) own (retire_sets w.store r w.moment r.stage))))
+      by_found (Some n) (Some old) at (new, store, steps, is) =
+          let own = ap (λ o. count_of (set_by chore o w.moment)) (sym at) ∙ price in
+          subst (Counting w) (sym is)
+          (upkeep_count p n new store free (subst (λ k. Sets k w.store.writes store.writes) own (chore_sets p chore old new store x.1 steps)))
 
 -- ---- any way
 
 -- the entries that a controller's step sets are those that it costs
 abbrev Prices : State → Cost → Way → Type 0
 Prices w cost (way.works c j) = count_of (sets_of_job w c j) ≡ cost.stored
-Prices w cost (way.mends c p) = count_of (set_by_repair (repair_in (upkeep_at w c p)) w.moment) ≡ cost.stored
-Prices w cost (way.drops c p) = count_of (set_by_retirement (retirement_in (upkeep_at w c p)) w.moment) ≡ cost.stored
+Prices w cost (way.keeps c p chore) = count_of (set_by chore (upkeep_at w c p) w.moment) ≡ cost.stored
 Prices w cost other = Unit {0}
 
 prices : (w : State) (e : Event) (cost : Cost) → due_at w e ≡ Ok cost → Prices w cost (way_of w e)
@@ -254,8 +248,7 @@ goes_count : (w : State) (y : Way) (cost : Cost) (x : Next) → IsFree cost y �
 goes_count w (way.turns c does told) cost x free price left h = turns_count w c cost x does told free h
 goes_count w (way.handles m c) cost x free price left h = handles_count w c cost x m free h
 goes_count w (way.works c j) cost x free price left h = works_count w c cost x j free price h
-goes_count w (way.mends c p) cost x free price left h = mends_count w c cost x p free price h
-goes_count w (way.drops c p) cost x free price left h = drops_count w c cost x p free price h
+goes_count w (way.keeps c p chore) cost x free price left h = chore_count w c cost x p chore free price h
 goes_count w y cost x free price left h = spares_count w cost x.0 (spares w cost x y tt free left h)
 
 turn_counts : (w : State) (turn : Turn) (new : State) → TurnsTo w turn new → Counting w new

@@ -21,7 +21,8 @@ use Rattle.rt_state.specs.IsSafe.{past_of}
 use Rattle.rt_state.specs.IsSafeWorld.{IsSafeWorld}
 use Rattle.rt_state.specs.Messages.{Delivers, DeliversAt, handed}
 use Rattle.rt_state.specs.Nodes.{ControllerDoes, ControllerDoesAt}
-use Rattle.rt_state.specs.Repairs.{Repairs, RepairsAt, Retires, RetiresAt, upkeep_at}
+use Rattle.rt_nodes.specs.declared.chore.Chore.{Chore}
+use Rattle.rt_state.specs.Repairs.{Keeps, KeepsAt, upkeep_at}
 use Rattle.rt_nodes.specs.declared.controller_node.ControllerNode.{ControllerNode}
 use Rattle.rt_state.specs.declared.cost.Cost.{Cost}
 use Rattle.rt_state.specs.declared.state.State.{State}
@@ -91,21 +92,13 @@ pub believing_stays : (old : ControllerNode) (on : Bool) (n : ℕ) (j : Job) →
 believing_stays old true n j e = e
 believing_stays old false n j e = e
 
-pub repairs_stay : (w : State) (c d : ControllerId) (p : Partition) (n : ℕ) (j : Job) (cost : Cost) (x : Next) → Repairs w d p cost x → Stays w x.0 c n j
-repairs_stay w c d p n j cost x h = by_node (slice_get w.controllers d.0) (upkeep_at w d p) refl h
+pub chores_stay : (w : State) (c d : ControllerId) (p : Partition) (chore : Chore) (n : ℕ) (j : Job) (cost : Cost) (x : Next) → Keeps w d p chore cost x → Stays w x.0 c n j
+chores_stay w c d p chore n j cost x h = by_node (slice_get w.controllers d.0) (upkeep_at w d p) refl h
   where
-    by_node : (o : Option ControllerNode) (u : Option Upkeep) → slice_get w.controllers d.0 ≡ o → RepairsAt o u w d p cost x → Stays w x.0 c n j
+    by_node : (o : Option ControllerNode) (u : Option Upkeep) → slice_get w.controllers d.0 ≡ o → KeepsAt o u w d p chore cost x → Stays w x.0 c n j
     by_node None u at h = absurd h
     by_node (Some node) None at h = absurd h
-    by_node (Some node) (Some u) at (new, store, did, step, is) = slot_stays w x.0 c d n j node _ at (ap (λ (z : Next). z.0.controllers) is) (λ i e. e)
-
-pub retires_stay : (w : State) (c d : ControllerId) (p : Partition) (n : ℕ) (j : Job) (cost : Cost) (x : Next) → Retires w d p cost x → Stays w x.0 c n j
-retires_stay w c d p n j cost x h = by_node (slice_get w.controllers d.0) (upkeep_at w d p) refl h
-  where
-    by_node : (o : Option ControllerNode) (u : Option Upkeep) → slice_get w.controllers d.0 ≡ o → RetiresAt o u w d p cost x → Stays w x.0 c n j
-    by_node None u at h = absurd h
-    by_node (Some node) None at h = absurd h
-    by_node (Some node) (Some u) at (new, store, did, step, is) = slot_stays w x.0 c d n j node _ at (ap (λ (z : Next). z.0.controllers) is) (λ i e. e)
+    by_node (Some node) (Some u) at (new, store, step, is) = slot_stays w x.0 c d n j node _ at (ap (λ (z : State). z.controllers) is) (λ i e. e)
 
 pub handed_same : (w : State) (cost : Cost) (what : Handled) → (handed w cost what).0.controllers ≡ w.controllers
 handed_same w cost (handled.Reply r) = refl
@@ -136,6 +129,5 @@ pub goes_stays : (w : State) (y : Way) (c : ControllerId) (n : ℕ) (j : Job) (c
 goes_stays w (way.turns d does told) c n j cost x s keeps free left h = controller_does_stays w c d n j does told cost x keeps h
 goes_stays w (way.handles m d) c n j cost x s keeps free left h = delivers_stay w c d m n j cost x s h
 goes_stays w (way.works d m) c n j cost x s keeps free left h = absurd keeps
-goes_stays w (way.mends d p) c n j cost x s keeps free left h = repairs_stay w c d p n j cost x h
-goes_stays w (way.drops d p) c n j cost x s keeps free left h = retires_stay w c d p n j cost x h
+goes_stays w (way.keeps d p chore) c n j cost x s keeps free left h = chores_stay w c d p chore n j cost x h
 goes_stays w y c n j cost x s keeps free left h = controllers_stay w x.0 c n j (spares w cost x y tt free left h).controllers

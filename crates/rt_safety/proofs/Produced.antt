@@ -22,6 +22,7 @@ use Rattle.rt_model.specs.declared.piece.Piece.{Piece}
 use Rattle.rt_model.specs.declared.query.Query.{Query}
 use Rattle.rt_model.specs.declared.reply.Reply.{Reply}
 use Rattle.rt_model.specs.declared.request.Request.{Request}
+use Rattle.rt_nodes.proofs.Looks.{takes_looks}
 use Rattle.rt_nodes.specs.declared.controller_node.ControllerNode.{ControllerNode}
 use Rattle.rt_nodes.specs.declared.server_node.ServerNode.{ServerNode}
 use Rattle.rt_nodes.specs.declared.upkeep.Upkeep.{Upkeep}
@@ -35,7 +36,9 @@ use Rattle.rt_state.specs.Lives.{controller_crashed, controller_restarted}
 use Rattle.rt_state.specs.Messages.{Delivers, DeliversAt, Replies, RepliesAt, after_step, handed, node_took}
 use Rattle.rt_state.specs.Nodes.{ControllerDoes, ControllerDoesAt, ServerCalls, ServerCallsAt, ServerDoes, ServerDoesAt, ServerFetches, ServerFetchesAt, ServerGets, ServerGetsAt, ServerStep}
 use Rattle.rt_state.specs.Queries.{Answers, AnswersAt, Pieces, PiecesAt, PiecesOf, Routes, RoutesAt}
-use Rattle.rt_state.specs.Repairs.{Repairs, RepairsAt, Retires, RetiresAt, upkeep_at}
+use Rattle.rt_nodes.specs.declared.chore.Chore.{Chore}
+use Rattle.rt_nodes.specs.declared.chore.Chore.TheVariants.{Repair, Retire}
+use Rattle.rt_state.specs.Repairs.{Keeps, KeepsAt, upkeep_at}
 use Rattle.rt_state.specs.Replicas.{NodeConsumes}
 use Rattle.rt_state.specs.Requests.{AskStep, SendsAt, SendsRequest}
 use Rattle.rt_state.specs.declared.cost.Cost.{Cost}
@@ -43,7 +46,6 @@ use Rattle.rt_state.specs.declared.state.State.{State}
 use Rattle.rt_store.specs.Meaning.{Told}
 use Rattle.rt_stream.specs.Log.{Log}
 use Rattle.rt_world.proofs.KeepsQueries.{query_there, routed_query}
-use Rattle.rt_world.proofs.Quiet.{takes_quiet}
 use Rattle.rt_world.specs.Step.{Steps}
 
 -- ---- a turn that neither appends nor asks
@@ -132,21 +134,13 @@ job_steps w c j cost x h = by_node (slice_get w.controllers c.0) h
         same_as w x.0 _ (ap (λ (z : Next). z.0) is)
         (stepped_on (noted_set (after_step w c node new store deep) cost (length w.store.writes)) cost step step.reply)
 
-repairs : (w : State) (c : ControllerId) (p : Partition) (cost : Cost) (x : Next) → Repairs w c p cost x → Untouched w x.0
-repairs w c p cost x h = by_node (slice_get w.controllers c.0) (upkeep_at w c p) h
+chores : (w : State) (c : ControllerId) (p : Partition) (chore : Chore) (cost : Cost) (x : Next) → Keeps w c p chore cost x → Untouched w x.0
+chores w c p chore cost x h = by_node (slice_get w.controllers c.0) (upkeep_at w c p) h
   where
-    by_node : (o : Option ControllerNode) (u : Option Upkeep) → RepairsAt o u w c p cost x → Untouched w x.0
+    by_node : (o : Option ControllerNode) (u : Option Upkeep) → KeepsAt o u w c p chore cost x → Untouched w x.0
     by_node None u h = absurd h
     by_node (Some node) None h = absurd h
-    by_node (Some node) (Some u) (new, store, did, step, is) = same_as w x.0 _ (ap (λ (z : Next). z.0) is) (refl, refl)
-
-retires : (w : State) (c : ControllerId) (p : Partition) (cost : Cost) (x : Next) → Retires w c p cost x → Untouched w x.0
-retires w c p cost x h = by_node (slice_get w.controllers c.0) (upkeep_at w c p) h
-  where
-    by_node : (o : Option ControllerNode) (u : Option Upkeep) → RetiresAt o u w c p cost x → Untouched w x.0
-    by_node None u h = absurd h
-    by_node (Some node) None h = absurd h
-    by_node (Some node) (Some u) (new, store, did, step, is) = same_as w x.0 _ (ap (λ (z : Next). z.0) is) (refl, refl)
+    by_node (Some node) (Some u) (new, store, step, is) = same_as w x.0 _ is (refl, refl)
 
 -- ---- queries
 
@@ -288,7 +282,7 @@ module _ (w v : State) (o : Outcome) where
   event_leaves (event.Consume i p q max) (cost, due, h) =
       leaves_all (event.Consume i p q max)
       (server_fetches w i (NodeConsumes p q max w.moment) cost (v, o)
-      (λ old next log outcome step. takes_quiet w.log log old.server.table next.server.table p q max w.moment (Ok tt) step.0) h) refl (λ queries. refl)
+      (λ old next log outcome step. takes_looks w.log log old.server.table next.server.table p q max w.moment (Ok tt) step.0) h) refl (λ queries. refl)
   event_leaves (event.Force i p q) (cost, due, h) = leaves_all (event.Force i p q) (server_does w i _ cost (v, o) h) refl (λ queries. refl)
   event_leaves (event.Stop i p q) (cost, due, h) = leaves_all (event.Stop i p q) (server_does w i _ cost (v, o) h) refl (λ queries. refl)
   event_leaves (event.Build i p q) (cost, due, h) = leaves_all (event.Build i p q) (server_does w i _ cost (v, o) h) refl (λ queries. refl)
@@ -306,8 +300,8 @@ module _ (w v : State) (o : Outcome) where
   event_leaves (event.See i) (cost, due, h) = leaves_all (event.See i) (server_calls w i _ cost (v, o) h) refl (λ queries. refl)
   event_leaves (event.Transit i p q) (cost, due, h) = leaves_all (event.Transit i p q) (server_calls w i _ cost (v, o) h) refl (λ queries. refl)
   event_leaves (event.Download i p q) (cost, due, h) = leaves_all (event.Download i p q) (server_gets w i _ cost (v, o) h) refl (λ queries. refl)
-  event_leaves (event.Repair c p) (cost, due, h) = leaves_all (event.Repair c p) (repairs w c p cost (v, o) h) refl (λ queries. refl)
-  event_leaves (event.Retain c p) (cost, due, h) = leaves_all (event.Retain c p) (retires w c p cost (v, o) h) refl (λ queries. refl)
+  event_leaves (event.Repair c p) (cost, due, h) = leaves_all (event.Repair c p) (chores w c p Repair cost (v, o) h) refl (λ queries. refl)
+  event_leaves (event.Retain c p) (cost, due, h) = leaves_all (event.Retain c p) (chores w c p Retire cost (v, o) h) refl (λ queries. refl)
   event_leaves (event.FaultStore kept) (cost, due, h) = by (event.FaultStore kept) _ h (refl, refl) refl (λ queries. refl)
   event_leaves (event.FaultDeep kept) (cost, due, h) = by (event.FaultDeep kept) _ h (refl, refl) refl (λ queries. refl)
   event_leaves (event.ShowMeta p q) (cost, due, h) = by (event.ShowMeta p q) _ h (refl, refl) refl (λ queries. refl)

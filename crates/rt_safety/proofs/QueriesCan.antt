@@ -9,7 +9,6 @@ use Rattle.rt_base.specs.declared.fault.Fault.{Fault}
 use Rattle.rt_base.specs.declared.numbers.Offset.{Offset}
 use Rattle.rt_base.specs.declared.numbers.Partition.{Partition}
 use Rattle.rt_base.specs.declared.range.Range.{Range}
-use Rattle.rt_broker.proofs.Answered.{asked_served}
 use Rattle.rt_broker.proofs.Causes.{answer_caused}
 use Rattle.rt_broker.specs.Answering.{routed_of, rows_held, rows_in_log, served_of}
 use Rattle.rt_broker.specs.Asking.{Asking, is_answer_due, is_tried, unasked, with_route}
@@ -41,7 +40,7 @@ use Rattle.rt_model.specs.declared.setup.Setup.{Setup}
 use Rattle.rt_nodes.specs.Queries.{Gives, GivesIf, GivesUp, QueryRoutes}
 use Rattle.rt_nodes.specs.declared.server_node.ServerNode.{ServerNode}
 use Rattle.rt_safety.proofs.Alike.{alike_answered}
-use Rattle.rt_safety.proofs.Answering.{few_at, few_messages}
+use Rattle.rt_safety.proofs.Answering.{are_served, few_at}
 use Rattle.rt_safety.proofs.Given.{given_calls, list_given}
 use Rattle.rt_safety.proofs.Grouping.{groups_of_messages}
 use Rattle.rt_schema.specs.declared.row.Row.{Row}
@@ -60,7 +59,6 @@ use Rattle.rt_store.specs.Meaning.{Told}
 use Rattle.rt_store.specs.Memory.{means}
 use Rattle.rt_store.specs.declared.refused.StoreRefused.TheVariants as store
 use Rattle.rt_stream.specs.Log.{messages_of}
-use Rattle.rt_world.proofs.KeepsQueries.{asked_there}
 
 -- ---- a route
 
@@ -168,7 +166,7 @@ given answer = Ok answer
 -- the served groups hold the rows of the stream, and whatever else they hold is answered alike
 pub answers_can : (w : State) (q : ℕ) (a : Asking) → IsSafeWorld w → query_at w q ≡ Some a → is_answer_due a ≡ true → (answer : Answer) × IsAnswerOf a answer
 answers_can w q a s there due =
-    let served = asked_served w.setup (past_of w) a (asked_there w q a s.safe there).over s.safe.past (few_messages w s) in
+    let served = are_served w q a s there in
     let rows = rows_in_log w.setup.schema w.log a.query in
     let answer : Answer =
     record { ranges = named_ranges (routed_of a); missing = missing_of (routed_of a); rows = result_rows a.query (rows_held rows (served_of a)) } in (

@@ -18,7 +18,7 @@ use Rattle.rt_world.specs.Way as way
 use Rattle.rt_state.specs.declared.cost.Cost.{Cost}
 use Rattle.rt_state.specs.declared.state.State.{State}
 use Rattle.rt_safety.proofs.Adds.{Adds, adds_quietly, controller_does_adds}
-use Rattle.rt_safety.proofs.AddsEvents.{deliver_adds, job_adds, repair_adds, retain_adds}
+use Rattle.rt_safety.proofs.AddsEvents.{chore_adds, deliver_adds, job_adds}
 use Rattle.rt_safety.proofs.Spares.{spares, spares_add}
 use Rattle.rt_safety.proofs.Ways.{is_free, IsFree, Leaving, leaving}
 use Rattle.rt_world.proofs.KeepsClock.{passed_keeps}
@@ -30,8 +30,7 @@ goes_add : (w : State) (y : Way) (cost : Cost) (x : Next) → IsSafeWorld w → 
 goes_add w (way.turns c does told) cost x s free left h = controller_does_adds w c does told cost x h
 goes_add w (way.handles m c) cost x s free left h = deliver_adds w m c cost x s h
 goes_add w (way.works c j) cost x s free left h = job_adds w c j cost x s h
-goes_add w (way.mends c p) cost x s free left h = repair_adds w c p cost x s left h
-goes_add w (way.drops c p) cost x s free left h = retain_adds w c p cost x s left h
+goes_add w (way.keeps c p chore) cost x s free left h = chore_adds w c p chore cost x s left h
 goes_add w y cost x s free left h = spares_add w cost x.0 s (spares w cost x y tt free left h)
 
 steps_add : (w : State) (e : Event) (new : State) (outcome : Outcome) → IsSafeWorld w → Steps w e new (Ok outcome) → Adds w new

@@ -44,8 +44,7 @@ abbrev pub IsSpare : Way → Type 0
 IsSpare (way.turns c does told) = ⊥
 IsSpare (way.handles m c) = ⊥
 IsSpare (way.works c j) = ⊥
-IsSpare (way.mends c p) = ⊥
-IsSpare (way.drops c p) = ⊥
+IsSpare (way.keeps c p chore) = ⊥
 IsSpare other = Unit {0}
 
 -- the setup and the controllers stay, a server's incarnation is written at most, and a request sent; and all that there was is

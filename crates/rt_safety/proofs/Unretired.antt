@@ -61,14 +61,17 @@ use Rattle.rt_state.specs.Jobs.{JobSteps, JobStepsAt, noted_set, stepped_by}
 use Rattle.rt_state.specs.Messages.{Delivers, DeliversAt, after_step, handed}
 use Rattle.rt_state.specs.Nodes.{ControllerDoes, ControllerDoesAt, with_controller}
 use Rattle.rt_state.specs.Places.{AreAt}
-use Rattle.rt_state.specs.Repairs.{Repairs, RepairsAt, Retires, RetiresAt, after_upkeep, begun, upkeep_at, upkeep_in}
+use Rattle.rt_nodes.specs.declared.chore.Chore.{Chore}
+use Rattle.rt_nodes.specs.declared.chore.Chore.TheVariants.{Repair, Retire}
+use Rattle.rt_state.specs.Repairs.{Keeps, KeepsAt, after_upkeep, begun, upkeep_at, upkeep_in, UpkeepSteps}
+use Rattle.rt_world.proofs.KeepsRepairs.{Begins}
 use Rattle.rt_state.specs.Room.{counted}
 use Rattle.rt_state.specs.Start.{fresh_controller, fresh_controllers, fresh_upkeep, start}
 use Rattle.rt_world.specs.Step.{Steps, way_of}
 use Rattle.rt_world.specs.Way.{Goes, Way}
 use Rattle.rt_world.specs.Way as way
 use Rattle.rt_safety.proofs.Spares.{Spares, spares}
-use Rattle.rt_safety.proofs.Ways.{BeginsRetained, is_free, IsFree, Leaving, leaving}
+use Rattle.rt_safety.proofs.Ways.{BeginsRightly, is_free, IsFree, Leaving, leaving}
 use Rattle.rt_nodes.specs.declared.controller_node.ControllerNode.{ControllerNode}
 use Rattle.rt_state.specs.declared.cost.Cost.{Cost}
 use Rattle.rt_state.specs.declared.state.State.{State}
@@ -285,36 +288,35 @@ own_upkeep : (w : State) (c : ControllerId) (p : Partition) (n : ControllerNode)
     → upkeep_at w c p ≡ Some u → u.retirement ≡ None
 own_upkeep w c p n u k there at = k.controllers c.0 n there p.0 u (ap (λ o. upkeep_in o p) (sym there) ∙ at)
 
-repair_stays : (w : State) (c : ControllerId) (p : Partition) (cost : Cost) (x : Next) → IsUnretired w → Repairs w c p cost x → IsUnretired x.0
-repair_stays w c p cost x k h = by_found (slice_get w.controllers c.0) refl (upkeep_at w c p) refl h
-  where
-    by_found : (o : Option ControllerNode) → slice_get w.controllers c.0 ≡ o → (u : Option Upkeep) → upkeep_at w c p ≡ u → RepairsAt o u w c p cost x → IsUnretired x.0
-    by_found None there u at h = absurd h
-    by_found (Some n) there None at h = absurd h
-    by_found (Some n) there (Some old) at (new, store, did, (after, steps, put), is) =
-        let r = begun w.setup p old.repair in
-        let y : of_repair.Stepped = record { repair = after; step = did } in
-        let left = told_repair w.store store r w.moment y steps in
-        let kept : new.retirement ≡ None = ap (λ (u : Upkeep). u.retirement) put ∙ own_upkeep w c p n old k there at in
-        subst (λ (z : Next). IsUnretired z.0) (sym is)
-        (on w (after_upkeep w c p n new store cost) k refl
-        (at_set RetiresNone w.controllers c.0 (record n { upkeep = slice_set n.upkeep p.0 new })
-        (at_set KeepsAll n.upkeep p.0 new kept (k.controllers c.0 n there)) k.controllers)
-        (subst (λ (t : Told). NoneGone t.writes) (sym left.0) (repair_none w.store r w.moment r.stage k.all)))
-
 no_retention : (o : Option ℕ) → o ≡ None → IsSome o → ⊥
 no_retention None none kept = absurd (cc)
 no_retention (Some keep) none kept = none-some keep (sym none)
 
--- no retirement begins, and so none goes on
-retain_stays : (w : State) (c : ControllerId) (p : Partition) (cost : Cost) (x : Next) → IsUnretired w → BeginsRetained w c p → Retires w c p cost x → IsUnretired x.0
-retain_stays w c p cost x k begins h = by_found (slice_get w.controllers c.0) refl (upkeep_at w c p) refl h
+-- a repair leaves what is retired, and no retirement begins, so that none goes on
+chore_leaves_all : (w : State) (p : Partition) (chore : Chore) (old new : Upkeep) (store : Told) (o : Outcome) → IsUnretired w → old.retirement ≡ None → Begins chore w old
+    → UpkeepSteps chore w.setup p w.moment w.store store old new o → (new.retirement ≡ None) × NoneGone store.writes
+chore_leaves_all w p Repair old new store o k none begins (did, (after, steps, put), tells) =
+    let r = begun w.setup p old.repair in
+    let y : of_repair.Stepped = record { repair = after; step = did } in
+    let left = told_repair w.store store r w.moment y steps in
+    (ap (λ (u : Upkeep). u.retirement) put ∙ none, subst (λ (t : Told). NoneGone t.writes) (sym left.0) (repair_none w.store r w.moment r.stage k.all))
+chore_leaves_all w p Retire old new store o k none begins steps =
+    absurd (no_retention w.setup.retention k.retention (begins (subst IsNone (sym none) refl)))
+
+chore_stays : (w : State) (c : ControllerId) (p : Partition) (chore : Chore) (cost : Cost) (x : Next) → IsUnretired w → BeginsRightly chore w c p → Keeps w c p chore cost x
+    → IsUnretired x.0
+chore_stays w c p chore cost x k begins h = by_found (slice_get w.controllers c.0) refl (upkeep_at w c p) refl h
   where
-    by_found : (o : Option ControllerNode) → slice_get w.controllers c.0 ≡ o → (u : Option Upkeep) → upkeep_at w c p ≡ u → RetiresAt o u w c p cost x → IsUnretired x.0
+    by_found : (o : Option ControllerNode) → slice_get w.controllers c.0 ≡ o → (u : Option Upkeep) → upkeep_at w c p ≡ u → KeepsAt o u w c p chore cost x → IsUnretired x.0
     by_found None there u at h = absurd h
     by_found (Some n) there None at h = absurd h
-    by_found (Some n) there (Some old) at h =
-        absurd (no_retention w.setup.retention k.retention (begins old at (subst IsNone (sym (own_upkeep w c p n old k there at)) refl)))
+    by_found (Some n) there (Some old) at (new, store, steps, is) =
+        let left = chore_leaves_all w p chore old new store x.1 k (own_upkeep w c p n old k there at) (begins old at) steps in
+        subst IsUnretired (sym is)
+        (on w (after_upkeep w c p n new store cost) k refl
+        (at_set RetiresNone w.controllers c.0 (record n { upkeep = slice_set n.upkeep p.0 new })
+        (at_set KeepsAll n.upkeep p.0 new left.0 (k.controllers c.0 n there)) k.controllers)
+        left.1)
 
 -- ---- an event
 
@@ -322,8 +324,7 @@ goes_stay : (w : State) (y : Way) (cost : Cost) (x : Next) → IsUnretired w →
 goes_stay w (way.turns c does told) cost x k free left h = controller_stays w c does told cost x k left h
 goes_stay w (way.handles m c) cost x k free left h = deliver_stays w m c cost x k h
 goes_stay w (way.works c j) cost x k free left h = job_stays w c j cost x k h
-goes_stay w (way.mends c p) cost x k free left h = repair_stays w c p cost x k h
-goes_stay w (way.drops c p) cost x k free left h = retain_stays w c p cost x k left.1 h
+goes_stay w (way.keeps c p chore) cost x k free left h = chore_stays w c p chore cost x k left.1 h
 goes_stay w y cost x k free left h = spares_stay w cost x.0 k (spares w cost x y tt free left h)
 
 steps_stay : (w : State) (e : Event) (new : State) (o : Outcome) → IsUnretired w → Steps w e new (Ok o) → IsUnretired new

@@ -1,6 +1,5 @@
 -- What the way of an event leaves as it was, where the event is due in a safe world.
 use Rattle.std.proofs.Common.{◌≡◌, ℕ, ◌+◌, ◌<◌, Bool, true, false, cond, List, Option, Some, None, Result, Ok, Err, inl, refl, sym, ◌∙◌, ap, subst, arith, length, slice_get}
-use Rattle.std.specs.Prelude.{IsNone, IsSome}
 use Rattle.std.proofs.lemmas.Bool.{ltb-true}
 use Rattle.rt_base.specs.declared.numbers.ControllerId.{ControllerId}
 use Rattle.rt_base.specs.declared.numbers.Instance.{Instance}
@@ -32,6 +31,7 @@ use Rattle.rt_events.specs.declared.event.Event.TheVariants as event
 use Rattle.rt_events.specs.declared.outcome.Outcome.{Outcome}
 use Rattle.rt_events.specs.declared.refusal.Refusal.TheVariants.{NoSuchNode}
 use Rattle.rt_model.specs.Lawful.{bump}
+use Rattle.rt_nodes.proofs.Looks.{downloads_looks, sees_looks, takes_looks, transits_looks, unput, unwritten}
 use Rattle.rt_nodes.specs.declared.controller_node.ControllerNode.{ControllerNode}
 use Rattle.rt_nodes.specs.declared.server_node.ServerNode.{ServerNode}
 use Rattle.rt_nodes.specs.declared.upkeep.Upkeep.{Upkeep}
@@ -44,7 +44,9 @@ use Rattle.rt_state.specs.Finding.{has_partition}
 use Rattle.rt_state.specs.IsSafe.{past_of}
 use Rattle.rt_state.specs.IsSafeWorld.{IsSafeWorld}
 use Rattle.rt_state.specs.Queries.{asked}
-use Rattle.rt_state.specs.Repairs.{find_upkeep, repair_by, repair_in, retain_by, retirement_in, upkeep_at}
+use Rattle.rt_nodes.specs.declared.chore.Chore.{Chore}
+use Rattle.rt_nodes.specs.declared.chore.Chore.TheVariants.{Repair, Retire}
+use Rattle.rt_state.specs.Repairs.{chore_by, chore_due, find_upkeep, upkeep_at}
 use Rattle.rt_state.specs.Room.{message_cost, priced}
 use Rattle.rt_state.specs.Shows.{ideal_shown, meta_shown}
 use Rattle.rt_state.specs.Stream.{produce_due, produced}
@@ -54,8 +56,7 @@ use Rattle.rt_store.specs.Answers.{Leaves}
 use Rattle.rt_store.specs.Meaning.{Told}
 use Rattle.rt_stream.proofs.Growth.{log_message}
 use Rattle.rt_stream.specs.Log.{Log, with_message}
-use Rattle.rt_world.proofs.KeepsRepairs.{found_within, retention_set}
-use Rattle.rt_world.proofs.Quiet.{downloads_quiet, sees_quiet, takes_quiet, transits_quiet}
+use Rattle.rt_world.proofs.KeepsRepairs.{Begins, chore_begins, found_within}
 use Rattle.rt_world.proofs.Stores.{wrote_told}
 use Rattle.rt_world.specs.Step.{cost_of, due_at, size_of, way_of}
 use Rattle.rt_world.specs.Way.{Way}
@@ -79,9 +80,9 @@ pub record IsOutside (w : State) (cost : Cost) (new : State) : Type 0 where
   pub counts : Counts w cost new
   pub past : IsSafeWorld w → Grows (past_of w) (past_of new)
 
--- a retirement of the partition begins only where a retention is set
-abbrev pub BeginsRetained : State → ControllerId → Partition → Type 0
-BeginsRetained w c p = (old : Upkeep) → upkeep_at w c p ≡ Some old → IsNone old.retirement → IsSome w.setup.retention
+-- a chore of the partition begins only where it may
+abbrev pub BeginsRightly : Chore → State → ControllerId → Partition → Type 0
+BeginsRightly chore w c p = (old : Upkeep) → upkeep_at w c p ≡ Some old → Begins chore w old
 
 -- a look leaves what it looks at; a server writes its own incarnation at most; a controller alone leaves what is under way for
 -- partitions, and one that works for a partition works for one that is there
@@ -91,8 +92,7 @@ Leaving w cost (way.gets i does) = (old new : ServerNode) (deep : ToldDeep) (o :
 Leaving w cost (way.calls i does) =
     (old new : ServerNode) (store : Told) (o : Outcome) → does w.store store old new o → (j : Instance) × Leaves (bump j) w.store.writes store.writes
 Leaving w cost (way.turns c does told) = (n : ControllerNode) → (does n).upkeep ≡ n.upkeep
-Leaving w cost (way.mends c p) = p.0 < w.setup.partitions
-Leaving w cost (way.drops c p) = (p.0 < w.setup.partitions) × BeginsRetained w c p
+Leaving w cost (way.keeps c p chore) = (p.0 < w.setup.partitions) × BeginsRightly chore w c p
 Leaving w cost (way.outside next) = IsOutside w cost (next cost).0
 Leaving w cost (way.sends i asks) =
     (old new : ServerNode) (request : Request) → slice_get w.servers i.0 ≡ Some old → asks old new request → bytes_of request.kind ≡ cost.uploads
@@ -184,12 +184,18 @@ is_free w (event.Report i p q) cost due = tt
 is_free w (event.Extend i p q millis) cost due = tt
 is_free w e cost due = ap (λ (c : Cost). c.uploads) (sym (cost_is w e cost due))
 
+chore_leaves : (w : State) (c : ControllerId) (p : Partition) (chore : Chore) (cost : Cost) → chore_due w c p chore ≡ Ok cost
+    → (p.0 < w.setup.partitions) × BeginsRightly chore w c p
+chore_leaves w c p chore cost due =
+    let found = then_passed (find_upkeep w c p) (chore_by chore w c (upkeep_at w c p)) cost due in
+    (found_within w c p found.0, λ old at. chore_begins w c p chore old cost at found.1)
+
 pub leaving : (w : State) (e : Event) (cost : Cost) → due_at w e ≡ Ok cost → Leaving w cost (way_of w e)
 leaving w (event.Produce p message) cost due = produce_leaves w p message cost due
 leaving w (event.Tick millis) cost due = quiet w cost (ticked w millis cost).0 refl refl refl (record { events = refl; uploads = refl; stored = refl })
 leaving w (event.Lead c on) cost due = λ n. refl
 leaving w (event.Consume i p q max) cost due =
-    λ old new log o step. takes_quiet w.log log old.server.table new.server.table p q max w.moment (Ok tt) step.0
+    λ old new log o step. takes_looks w.log log old.server.table new.server.table p q max w.moment (Ok tt) step.0
 leaving w (event.Report i p q) cost due =
     λ old new request at asks.
     through_bytes size_of (new.server.numbers ≡ old.server.numbers) (λ r next answer. Requests r next old.server.numbers new.server.numbers answer) old.server.table
@@ -205,16 +211,13 @@ leaving w (event.RestartServer i) cost due =
     λ old new store o step.
     (old.server.numbers.instance, wrote_told (λ v. v.version) w.store store (bump old.server.numbers.instance) step.1.0 step.1.1)
 leaving w (event.RestartController c) cost due = λ n. refl
-leaving w (event.See i) cost due = λ old new store o step. (i, inl (sees_quiet w.store store old.server new.server step.0 step.1))
+leaving w (event.See i) cost due = λ old new store o step. (i, inl (unwritten w.store store (sees_looks w.store store old.server new.server step.0 step.1)))
 leaving w (event.Transit i p q) cost due =
-    λ old new store o step. (i, inl (transits_quiet old.server new.server p q w.moment step.0 w.store store step.1))
+    λ old new store o step. (i, inl (unwritten w.store store (transits_looks w.store store old.server new.server p q w.moment step.0 step.1)))
 leaving w (event.Download i p q) cost due =
-    λ old new deep o step. downloads_quiet w.deep deep old.server.setup.schema p q step.0 old.server.table new.server.table step.1
-leaving w (event.Repair c p) cost due =
-    found_within w c p (then_passed (find_upkeep w c p) (repair_by w c (repair_in (upkeep_at w c p))) cost due).0
-leaving w (event.Retain c p) cost due =
-    let found = then_passed (find_upkeep w c p) (retain_by w c (retirement_in (upkeep_at w c p))) cost due in
-    (found_within w c p found.0, λ old at. retention_set w c p old cost at found.1)
+    λ old new deep o step. unput w.deep deep (downloads_looks w.deep deep old.server.setup.schema old.server.table new.server.table p q step.0 step.1)
+leaving w (event.Repair c p) cost due = chore_leaves w c p Repair cost due
+leaving w (event.Retain c p) cost due = chore_leaves w c p Retire cost due
 leaving w (event.FaultStore kept) cost due = quiet w cost (store_faulted w kept cost).0 refl refl refl (record { events = refl; uploads = refl; stored = refl })
 leaving w (event.FaultDeep kept) cost due = quiet w cost (deep_faulted w kept cost).0 refl refl refl (record { events = refl; uploads = refl; stored = refl })
 leaving w (event.Ask query) cost due = quiet w cost (asked w query cost).0 refl refl refl (record { events = refl; uploads = refl; stored = refl })
