@@ -1,18 +1,16 @@
 -- The answer of a query in a safe world is the one that the world shows.
-use Rattle.std.proofs.Common.{◌≡◌, ℕ, ◌<◌, Option, Some, None, refl, sym, ◌∙◌, ap, subst, slice_get, arith}
+use Rattle.std.proofs.Common.{◌≡◌, ℕ, Option, Some, None, refl, sym, ◌∙◌, ap, subst}
 use Rattle.std.proofs.lemmas.List.{map-set}
-use Rattle.std.proofs.lemmas.Option.{none-some, same_Some}
-use Rattle.rt_broker.specs.Answering.{AreHeld, AreServed, rows_held, rows_in_log, served_of}
+use Rattle.std.proofs.lemmas.Option.{same_Some}
+use Rattle.rt_broker.specs.Answering.{AreHeld, rows_held, rows_in_log, served_of}
 use Rattle.rt_broker.specs.Asking.{Asking}
-use Rattle.rt_broker.specs.IsAsked.{IsAsked, messages_in}
-use Rattle.rt_broker.proofs.Answered.{asked_served}
 use Rattle.rt_events.specs.declared.outcome.Outcome.TheVariants as told
 use Rattle.rt_model.specs.Aggregate.{result_rows}
 use Rattle.rt_model.specs.RightAnswer.{missing_of, named_ranges}
 use Rattle.rt_model.specs.declared.answer.Answer.{Answer}
+use Rattle.rt_safety.proofs.Answering.{are_served}
 use Rattle.rt_state.specs.Applying.{Next}
-use Rattle.rt_state.specs.Finding.{query_at, query_in}
-use Rattle.rt_state.specs.IsSafe.{IsQueryAt, past_of}
+use Rattle.rt_state.specs.Finding.{query_at}
 use Rattle.rt_state.specs.IsSafeWorld.{IsSafeWorld}
 use Rattle.rt_state.specs.Queries.{Answers, AnswersAt, IsAnswerOf, closed}
 use Rattle.rt_state.specs.Room.{counted, with_query_closed}
@@ -28,20 +26,6 @@ use Rattle.rt_exact.proofs.Queries.{of_range, routed_of_shown, rows_shown}
 use Rattle.rt_exact.proofs.Showing.{Commutes, next_shown}
 
 -- ---- the answer
-
-few_messages : (w : State) → IsSafeWorld w → messages_in w.log < 9223372036854775808
-few_messages w s = omega (arith, s.few.appended, s.few.events)
-
--- what lasts of a query that is there
-query_lasts : (w : State) (q : ℕ) (a : Asking) → IsSafeWorld w → query_at w q ≡ Some a → IsAsked w.setup (past_of w) a
-query_lasts w q a s there = by_slot (slice_get w.queries q) refl there
-  where
-    by_slot : (o : Option (Option Asking)) → slice_get w.queries q ≡ o → query_in o ≡ Some a → IsAsked w.setup (past_of w) a
-    by_slot None at e = absurd (none-some a e)
-    by_slot (Some asked) at e = (subst (IsQueryAt w.setup (past_of w) q) e (s.safe.queries q asked at)).over
-
-are_served : (w : State) (q : ℕ) (a : Asking) → IsSafeWorld w → query_at w q ≡ Some a → AreServed w.setup.schema w.log a
-are_served w q a s there = asked_served w.setup (past_of w) a (query_lasts w q a s there) s.safe.past (few_messages w s)
 
 is_answer : (w : State) (q : ℕ) (a : Asking) (answer : Answer) → IsSafeWorld w → query_at w q ≡ Some a → IsAnswerOf a answer → answer ≡ answer_of w a
 is_answer w q a answer s there k =

@@ -22,7 +22,8 @@ use Rattle.rt_state.specs.Jobs.{JobSteps, JobStepsAt, noted_set, stepped_by}
 use Rattle.rt_state.specs.Messages.{Delivers, DeliversAt, Replies, RepliesAt, after_step, handed, node_took}
 use Rattle.rt_state.specs.Nodes.{ControllerDoes, ControllerDoesAt, ServerCalls, ServerCallsAt, ServerDoes, ServerDoesAt, ServerFetches, ServerFetchesAt, ServerGets, ServerGetsAt, ServerStep}
 use Rattle.rt_state.specs.Queries.{asked}
-use Rattle.rt_state.specs.Repairs.{Repairs, RepairsAt, Retires, RetiresAt, upkeep_at}
+use Rattle.rt_nodes.specs.declared.chore.Chore.{Chore}
+use Rattle.rt_state.specs.Repairs.{Keeps, KeepsAt, upkeep_at}
 use Rattle.rt_state.specs.Requests.{AskStep, SendsAt, SendsRequest}
 use Rattle.rt_state.specs.Room.{Due, counted}
 use Rattle.rt_nodes.specs.declared.controller_node.ControllerNode.{ControllerNode}
@@ -133,21 +134,13 @@ jobs_shown w c j cost x h = by_node (slice_get w.controllers c.0) h
       ap (λ z. next_shown z) is ∙ stepped_shown (noted_set (after_step w c node a s d) cost (length w.store.writes)) cost step step.reply,
     )
 
-pub repairs_shown : (w : State) (c : ControllerId) (p : Partition) → Commutes (Repairs w c p) (Repairs (shown w) c p)
-repairs_shown w c p cost x h = by_node (slice_get w.controllers c.0) (upkeep_at w c p) h
+pub chores_shown : (w : State) (c : ControllerId) (p : Partition) (chore : Chore) → Commutes (Keeps w c p chore) (Keeps (shown w) c p chore)
+chores_shown w c p chore cost x h = by_node (slice_get w.controllers c.0) (upkeep_at w c p) h
   where
-    by_node : (o : Option ControllerNode) (v : Option Upkeep) → RepairsAt o v w c p cost x → RepairsAt o v (shown w) c p cost (next_shown x)
+    by_node : (o : Option ControllerNode) (v : Option Upkeep) → KeepsAt o v w c p chore cost x → KeepsAt o v (shown w) c p chore cost (next_shown x)
     by_node None v h = absurd h
     by_node (Some node) None h = absurd h
-    by_node (Some node) (Some old) (new, s, did, steps, is) = (new, s, did, steps, ap (λ z. next_shown z) is)
-
-pub retires_shown : (w : State) (c : ControllerId) (p : Partition) → Commutes (Retires w c p) (Retires (shown w) c p)
-retires_shown w c p cost x h = by_node (slice_get w.controllers c.0) (upkeep_at w c p) h
-  where
-    by_node : (o : Option ControllerNode) (v : Option Upkeep) → RetiresAt o v w c p cost x → RetiresAt o v (shown w) c p cost (next_shown x)
-    by_node None v h = absurd h
-    by_node (Some node) None h = absurd h
-    by_node (Some node) (Some old) (new, s, did, steps, is) = (new, s, did, steps, ap (λ z. next_shown z) is)
+    by_node (Some node) (Some old) (new, s, steps, is) = (new, s, steps, ap (λ z. shown z) is)
 
 -- ---- a query is asked
 

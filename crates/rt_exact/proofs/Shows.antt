@@ -10,7 +10,7 @@ use Rattle.rt_world.specs.Step.{due_at, way_of}
 use Rattle.rt_world.specs.Way.{Goes, Way}
 use Rattle.rt_world.specs.Way as way
 use Rattle.rt_exact.proofs.Answers.{AnswerShows, answer_shows_one}
-use Rattle.rt_exact.proofs.Controllers.{delivers_one, jobs_one, repairs_one, retires_one}
+use Rattle.rt_exact.proofs.Controllers.{delivers_one, jobs_one, chores_one}
 use Rattle.rt_exact.proofs.Ones.{applied_one, comes_one, controller_does_one, IsOne, IsOneAsk, IsOneCall, IsOneStep, server_asks_one, server_calls_one, server_does_one, server_fetches_one, server_gets_one}
 use Rattle.rt_exact.proofs.Pieces.{PieceShows, piece_shows_one}
 use Rattle.rt_exact.proofs.Replicas.{builds_one, consumes_one, extends_one, forces_one, reports_one, stops_one}
@@ -44,8 +44,7 @@ way_one u (way.takes m) one = replies_one u m
 way_one u (way.turns c does outcome) one = controller_does_one u c does outcome
 way_one u (way.handles m c) one = delivers_one u m c
 way_one u (way.works c j) one = jobs_one u c j
-way_one u (way.mends c p) one = repairs_one u c p
-way_one u (way.drops c p) one = retires_one u c p
+way_one u (way.keeps c p chore) one = chores_one u c p chore
 way_one u (way.routes q p) one = routes_one u q p
 way_one u (way.serves q p s i) one = piece_shows_one u q p s i
 way_one u (way.closes q) one = answer_shows_one u q

@@ -20,7 +20,7 @@ use Rattle.rt_exact.proofs.Ones.{same_price}
 use Rattle.rt_exact.proofs.Pieces.{pieces_shown}
 use Rattle.rt_exact.proofs.Routing.{routes_shown}
 use Rattle.rt_exact.proofs.Shows.{GoesShown, Shows, shows_one}
-use Rattle.rt_exact.proofs.Showing.{applied_shown, asked_shown, comes_shown, Commutes, controller_does_shown, delivers_shown, jobs_shown, repairs_shown, replies_shown, retires_shown, server_asks_shown, server_calls_shown, server_does_shown, server_fetches_shown, server_gets_shown}
+use Rattle.rt_exact.proofs.Showing.{applied_shown, asked_shown, chores_shown, comes_shown, Commutes, controller_does_shown, delivers_shown, jobs_shown, replies_shown, server_asks_shown, server_calls_shown, server_does_shown, server_fetches_shown, server_gets_shown}
 
 -- ---- in a safe world
 
@@ -39,8 +39,7 @@ way_shown w (way.takes m) node safe = replies_shown w m
 way_shown w (way.turns c does outcome) node safe = controller_does_shown w c does outcome
 way_shown w (way.handles m c) node safe = delivers_shown w m c
 way_shown w (way.works c j) node safe = jobs_shown w c j
-way_shown w (way.mends c p) node safe = repairs_shown w c p
-way_shown w (way.drops c p) node safe = retires_shown w c p
+way_shown w (way.keeps c p chore) node safe = chores_shown w c p chore
 way_shown w (way.routes q p) node safe = routes_shown w q p
 way_shown w (way.serves q p s i) node safe = pieces_shown w q p s i
 way_shown w (way.closes q) node safe = answers_shown w q safe
