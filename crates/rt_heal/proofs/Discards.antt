@@ -48,6 +48,7 @@ use Rattle.rt_model.specs.declared.sent.Sent.TheVariants as sent
 use Rattle.rt_model.specs.declared.setup.Setup.{Setup}
 use Rattle.rt_model.specs.declared.status.Status.{Status}
 use Rattle.rt_model.specs.declared.status.Status.TheVariants.{InProgress, Done, Abandoned}
+use Rattle.rt_nodes.specs.declared.chore.Chore.{Chore}
 use Rattle.rt_nodes.specs.declared.controller_node.ControllerNode.{ControllerNode}
 use Rattle.rt_nodes.specs.declared.upkeep.Upkeep.{Upkeep}
 use Rattle.rt_past.proofs.Ways.{no_reply, one_reply}
@@ -64,7 +65,7 @@ use Rattle.rt_state.specs.IsSafeWorld.{IsSafeWorld}
 use Rattle.rt_state.specs.Jobs.{JobSteps, JobStepsAt, noted_set, stepped_by}
 use Rattle.rt_state.specs.Messages.{after_step, handed, Delivers, DeliversAt}
 use Rattle.rt_state.specs.Nodes.{ControllerDoes, ControllerDoesAt}
-use Rattle.rt_state.specs.Repairs.{upkeep_at, Repairs, RepairsAt, Retires, RetiresAt}
+use Rattle.rt_state.specs.Repairs.{upkeep_at, Keeps, KeepsAt}
 use Rattle.rt_state.specs.Start.{start}
 use Rattle.rt_state.specs.declared.cost.Cost.{Cost}
 use Rattle.rt_state.specs.declared.state.State.{State}
@@ -278,28 +279,19 @@ module _ (w : State) (x : Next) (s : IsSafeWorld w) (front : IsFront w.store.wri
           stepped_ended (noted_set (after_step w c n new store deep) cost (length w.store.writes)) cost step step.reply refl is
           (none n new store deep step k)
 
-  repair_ended : (c : ControllerId) (p : Partition) (cost : Cost) → Repairs w c p cost x → AllEnd
-  repair_ended c p cost h = by_found (slice_get w.controllers c.0) (upkeep_at w c p) h
+  chore_ended : (c : ControllerId) (p : Partition) (chore : Chore) (cost : Cost) → Keeps w c p chore cost x → AllEnd
+  chore_ended c p chore cost h = by_found (slice_get w.controllers c.0) (upkeep_at w c p) h
     where
-      by_found : (o : Option ControllerNode) (u : Option Upkeep) → RepairsAt o u w c p cost x → AllEnd
+      by_found : (o : Option ControllerNode) (u : Option Upkeep) → KeepsAt o u w c p chore cost x → AllEnd
       by_found None u h = absurd h
       by_found (Some n) None h = absurd h
-      by_found (Some n) (Some old) (new, store, did, steps, is) = still_ended (ap (λ (z : Next). z.0.sent) is)
-
-  retain_ended : (c : ControllerId) (p : Partition) (cost : Cost) → Retires w c p cost x → AllEnd
-  retain_ended c p cost h = by_found (slice_get w.controllers c.0) (upkeep_at w c p) h
-    where
-      by_found : (o : Option ControllerNode) (u : Option Upkeep) → RetiresAt o u w c p cost x → AllEnd
-      by_found None u h = absurd h
-      by_found (Some n) None h = absurd h
-      by_found (Some n) (Some old) (new, store, did, steps, is) = still_ended (ap (λ (z : Next). z.0.sent) is)
+      by_found (Some n) (Some old) (new, store, steps, is) = still_ended (ap (λ (z : State). z.sent) is)
 
   goes_ended : (y : Way) (cost : Cost) → IsFree cost y → Leaving w cost y → Goes w y cost x → AllEnd
   goes_ended (way.turns c does told) cost free left h = controller_ended c does told cost h
   goes_ended (way.handles m c) cost free left h = deliver_ended m c cost h
   goes_ended (way.works c j) cost free left h = job_ended c j cost h
-  goes_ended (way.mends c p) cost free left h = repair_ended c p cost h
-  goes_ended (way.drops c p) cost free left h = retain_ended c p cost h
+  goes_ended (way.keeps c p chore) cost free left h = chore_ended c p chore cost h
   goes_ended y cost free left h = spares_ended cost (spares w cost x y tt free left h)
 
 -- ---- a run

@@ -32,6 +32,7 @@ use Rattle.rt_model.specs.Entries.{entries_of}
 use Rattle.rt_model.specs.declared.ideal_state.Mode.{Mode}
 use Rattle.rt_model.specs.declared.ideal_state.Mode.TheVariants.{Consuming, Online, Offline}
 use Rattle.rt_msgs.specs.Numbered.{Numbered}
+use Rattle.rt_nodes.proofs.Looks.{takes_looks}
 use Rattle.rt_nodes.specs.Replicas.{NodeBuilds, NodeConsumes}
 use Rattle.rt_nodes.specs.declared.server_node.ServerNode.{ServerNode}
 use Rattle.rt_server.specs.Calls.{targets_of, ThroughAt}
@@ -48,7 +49,6 @@ use Rattle.rt_state.specs.declared.state.State.{State}
 use Rattle.rt_store.specs.Meaning.{Told}
 use Rattle.rt_stream.specs.Feed.{log_meaning}
 use Rattle.rt_stream.specs.Log.{end_of, messages_of, Log}
-use Rattle.rt_world.proofs.Quiet.{takes_quiet}
 use Rattle.rt_world.specs.Reading.{is_ready_at, is_ready_by}
 use Rattle.rt_world.specs.Step.{Steps}
 use Rattle.rt_heal.specs.AtRest.{AreUp}
@@ -292,7 +292,7 @@ module _ (w y : State) (i : Instance) (p : Partition) (q : Sequence) (o : Outcom
           → LeavesLess w y
       by_node None there h = absurd h
       by_node (Some n) there (new, log, step, is) =
-          let same : log ≡ w.log = takes_quiet w.log log n.server.table new.server.table p q max w.moment (Ok tt) step.0 in
+          let same : log ≡ w.log = takes_looks w.log log n.server.table new.server.table p q max w.moment (Ok tt) step.0 in
           let c = called_by (log_meaning log ≡ log_meaning w.log) (λ r next answer. Consumes (log_meaning w.log) (log_meaning log) r next max w.moment answer)
           n.server.table new.server.table p q (replica_of n.server.table p q) refl step.0 in
           let r = c.replica in

@@ -26,7 +26,9 @@ use Rattle.rt_model.specs.declared.reply.Reply.{Reply}
 use Rattle.rt_model.specs.declared.request.Request.{Request}
 use Rattle.rt_model.specs.declared.setup.Setup.{Setup}
 use Rattle.rt_model.proofs.Starts.{start_undone}
-use Rattle.rt_nodes.specs.Repairs.{begun, retiring}
+use Rattle.rt_nodes.specs.Repairs.{begun, retiring, UpkeepSteps}
+use Rattle.rt_nodes.specs.declared.chore.Chore.{Chore}
+use Rattle.rt_nodes.specs.declared.chore.Chore.TheVariants.{Repair, Retire}
 use Rattle.rt_nodes.specs.declared.controller_node.ControllerNode.{ControllerNode}
 use Rattle.rt_nodes.specs.declared.upkeep.Upkeep.{Upkeep}
 use Rattle.rt_repair.specs.IsRepair.{Remembers}
@@ -51,7 +53,7 @@ use Rattle.rt_state.specs.IsSafeWorld.{IsSafeWorld}
 use Rattle.rt_state.specs.Jobs.{JobSteps, JobStepsAt, noted_set, stepped_by}
 use Rattle.rt_state.specs.Messages.{Delivers, DeliversAt, after_step, handed}
 use Rattle.rt_state.specs.Nodes.{ControllerDoes, ControllerDoesAt}
-use Rattle.rt_state.specs.Repairs.{Repairs, RepairsAt, Retires, RetiresAt, upkeep_at}
+use Rattle.rt_state.specs.Repairs.{Keeps, KeepsAt, after_upkeep, upkeep_at}
 use Rattle.rt_state.specs.Start.{start}
 use Rattle.rt_state.specs.declared.cost.Cost.{Cost}
 use Rattle.rt_state.specs.declared.state.State.{State}
@@ -187,52 +189,49 @@ module _ (w : State) (x : Next) (s : IsSafeWorld w) (after : IsSafeWorld x.0) (t
             written = ap (λ (v : Next). v.0.store.writes) is ∙ ends.written ∙ ap (λ (t : Told). t.writes) left.store;
           }) (job_turns w n.controller s (s.safe.controllers c.0 n there).over (job_place n.controller.jobs j))
 
-  -- ---- repairs and retirements
+  -- ---- what a controller does for a partition
 
-  repair_turned : (c : ControllerId) (p : Partition) (cost : Cost) → p.0 < w.setup.partitions → Repairs w c p cost x → IsTurned x.0
-  repair_turned c p cost within h = by_found (slice_get w.controllers c.0) refl (upkeep_at w c p) refl h
+  repair_remembered : (p : Partition) → p.0 < w.setup.partitions → (o : Option Repairing) → IfSome o (IsRepairOver w.setup (past_of w))
+      → ((begun w.setup p o).partition.0 < w.setup.partitions)
+      × Remembers (starting_of w.setup) w.store.writes (begun w.setup p o).partition (begun w.setup p o).stage
+  repair_remembered p within None k = (within, tt)
+  repair_remembered p within (Some r) k = (k.within, k.remembers)
+
+  retire_remembered : (p : Partition) → (o : Option Retirement) → IfSome o (IsRetireOver w.setup (past_of w))
+      → retires.Remembers (starting_of w.setup) w.store.writes (retiring w.setup p o).partition (retiring w.setup p o).stage
+  retire_remembered p None k = tt
+  retire_remembered p (Some r) k = k.remembers
+
+  chore_turned : (c : ControllerId) (p : Partition) (chore : Chore) (cost : Cost) → p.0 < w.setup.partitions → Keeps w c p chore cost x → IsTurned x.0
+  chore_turned c p chore cost within h = by_found (slice_get w.controllers c.0) refl (upkeep_at w c p) refl h
     where
-      remembered : (o : Option Repairing) → IfSome o (IsRepairOver w.setup (past_of w))
-          → ((begun w.setup p o).partition.0 < w.setup.partitions)
-          × Remembers (starting_of w.setup) w.store.writes (begun w.setup p o).partition (begun w.setup p o).stage
-      remembered None k = (within, tt)
-      remembered (Some r) k = (k.within, k.remembers)
-
-      by_found : (o : Option ControllerNode) → slice_get w.controllers c.0 ≡ o → (u : Option Upkeep) → upkeep_at w c p ≡ u → RepairsAt o u w c p cost x → IsTurned x.0
-      by_found None there u at h = absurd h
-      by_found (Some n) there None at h = absurd h
-      by_found (Some n) there (Some old) at (new, store, did, (after_it, steps, put), is) =
+      by_chore : (n : ControllerNode) (old new : Upkeep) → slice_get w.controllers c.0 ≡ Some n → upkeep_at w c p ≡ Some old → (store : Told) (chore : Chore)
+          → UpkeepSteps chore w.setup p w.moment w.store store old new x.1 → x.0 ≡ after_upkeep w c p n new store cost → IsTurned x.0
+      by_chore n old new there at store Repair (did, (after_it, steps, put), told) is =
           let r = begun w.setup p old.repair in
           let y : of_repair.Stepped = record { repair = after_it; step = did } in
           let left = told_repair w.store store r w.moment y steps in
-          let k = remembered old.repair (upkeep_there w c p n old s.safe there at).repair in
+          let k = repair_remembered p within old.repair (upkeep_there w c p n old s.safe there at).repair in
           write_by w x.0 s after turned (repair_write r w.moment)
           (record {
-            setup = ap (λ (z : Next). z.0.setup) is;
-            written = ap (λ (z : Next). z.0.store.writes) is ∙ ap (λ (t : Told). t.writes) left.0 ∙ repair_leaves w.store r w.moment;
+            setup = ap (λ (z : State). z.setup) is;
+            written = ap (λ (z : State). z.store.writes) is ∙ ap (λ (t : Told). t.writes) left.0 ∙ repair_leaves w.store r w.moment;
           }) (repair_turns (starting_of w.setup) w.store.writes r w.moment r.stage s.safe.past.lawful k.0 k.1)
-
-  retain_turned : (c : ControllerId) (p : Partition) (cost : Cost) → Retires w c p cost x → IsTurned x.0
-  retain_turned c p cost h = by_found (slice_get w.controllers c.0) refl (upkeep_at w c p) refl h
-    where
-      remembered : (o : Option Retirement) → IfSome o (IsRetireOver w.setup (past_of w))
-          → retires.Remembers (starting_of w.setup) w.store.writes (retiring w.setup p o).partition (retiring w.setup p o).stage
-      remembered None k = tt
-      remembered (Some r) k = k.remembers
-
-      by_found : (o : Option ControllerNode) → slice_get w.controllers c.0 ≡ o → (u : Option Upkeep) → upkeep_at w c p ≡ u → RetiresAt o u w c p cost x → IsTurned x.0
-      by_found None there u at h = absurd h
-      by_found (Some n) there None at h = absurd h
-      by_found (Some n) there (Some old) at (new, store, did, (after_it, steps, put), is) =
+      by_chore n old new there at store Retire (did, (after_it, steps, put), told) is =
           let r = retiring w.setup p old.retirement in
           let y : of_retire.Stepped = record { retire = after_it; step = did } in
           let left = told_retire w.store store r w.moment y steps in
-          let k = remembered old.retirement (upkeep_there w c p n old s.safe there at).retirement in
+          let k = retire_remembered p old.retirement (upkeep_there w c p n old s.safe there at).retirement in
           write_by w x.0 s after turned (retire_write r w.moment)
           (record {
-            setup = ap (λ (z : Next). z.0.setup) is;
-            written = ap (λ (z : Next). z.0.store.writes) is ∙ ap (λ (t : Told). t.writes) left.0 ∙ retire_leaves w.store r w.moment;
+            setup = ap (λ (z : State). z.setup) is;
+            written = ap (λ (z : State). z.store.writes) is ∙ ap (λ (t : Told). t.writes) left.0 ∙ retire_leaves w.store r w.moment;
           }) (retire_turns (starting_of w.setup) w.store.writes r w.moment r.stage k)
+
+      by_found : (o : Option ControllerNode) → slice_get w.controllers c.0 ≡ o → (u : Option Upkeep) → upkeep_at w c p ≡ u → KeepsAt o u w c p chore cost x → IsTurned x.0
+      by_found None there u at h = absurd h
+      by_found (Some n) there None at h = absurd h
+      by_found (Some n) there (Some old) at (new, store, steps, is) = by_chore n old new there at store chore steps is
 
   -- ---- an event
 
@@ -240,8 +239,7 @@ module _ (w : State) (x : Next) (s : IsSafeWorld w) (after : IsSafeWorld x.0) (t
   goes_turned (way.turns c does told) cost free left h = controller_turned c does told cost h
   goes_turned (way.handles m c) cost free left h = deliver_turned m c cost h
   goes_turned (way.works c j) cost free left h = job_turned c j cost h
-  goes_turned (way.mends c p) cost free left h = repair_turned c p cost left h
-  goes_turned (way.drops c p) cost free left h = retain_turned c p cost h
+  goes_turned (way.keeps c p chore) cost free left h = chore_turned c p chore cost left.0 h
   goes_turned y cost free left h = spares_by w x.0 s after turned cost (spares w cost x y tt free left h)
 
 -- ---- a run

@@ -18,6 +18,7 @@ use Rattle.rt_model.specs.declared.piece.Piece.{Piece}
 use Rattle.rt_model.specs.declared.reply.Reply.{Reply}
 use Rattle.rt_model.specs.declared.request.Request.{Request}
 use Rattle.rt_model.specs.declared.setup.Setup.{Setup}
+use Rattle.rt_nodes.specs.declared.chore.Chore.{Chore}
 use Rattle.rt_nodes.specs.declared.controller_node.ControllerNode.{ControllerNode}
 use Rattle.rt_nodes.specs.declared.server_node.ServerNode.{ServerNode}
 use Rattle.rt_nodes.specs.declared.upkeep.Upkeep.{Upkeep}
@@ -33,7 +34,7 @@ use Rattle.rt_state.specs.Messages.{Delivers, DeliversAt, Replies, RepliesAt, af
 use Rattle.rt_state.specs.Nodes.{ControllerDoes, ControllerDoesAt, ServerCalls, ServerCallsAt, ServerDoes, ServerDoesAt, ServerFetches, ServerFetchesAt, ServerGets, ServerGetsAt, ServerStep}
 use Rattle.rt_state.specs.Places.{AreAt}
 use Rattle.rt_state.specs.Queries.{Answers, AnswersAt, Pieces, PiecesAt, PiecesOf, Routes, RoutesAt}
-use Rattle.rt_state.specs.Repairs.{Repairs, RepairsAt, Retires, RetiresAt, upkeep_at}
+use Rattle.rt_state.specs.Repairs.{Keeps as KeepsChore, KeepsAt, upkeep_at}
 use Rattle.rt_state.specs.Requests.{AskStep, SendsAt, SendsRequest}
 use Rattle.rt_state.specs.Start.{fresh_server, fresh_servers, start}
 use Rattle.rt_state.specs.declared.cost.Cost.{Cost}
@@ -208,21 +209,13 @@ module _ (w : State) (s : IsSafeWorld w) (few : HaveFewRows w) where
       by (Some node) (new, step, store, deep, works, is) =
           stays_next x _ is (on (noted_set (after_step w c node new store deep) cost (length w.store.writes)) step step.reply refl)
 
-  mends_few : (c : ControllerId) (p : Partition) (cost : Cost) (x : Next) → Repairs w c p cost x → HaveFewRows x.0
-  mends_few c p cost x h = by (slice_get w.controllers c.0) (upkeep_at w c p) h
+  chores_few : (c : ControllerId) (p : Partition) (chore : Chore) (cost : Cost) (x : Next) → KeepsChore w c p chore cost x → HaveFewRows x.0
+  chores_few c p chore cost x h = by (slice_get w.controllers c.0) (upkeep_at w c p) h
     where
-      by : (o : Option ControllerNode) (u : Option Upkeep) → RepairsAt o u w c p cost x → HaveFewRows x.0
+      by : (o : Option ControllerNode) (u : Option Upkeep) → KeepsAt o u w c p chore cost x → HaveFewRows x.0
       by None u h = absurd h
       by (Some node) None h = absurd h
-      by (Some node) (Some u) (new, store, did, step, is) = stays_next x _ is refl
-
-  drops_few : (c : ControllerId) (p : Partition) (cost : Cost) (x : Next) → Retires w c p cost x → HaveFewRows x.0
-  drops_few c p cost x h = by (slice_get w.controllers c.0) (upkeep_at w c p) h
-    where
-      by : (o : Option ControllerNode) (u : Option Upkeep) → RetiresAt o u w c p cost x → HaveFewRows x.0
-      by None u h = absurd h
-      by (Some node) None h = absurd h
-      by (Some node) (Some u) (new, store, did, step, is) = stays_next x _ is refl
+      by (Some node) (Some u) (new, store, step, is) = stays x.0 (ap (λ (z : State). z.servers) is)
 
   routes_few : (q : ℕ) (p : Partition) (cost : Cost) (x : Next) → Routes w q p cost x → HaveFewRows x.0
   routes_few q p cost x h = by (query_at w q) h
@@ -260,8 +253,7 @@ module _ (w : State) (s : IsSafeWorld w) (few : HaveFewRows w) where
   goes_few (way.turns c does outcome) cost x k h = turns_few c does outcome cost x h
   goes_few (way.handles m c) cost x k h = handles_few m c cost x h
   goes_few (way.works c j) cost x k h = works_few c j cost x h
-  goes_few (way.mends c p) cost x k h = mends_few c p cost x h
-  goes_few (way.drops c p) cost x k h = drops_few c p cost x h
+  goes_few (way.keeps c p chore) cost x k h = chores_few c p chore cost x h
   goes_few (way.routes q p) cost x k h = routes_few q p cost x h
   goes_few (way.serves q p t i) cost x k h = serves_few q p t i cost x h
   goes_few (way.closes q) cost x k h = closes_few q cost x h
