@@ -19,7 +19,7 @@ use Rattle.rt_model.specs.declared.query_parts.Item.TheVariants as item
 use Rattle.rt_model.specs.Aggregate.{sum_of, least_of, greatest_of, lesser, greater}
 use Rattle.rt_model.specs.Match.{value_in}
 use Rattle.rt_model.specs.Values.{number_of, value_cmp}
-use Rattle.rt_agg.specs.declared.accumulator.Accumulator.TheVariants.{Count, Sum, Min, Max}
+use Rattle.rt_agg.specs.Accumulator.{Count, Sum, Min, Max}
 use Rattle.rt_agg.specs.declared.scalar.Scalar.{Scalar}
 use Rattle.rt_agg.specs.declared.scalar.Scalar.TheVariants as scalar
 use Rattle.rt_agg.specs.Accumulators.{known_of, least_with, greatest_with, merged, all_merged, with_row, with_scalar}

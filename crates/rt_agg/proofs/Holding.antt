@@ -18,9 +18,9 @@ use Rattle.rt_model.specs.declared.query_parts.Item.{Item}
 use Rattle.rt_model.specs.declared.query_parts.OrderKey.{OrderKey}
 use Rattle.rt_model.specs.Aggregate.{key_of, has_key, group_of}
 use Rattle.rt_model.specs.Values.{key_cmp}
-use Rattle.rt_agg.specs.declared.accumulator.Accumulator.{Accumulator}
+use Rattle.rt_agg.specs.Accumulator.{Accumulator}
 use Rattle.rt_agg.specs.Accumulators.{known_of, all_known_of, all_merged, with_row, ordering_items}
-use Rattle.rt_agg.specs.Grouped.{Grouped, same_key, keys_in_order, known_at, makes_group, known_if, FitsItem, Fits, Holds, first_entries, AddsUnder, Merges}
+use Rattle.rt_agg.specs.Grouped.{Grouped, same_key, keys_in_order, known_at, makes_group, known_if, FitsItem, Fits, Holds, first_known, AddsUnder, Merges}
 use Rattle.rt_agg.specs.Merging.{started_at, merged_at}
 use Rattle.rt_agg.proofs.Appends.{both_fit, items_append, all_with_row, all_first_row}
 use Rattle.rt_agg.proofs.Orders.{key_total, key_same}
@@ -222,20 +222,20 @@ module _ (query : Query) (rs : List Row) (g new : Grouped) (h : Holds query rs g
 
   -- the first row of a group
   pub row_new : known_at g its_key ≡ None
-      → new.groups ≡ g.groups ++ (its_key, map (with_row row) (all_known_of query.groups query.items query.order its_key [])) ∷ []
+      → ((q : List Value) → known_at new q ≡ lookup (same_key q) (g.groups ++ (its_key, map (with_row row) (all_known_of query.groups query.items query.order its_key [])) ∷ []))
       → (q : List Value) → known_at new q ≡ both (known_at g q) (known_if query (row ∷ []) q)
   row_new none added q = by (same_key its_key q) refl
     where
       here : known_at new its_key ≡ both (known_at g its_key) (known_if query (row ∷ []) its_key)
       here =
           let itself = keys_equiv.refl its_key in
-          ap (lookup (same_key its_key)) added ∙ lookup_new (same_key its_key) g.groups its_key _ itself none
+          added its_key ∙ lookup_new (same_key its_key) g.groups its_key _ itself none
           ∙ ap Some (all_first_row query.groups its_key row (slots query) fits)
           ∙ sym (λ j. both (none j) (one_here its_key true itself j))
 
       by : (b : Bool) → same_key its_key q ≡ b → known_at new q ≡ both (known_at g q) (known_if query (row ∷ []) q)
       by true e = subst (λ k. known_at new k ≡ both (known_at g k) (known_if query (row ∷ []) k)) (same_is its_key q e) here
-      by false e = other_group q e (ap (lookup (same_key q)) added ∙ lookup_last (same_key q) g.groups its_key _ (keys_equiv.symm q its_key ∙ e))
+      by false e = other_group q e (added q ∙ lookup_last (same_key q) g.groups its_key _ (keys_equiv.symm q its_key ∙ e))
 
 -- ---- before the first row
 
@@ -243,27 +243,6 @@ pub holds_none : (query : Query) (g : Grouped) → g.columns ≡ query.groups �
     → ((key : List Value) → known_at g key ≡ known_if query [] key) → IsDistinct same_key (keys_in_order g) → Holds query [] g
 holds_none query g columns items order limit known apart =
     record { columns = columns; items = items; order = order; limit = limit; apart = apart; known = known; fits = tt; few = omega arith }
-
-first_known : (columns : List ColumnAt) (items : List Item) (order : List OrderKey) (key : List Value)
-    → lookup (same_key key) (first_entries columns items order) ≡ (if makes_group columns [] key then Some (all_known_of columns items order key (group_of columns key [])) else None)
-first_known [] items order key = by (same_key key []) refl
-  where
-    by : (b : Bool) → same_key key [] ≡ b → cond b (Some (all_known_of [] items order [] [])) None ≡ cond b (Some (all_known_of [] items order key [])) None
-    by true e = ap (λ k. Some (all_known_of [] items order k [])) (sym (same_is key [] e))
-    by false e = refl
-first_known (c ∷ cs) items order key = refl
-
-first_apart : (columns : List ColumnAt) (items : List Item) (order : List OrderKey) → IsDistinct same_key (keys_of (first_entries columns items order))
-unfolding IsDistinct
-first_apart [] items order = (tt, tt)
-first_apart (c ∷ cs) items order = tt
-
-pub holds_start : (query : Query) (g : Grouped) → g.columns ≡ query.groups → g.items ≡ query.items → g.order ≡ query.order → g.limit ≡ query.limit
-    → g.groups ≡ first_entries query.groups query.items query.order → Holds query [] g
-holds_start query g columns items order limit groups =
-    holds_none query g columns items order limit
-    (λ key. ap (lookup (same_key key)) groups ∙ first_known query.groups query.items query.order key)
-    (subst (λ es. IsDistinct same_key (keys_of es)) (sym groups) (first_apart query.groups query.items query.order))
 
 -- ---- the calls
 
@@ -277,19 +256,46 @@ adds_known key row g new known there now columns items order limit apart query r
     (λ q. now q ∙ (λ j. cond (same_key (is j) q) (Some (map (with_row row) known)) (known_at g q))))
 
 pub adds_new : (key : List Value) (row : Row) (g new : Grouped) → known_at g key ≡ None
-    → new.groups ≡ g.groups ++ (key, map (with_row row) (all_known_of g.columns g.items g.order key [])) ∷ []
+    → ((q : List Value) → known_at new q ≡ lookup (same_key q) (g.groups ++ (key, map (with_row row) (all_known_of g.columns g.items g.order key [])) ∷ []))
     → new.columns ≡ g.columns → new.items ≡ g.items → new.order ≡ g.order → new.limit ≡ g.limit → IsDistinct same_key (keys_in_order new)
     → AddsUnder key row g new
 adds_new key row g new none added columns items order limit apart query rows h is fits few =
     holds_both query rows (row ∷ []) g new h (fits, tt) (omega (arith, few)) columns items order limit apart
     (row_new query rows g new h row fits (ap (known_at g) (sym is) ∙ none)
-    (added ∙ (λ j. g.groups ++ (is j, map (with_row row) (all_known_of (h.columns j) (h.items j) (h.order j) (is j) [])) ∷ [])))
+    (λ q. added q ∙ (λ j. lookup (same_key q) (g.groups ++ (is j, map (with_row row) (all_known_of (h.columns j) (h.items j) (h.order j) (is j) [])) ∷ []))))
 
--- keys that were there keep their places
-pub keys_stay_last : (es : Entries) (k : List Value) (v : List Accumulator) (i : ℕ) (key : List Value) → slice_get (keys_of es) i ≡ Some key → slice_get (keys_of (es ++ (k, v) ∷ [])) i ≡ Some key
-keys_stay_last [] k v i key e = absurd (omega (arith, slice_get_within {A = List Value} [] i key e))
-keys_stay_last (e ∷ es) k v zero key at = at
-keys_stay_last (e ∷ es) k v (suc i) key at = keys_stay_last es k v i key at
+last_changed : (es : Entries) (key q : List Value) (v w : List Accumulator) → lookup (same_key key) es ≡ None
+    → cond (same_key key q) (Some w) (lookup (same_key q) (es ++ (key, v) ∷ [])) ≡ lookup (same_key q) (es ++ (key, w) ∷ [])
+last_changed es key q v w none = by (same_key key q) refl
+  where
+    by : (b : Bool) → same_key key q ≡ b → cond (same_key key q) (Some w) (lookup (same_key q) (es ++ (key, v) ∷ [])) ≡ lookup (same_key q) (es ++ (key, w) ∷ [])
+    by true f =
+        (λ j. cond (f j) (Some w) (lookup (same_key q) (es ++ (key, v) ∷ [])))
+        ∙ sym (lookup_new (same_key q) es key w (keys_equiv.symm q key ∙ f) (ap (λ k. lookup (same_key k) es) (sym (same_is key q f)) ∙ none))
+    by false f =
+        (λ j. cond (f j) (Some w) (lookup (same_key q) (es ++ (key, v) ∷ [])))
+        ∙ lookup_last (same_key q) es key v (keys_equiv.symm q key ∙ f) ∙ sym (lookup_last (same_key q) es key w (keys_equiv.symm q key ∙ f))
+
+-- a row is added to a group that was started
+pub adds_started : (key : List Value) (row : Row) (g new : Grouped) (mid : Entries) → known_at g key ≡ None
+    → mid ≡ g.groups ++ (key, all_known_of g.columns g.items g.order key []) ∷ []
+    → ((q : List Value) → known_at new q ≡ cond (same_key key q) (Some (map (with_row row) (all_known_of g.columns g.items g.order key []))) (lookup (same_key q) mid))
+    → new.columns ≡ g.columns → new.items ≡ g.items → new.order ≡ g.order → new.limit ≡ g.limit → IsDistinct same_key (keys_in_order new)
+    → AddsUnder key row g new
+adds_started key row g new mid none started now columns items order limit apart =
+    let start = all_known_of g.columns g.items g.order key [] in
+    adds_new key row g new none
+    (λ q. now q ∙ ap (λ (es : Entries). cond (same_key key q) (Some (map (with_row row) start)) (lookup (same_key q) es)) started
+    ∙ last_changed g.groups key q start (map (with_row row) start) none)
+    columns items order limit apart
+
+pub entry_last : (es : Entries) (k : List Value) (v : List Accumulator) → slice_get (es ++ (k, v) ∷ []) (length es) ≡ Some (k, v)
+entry_last [] k v = refl
+entry_last (e ∷ es) k v = entry_last es k v
+
+pub keys_last : (es : Entries) (k : List Value) (v : List Accumulator) → keys_of (es ++ (k, v) ∷ []) ≡ keys_of es ++ k ∷ []
+keys_last [] k v = refl
+keys_last (e ∷ es) k v = ap (λ ks. e.0 ∷ ks) (keys_last es k v)
 
 pub key_last : (es : Entries) (k : List Value) (v : List Accumulator) → slice_get (keys_of (es ++ (k, v) ∷ [])) (length es) ≡ Some k
 key_last [] k v = refl
@@ -308,13 +314,23 @@ known_of_entry es i k v apart at = lookup-from_Contains keys_equiv k v es apart 
 
 -- ---- before the first row, by whether there is a column
 
-pub first_some : (columns : List ColumnAt) (items : List Item) (order : List OrderKey) (c : ColumnAt) → slice_get columns 0 ≡ Some c → first_entries columns items order ≡ []
-first_some [] items order c at = absurd (true≢false (sym (ap is_some at)))
-first_some (d ∷ cs) items order c at = refl
+pub first_some : (columns : List ColumnAt) (items : List Item) (order : List OrderKey) (key : List Value) (es : Entries) → (columns ≡ [] → ⊥) → es ≡ []
+    → lookup (same_key key) es ≡ first_known columns items order key
+first_some [] items order key es some none = absurd (some refl)
+first_some (c ∷ cs) items order key es some none = ap (lookup (same_key key)) none
 
-pub first_none : (columns : List ColumnAt) (items : List Item) (order : List OrderKey) → slice_get columns 0 ≡ None → first_entries columns items order ≡ ([], all_known_of columns items order [] []) ∷ []
-first_none [] items order none = refl
-first_none (d ∷ cs) items order none = absurd (true≢false (ap is_some none))
+pub first_none : (columns : List ColumnAt) (items : List Item) (order : List OrderKey) (key : List Value) (es : Entries) → columns ≡ [] → es ≡ ([], all_known_of columns items order [] []) ∷ []
+    → lookup (same_key key) es ≡ first_known columns items order key
+first_none [] items order key es none is = ap (lookup (same_key key)) is ∙ by (same_key key []) refl
+  where
+    by : (b : Bool) → same_key key [] ≡ b → cond b (Some (all_known_of [] items order [] [])) None ≡ (if b then Some (all_known_of [] items order key []) else None)
+    by true e = ap (λ k. Some (all_known_of [] items order k [])) (sym (same_is key [] e))
+    by false e = refl
+first_none (c ∷ cs) items order key es none is = absurd (true≢false (ap is_cons none))
+  where
+    is_cons : List ColumnAt → Bool
+    is_cons [] = false
+    is_cons (d ∷ ds) = true
 
 -- what is known after a merge, where the groups that only the others had were started first
 pub merges_from : (g other new : Grouped) → new.columns ≡ g.columns → new.items ≡ g.items → new.order ≡ g.order → new.limit ≡ g.limit → IsDistinct same_key (keys_in_order new)

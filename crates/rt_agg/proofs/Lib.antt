@@ -1,12 +1,18 @@
-mod Appends
-mod Finishing
+pub mod Apart
+pub mod Appends
+mod Entries
+pub mod Finishing
 mod First
 pub mod Fitting
-mod Holding
+mod Holders
+pub mod Holding
 mod Merges
-mod Orders
+pub mod Orders
 mod Places
-mod Results
+pub mod Results
+mod Showing
+mod Slots
 mod Sorting
 mod Tables
+mod Tabling
 mod Walks

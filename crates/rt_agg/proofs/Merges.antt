@@ -5,7 +5,7 @@ use Rattle.std.specs.List.{AllByRecursion, IsDistinct}
 use Rattle.std.specs.Map.{lookup, keys_of}
 use Rattle.std.proofs.lemmas.Option.{slice_get_within}
 use Rattle.rt_schema.specs.declared.value.Value.{Value}
-use Rattle.rt_agg.specs.declared.accumulator.Accumulator.{Accumulator}
+use Rattle.rt_agg.specs.Accumulator.{Accumulator}
 use Rattle.rt_agg.specs.Accumulators.{all_merged}
 use Rattle.rt_agg.specs.Grouped.{same_key}
 use Rattle.rt_agg.specs.Merging.{started_at, merged_at}
@@ -160,3 +160,13 @@ started_new start es now q key none added = by (same_key q key) refl
     by false e =
         ap (lookup (same_key q)) added ∙ lookup_last (same_key q) es key (start key) e ∙ started_none (start q) (lookup (same_key q) es)
         ∙ sym (λ j. started_at (start q) (lookup (same_key q) es) (e j))
+
+-- entries before one more
+pub front_whole : (es : Entries) → take (length es) es ≡ es
+front_whole [] = refl
+front_whole (e ∷ es) = ap (λ t. e ∷ t) (front_whole es)
+
+pub front_kept : (es others : Entries) → take (length es) (es ++ others) ≡ es
+front_kept [] [] = refl
+front_kept [] (e ∷ others) = refl
+front_kept (e ∷ es) others = ap (λ t. e ∷ t) (front_kept es others)

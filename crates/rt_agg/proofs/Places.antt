@@ -4,7 +4,7 @@ use Rattle.std.specs.Map.{keys_of}
 use Rattle.std.specs.Prelude.{unwrap_or, slice_index_or}
 use Rattle.std.proofs.lemmas.Option.{slice_get_within}
 use Rattle.rt_schema.specs.declared.value.Value.{Value}
-use Rattle.rt_agg.specs.declared.accumulator.Accumulator.{Accumulator}
+use Rattle.rt_agg.specs.Accumulator.{Accumulator}
 use Rattle.rt_agg.specs.Merging.{AreAt}
 
 abbrev Entries : Type 0
@@ -22,7 +22,7 @@ from_first (suc n) (y ∷ xs) zero x at = at
 from_first (suc n) (y ∷ xs) (suc i) x at = from_first n xs i x at
 
 -- keys stay at their places where entries stay at theirs
-key_stays : (old new : Entries) → take (length old) new ≡ old → (i : ℕ) (k : List Value) → slice_get (keys_of old) i ≡ Some k → slice_get (keys_of new) i ≡ Some k
+pub key_stays : (old new : Entries) → take (length old) new ≡ old → (i : ℕ) (k : List Value) → slice_get (keys_of old) i ≡ Some k → slice_get (keys_of new) i ≡ Some k
 key_stays old new kept i k at =
     from_first (length old) (keys_of new) i k
     (ap (λ (ks : List (List Value)). slice_get ks i) (sym (keys_first (length old) new) ∙ ap (λ (es : Entries). keys_of es) kept) ∙ at)

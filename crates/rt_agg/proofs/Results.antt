@@ -23,7 +23,7 @@ use Rattle.rt_model.specs.declared.query_parts.Item.TheVariants as item
 use Rattle.rt_model.specs.declared.query_parts.OrderKey.{OrderKey}
 use Rattle.rt_model.specs.Aggregate.{Result, cell_of, cell_if, group_of, keys_of as row_keys, result_of, results_of, result_cmp, ordered, least_of, greatest_of}
 use Rattle.rt_model.specs.Values.{key_cmp}
-use Rattle.rt_agg.specs.declared.accumulator.Accumulator.{Accumulator}
+use Rattle.rt_agg.specs.Accumulator.{Accumulator}
 use Rattle.rt_agg.specs.declared.result.Ranked.{Ranked}
 use Rattle.rt_agg.specs.declared.scalar.Scalar.{Scalar}
 use Rattle.rt_agg.specs.Accumulators.{cell_in, known_of, scalar_cell, ordering_items, all_known_of}

@@ -1,20 +1,17 @@
--- Keys in a map: they are compared as the orders of values say.
-use Rattle.std.proofs.Common.{◌≡◌, ℕ, Bool, true, false, cond, List, [], ◌∷◌, Some, refl, sym, ap, ◌∙◌, subst, true≢false, slice_get}
+-- Keys in a set: they are compared as the orders of values say.
+use Rattle.std.proofs.Common.{◌≡◌, Bool, true, false, cond, List, [], ◌∷◌, ◌++◌, Some, refl, sym, ap, ◌∙◌, subst, true≢false}
 use Rattle.std.specs.Cmp.Lexicographic.{lists_ties, pointwise}
-use Rattle.std.specs.List.{IsDistinct}
-use Rattle.std.specs.Map.{lookup, lookup_key, keys_of, values_of}
-use Rattle.std.specs.Prelude.{unwrap_or, option_map, is_some}
-use Rattle.std.proofs.lemmas.Option.{slice_get-map}
+use Rattle.std.specs.List.{IsDistinct, find, list_any}
+use Rattle.std.specs.Prelude.{unwrap_or, is_some, if◌then◌else◌}
 use Rattle.std.specs.Ordering.{is_eq}
 use Rattle.std.proofs.lemmas.Map.Text.{is_eq-slice_cmp}
-use Rattle.indexmap.specs.IndexMap.{IndexMap, with_value_at}
-use Rattle.indexmap.proofs.CallerLemmas.{updates-with_value_at, keys-with_value_at}
+use Rattle.indexmap.specs.IndexSet.{insert_key}
 use Rattle.rt_schema.specs.declared.value.Value.{Value}
 use Rattle.rt_schema.specs.declared.value.Value.TheVariants.{Int, Long, Text, Bool as Truth, Time}
 use Rattle.rt_schema.specs.contracts.value.ValuePartialEq.TheImpl as impl
 use Rattle.rt_model.specs.Values.{value_cmp}
 use Rattle.rt_agg.specs.Grouped.{same_key}
-use Rattle.rt_agg.proofs.Holding.{keys_equiv, same_is}
+use Rattle.rt_agg.proofs.Holding.{same_is}
 
 abbrev same_value : Value → Value → Bool
 same_value = impl.eq-value.it
@@ -60,34 +57,21 @@ eq_same = lists_ties value_cmp value_ties
 pub unique_same : (ks : List (List Value)) → IsDistinct eq_keys ks → IsDistinct same_key ks
 unique_same ks u = subst (λ e. IsDistinct e ks) (λ i k l. eq_same k l i) u
 
-pub lookup_same : {X : Type 0} (q : List Value) (es : List (List Value × X)) → lookup (eq_keys q) es ≡ lookup (same_key q) es
-lookup_same q es = λ i. lookup (λ k. eq_same q k i) es
-
-found_key : {X : Type 0} (test : List Value → Bool) (es : List (List Value × X)) (k : List Value) → lookup_key test es ≡ Some k → test k ≡ true
-found_key test [] k e = absurd (true≢false (sym (ap is_some e)))
-found_key test (x ∷ es) k e = by (test x.0) refl e (found_key test es k)
+found_test : {X : Type 0} (test : X → Bool) (xs : List X) (x : X) → find test xs ≡ Some x → test x ≡ true
+found_test test [] x e = absurd (true≢false (sym (ap is_some e)))
+found_test test (y ∷ xs) x e = by (test y) refl e (found_test test xs x)
   where
-    by : (b : Bool) → test x.0 ≡ b → cond b (Some x.0) (lookup_key test es) ≡ Some k → (lookup_key test es ≡ Some k → test k ≡ true) → test k ≡ true
-    by true t h rest = ap test (sym (ap (λ o. unwrap_or o k) h)) ∙ t
+    by : (b : Bool) → test y ≡ b → cond b (Some y) (find test xs) ≡ Some x → (find test xs ≡ Some x → test x ≡ true) → test x ≡ true
+    by true t h rest = ap test (sym (ap (λ o. unwrap_or o x) h)) ∙ t
     by false t h rest = rest h
 
--- the key that a look-up finds is the key that was asked for
-pub found_same : {X : Type 0} (q : List Value) (es : List (List Value × X)) (k : List Value) → lookup_key (eq_keys q) es ≡ Some k → k ≡ q
-found_same q es k e = sym (same_is q k (sym (eq_same q k) ∙ found_key (eq_keys q) es k e))
+-- the key that is found is the key that was asked for
+pub found_same : (q : List Value) (ks : List (List Value)) (k : List Value) → find (eq_keys q) ks ≡ Some k → k ≡ q
+found_same q ks k e = sym (same_is q k (sym (eq_same q k) ∙ found_test (eq_keys q) ks k e))
 
-pub value_at : {K X : Type 0} (es : List (K × X)) (i : ℕ) (k : K) (v w : X) → slice_get es i ≡ Some (k, v) → slice_get (values_of es) i ≡ Some w → w ≡ v
-value_at es i k v w at value =
-    ap (λ o. unwrap_or o w) (sym value ∙ slice_get-map (λ e. e.1) es i ∙ ap (option_map (λ e. e.1)) at)
+pub any_same : (q : List Value) (ks : List (List Value)) → list_any (eq_keys q) ks ≡ list_any (same_key q) ks
+any_same q ks = λ i. list_any (λ k. eq_same q k i) ks
 
-module _ {X S : Type 0} (m : IndexMap (List Value) X S) (i : ℕ) where
-  pub set_lookup : (w v wanted : X) (k : List Value) → IsDistinct eq_keys (keys_of m.entries) → slice_get m.entries i ≡ Some (k, v)
-      → w ≡ wanted → (q : List Value) → lookup (same_key q) (with_value_at m i w).entries ≡ cond (same_key k q) (Some wanted) (lookup (same_key q) m.entries)
-  set_lookup w v wanted k unique at is q =
-      (updates-with_value_at m i w {eq = same_key} keys_equiv (unique_same (keys_of m.entries) unique) k v at).0 q
-      ∙ (λ j. cond (same_key k q) (Some (is j)) (lookup (same_key q) m.entries))
-
-  pub set_keys : (w : X) → keys_of (with_value_at m i w).entries ≡ keys_of m.entries
-  set_keys w = keys-with_value_at m i w
-
-  pub set_unique : (w : X) → IsDistinct eq_keys (keys_of m.entries) → IsDistinct same_key (keys_of (with_value_at m i w).entries)
-  set_unique w unique = subst (IsDistinct same_key) (sym (keys-with_value_at m i w)) (unique_same (keys_of m.entries) unique)
+-- the keys after one that isn't there
+pub keys_last : (ks : List (List Value)) (k : List Value) → list_any (same_key k) ks ≡ false → insert_key eq_keys ks k ≡ ks ++ k ∷ []
+keys_last ks k none = ap (λ b. if b then ks else ks ++ k ∷ []) (any_same k ks ∙ none)

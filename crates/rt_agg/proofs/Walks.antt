@@ -1,5 +1,5 @@
 -- One step of a walk over two lists, and its end.
-use Rattle.std.proofs.Common.{◌≡◌, ℕ, zero, suc, ◌+◌, ◌<◌, ◌≤◌, false, List, [], ◌∷◌, ◌++◌, length, take, drop, get_or, map, slice_get, slice_set, Some, refl, sym, ap, ◌∙◌, subst, arith}
+use Rattle.std.proofs.Common.{◌≡◌, ℕ, zero, suc, ◌+◌, ◌<◌, ◌≤◌, false, List, [], ◌∷◌, ◌++◌, length, take, drop, get_or, slice_get, slice_set, Some, refl, sym, ap, ◌∙◌, subst, arith}
 use Rattle.std.specs.Prelude.{slice_index_or}
 use Rattle.std.proofs.lemmas.Option.{get_or_from_slice_get, slice_get_within}
 use Rattle.std.specs.declared.cmp.Ordering.TheVariants.{Less, Equal, Greater}
@@ -12,10 +12,9 @@ use Rattle.rt_model.specs.declared.query_parts.ColumnAt.{ColumnAt}
 use Rattle.rt_model.specs.declared.query_parts.OrderKey.{OrderKey}
 use Rattle.rt_model.specs.Aggregate.{value_of_key, first_cell, later_cells, order_cmp, directed_cmp}
 use Rattle.rt_model.specs.Values.{value_cmp, key_cmp}
-use Rattle.rt_agg.specs.declared.accumulator.Accumulator.{Accumulator}
-use Rattle.rt_agg.specs.Accumulators.{known_of, all_known_of, merged, all_merged}
-use Rattle.rt_schema.specs.declared.row.Row.{Row}
-use Rattle.rt_model.specs.declared.query_parts.Item.{Item}
+use Rattle.rt_agg.specs.GroupTable.{all_merged_in}
+use Rattle.rt_agg.specs.ResultHolder.{merged_in}
+use Rattle.rt_agg.specs.declared.result_holder.ResultHolder.{ResultHolder}
 
 drop_end : {X : Type 0} (xs : List X) (i : ℕ) → length xs ≤ i → drop i xs ≡ []
 drop_end [] zero le = refl
@@ -28,7 +27,7 @@ drop_here [] i d lt = absurd (omega arith)
 drop_here (x ∷ xs) zero d lt = refl
 drop_here (x ∷ xs) (suc i) d lt = drop_here xs i d (omega (arith, lt))
 
-drop_none : (i : ℕ) → drop {A = Accumulator} i [] ≡ []
+drop_none : (i : ℕ) → drop {A = ResultHolder} i [] ≡ []
 drop_none zero = refl
 drop_none (suc i) = refl
 
@@ -97,52 +96,45 @@ value_past columns key i c column lt le = λ j. value_of_key (drop_here columns 
 pub value_end : (columns : List ColumnAt) (key : List Value) (i : ℕ) (column : ColumnAt) → length columns ≤ i → value_of_key (drop i columns) (drop i key) column ≡ Truth false
 value_end columns key i column le = λ j. value_of_key (drop_end columns i le j) (drop i key) column
 
--- ---- accumulators of one group merged with those of another
+-- ---- holders merged with others
 
-pub merged_here : (all others : List Accumulator) (i : ℕ) (a b : Accumulator) → slice_get all i ≡ Some a → slice_get others i ≡ Some b
-    → take (suc i) (slice_set all i (merged a b)) ++ all_merged (drop (suc i) (slice_set all i (merged a b))) (drop (suc i) others)
-    ≡ take i all ++ all_merged (drop i all) (drop i others)
-merged_here [] others i a b p q = absurd (omega (arith, slice_get_within {A = Accumulator} [] i a p))
-merged_here (x ∷ all) [] i a b p q = absurd (omega (arith, slice_get_within {A = Accumulator} [] i b q))
-merged_here (x ∷ all) (y ∷ others) zero a b p q =
-    λ j. merged (sym (get_or_from_slice_get (x ∷ all) 0 a a p) j) (sym (get_or_from_slice_get (y ∷ others) 0 b b q) j) ∷ all_merged all others
-merged_here (x ∷ all) (y ∷ others) (suc i) a b p q = ap (λ t. x ∷ t) (merged_here all others i a b p q)
+module _ (group from : ℕ) where
+  pub merged_here : (all others : List ResultHolder) (i : ℕ) (a b : ResultHolder) → slice_get all i ≡ Some a → slice_get others i ≡ Some b
+      → take (suc i) (slice_set all i (merged_in group from a b)) ++ all_merged_in group from (drop (suc i) (slice_set all i (merged_in group from a b))) (drop (suc i) others)
+      ≡ take i all ++ all_merged_in group from (drop i all) (drop i others)
+  merged_here [] others i a b p q = absurd (omega (arith, slice_get_within {A = ResultHolder} [] i a p))
+  merged_here (x ∷ all) [] i a b p q = absurd (omega (arith, slice_get_within {A = ResultHolder} [] i b q))
+  merged_here (x ∷ all) (y ∷ others) zero a b p q =
+      λ j. merged_in group from (sym (get_or_from_slice_get (x ∷ all) 0 a a p) j) (sym (get_or_from_slice_get (y ∷ others) 0 b b q) j) ∷ all_merged_in group from all others
+  merged_here (x ∷ all) (y ∷ others) (suc i) a b p q = ap (λ t. x ∷ t) (merged_here all others i a b p q)
 
-pub merged_past : (all others : List Accumulator) (i : ℕ) → length all ≤ i → take (suc i) all ++ all_merged (drop (suc i) all) (drop (suc i) others) ≡ take i all ++ all_merged (drop i all) (drop i others)
-merged_past [] others zero le = refl
-merged_past [] others (suc i) le = refl
-merged_past (x ∷ all) others zero le = absurd (omega arith)
-merged_past (x ∷ all) [] (suc i) le =
-    (λ j. x ∷ (take (suc i) all ++ all_merged (drop (suc i) all) (sym (drop_none (suc i)) j))) ∙ ap (λ t. x ∷ t) (merged_past all [] i (omega (arith, le))) ∙ (λ j. x ∷ (take i all ++ all_merged (drop i all) (drop_none i j)))
-merged_past (x ∷ all) (y ∷ others) (suc i) le = ap (λ t. x ∷ t) (merged_past all others i (omega (arith, le)))
+  pub merged_past : (all others : List ResultHolder) (i : ℕ) → length all ≤ i → take (suc i) all ++ all_merged_in group from (drop (suc i) all) (drop (suc i) others) ≡ take i all ++ all_merged_in group from (drop i all) (drop i others)
+  merged_past [] others zero le = refl
+  merged_past [] others (suc i) le = refl
+  merged_past (x ∷ all) others zero le = absurd (omega arith)
+  merged_past (x ∷ all) [] (suc i) le =
+      (λ j. x ∷ (take (suc i) all ++ all_merged_in group from (drop (suc i) all) (sym (drop_none (suc i)) j))) ∙ ap (λ t. x ∷ t) (merged_past all [] i (omega (arith, le))) ∙ (λ j. x ∷ (take i all ++ all_merged_in group from (drop i all) (drop_none i j)))
+  merged_past (x ∷ all) (y ∷ others) (suc i) le = ap (λ t. x ∷ t) (merged_past all others i (omega (arith, le)))
 
-pub merged_end : (all others : List Accumulator) (i : ℕ) → length others ≤ i → take i all ++ all_merged (drop i all) (drop i others) ≡ all
-merged_end [] others zero le = refl
-merged_end [] others (suc i) le = refl
-merged_end (x ∷ all) [] zero le = refl
-merged_end (x ∷ all) (y ∷ others) zero le = absurd (omega arith)
-merged_end (x ∷ all) [] (suc i) le =
-    (λ j. x ∷ (take i all ++ all_merged (drop i all) (sym (drop_none i) j))) ∙ ap (λ t. x ∷ t) (merged_end all [] i (omega arith))
-merged_end (x ∷ all) (y ∷ others) (suc i) le = ap (λ t. x ∷ t) (merged_end all others i (omega (arith, le)))
+  pub merged_end : (all others : List ResultHolder) (i : ℕ) → length others ≤ i → take i all ++ all_merged_in group from (drop i all) (drop i others) ≡ all
+  merged_end [] others zero le = refl
+  merged_end [] others (suc i) le = refl
+  merged_end (x ∷ all) [] zero le = refl
+  merged_end (x ∷ all) (y ∷ others) zero le = absurd (omega arith)
+  merged_end (x ∷ all) [] (suc i) le =
+      (λ j. x ∷ (take i all ++ all_merged_in group from (drop i all) (sym (drop_none i) j))) ∙ ap (λ t. x ∷ t) (merged_end all [] i (omega arith))
+  merged_end (x ∷ all) (y ∷ others) (suc i) le = ap (λ t. x ∷ t) (merged_end all others i (omega (arith, le)))
 
--- the step and the end of the loop, where `all` is what there was before a step, and `now` what is there after it
-pub merged_next : (all others goal : List Accumulator) (i : ℕ) (a b : Accumulator) → slice_get all i ≡ Some a → slice_get others i ≡ Some b
-    → take i all ++ all_merged (drop i all) (drop i others) ≡ goal
-    → take (i + 1) (slice_set all i (merged a b)) ++ all_merged (drop (i + 1) (slice_set all i (merged a b))) (drop (i + 1) others) ≡ goal
-merged_next all others goal i a b p q before =
-    let now = slice_set all i (merged a b) in
-    subst (λ n. take n now ++ all_merged (drop n now) (drop n others) ≡ goal) (one_more i) (merged_here all others i a b p q ∙ before)
+  -- the step and the end of the loop, where `all` is what there was before a step, and `now` what is there after it
+  pub merged_next : (all others goal : List ResultHolder) (i : ℕ) (a b : ResultHolder) → slice_get all i ≡ Some a → slice_get others i ≡ Some b
+      → take i all ++ all_merged_in group from (drop i all) (drop i others) ≡ goal
+      → take (i + 1) (slice_set all i (merged_in group from a b)) ++ all_merged_in group from (drop (i + 1) (slice_set all i (merged_in group from a b))) (drop (i + 1) others) ≡ goal
+  merged_next all others goal i a b p q before =
+      let now = slice_set all i (merged_in group from a b) in
+      subst (λ n. take n now ++ all_merged_in group from (drop n now) (drop n others) ≡ goal) (one_more i) (merged_here all others i a b p q ∙ before)
 
-pub merged_skip : (all others goal : List Accumulator) (i : ℕ) → length all ≤ i
-    → take i all ++ all_merged (drop i all) (drop i others) ≡ goal
-    → take (i + 1) all ++ all_merged (drop (i + 1) all) (drop (i + 1) others) ≡ goal
-merged_skip all others goal i le before =
-    subst (λ n. take n all ++ all_merged (drop n all) (drop n others) ≡ goal) (one_more i) (merged_past all others i le ∙ before)
-
--- ---- what is known, for the items and for the keys of ORDER BY
-
-pub known_parts : (columns : List ColumnAt) (items : List Item) (order : List OrderKey) (key : List Value) (rows : List Row)
-    → map (known_of columns key rows) items ++ map (λ k. known_of columns key rows k.item) order ≡ all_known_of columns items order key rows
-known_parts columns [] [] key rows = refl
-known_parts columns [] (k ∷ order) key rows = ap (λ t. known_of columns key rows k.item ∷ t) (known_parts columns [] order key rows)
-known_parts columns (i ∷ items) order key rows = ap (λ t. known_of columns key rows i ∷ t) (known_parts columns items order key rows)
+  pub merged_skip : (all others goal : List ResultHolder) (i : ℕ) → length all ≤ i
+      → take i all ++ all_merged_in group from (drop i all) (drop i others) ≡ goal
+      → take (i + 1) all ++ all_merged_in group from (drop (i + 1) all) (drop (i + 1) others) ≡ goal
+  merged_skip all others goal i le before =
+      subst (λ n. take n all ++ all_merged_in group from (drop n all) (drop n others) ≡ goal) (one_more i) (merged_past all others i le ∙ before)

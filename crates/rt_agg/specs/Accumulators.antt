@@ -12,8 +12,8 @@ use Rattle.rt_model.specs.declared.query_parts.Item.TheVariants as item
 use Rattle.rt_model.specs.declared.query_parts.OrderKey.{OrderKey}
 use Rattle.rt_model.specs.Aggregate.{sum_of, least_of, greatest_of, value_of_key}
 use Rattle.rt_model.specs.Values.{number_of, value_cmp}
-use Rattle.rt_agg.specs.declared.accumulator.Accumulator.{Accumulator}
-use Rattle.rt_agg.specs.declared.accumulator.Accumulator.TheVariants.{Column, Count, Sum, Min, Max}
+use Rattle.rt_agg.specs.Accumulator.{Accumulator}
+use Rattle.rt_agg.specs.Accumulator.{Column, Count, Sum, Min, Max}
 use Rattle.rt_agg.specs.declared.scalar.Scalar.{Scalar}
 use Rattle.rt_agg.specs.Reading.{scalar_of, scalar_at, value_from}
 use Rattle.rt_agg.specs.Summed.{Summed}
@@ -41,14 +41,6 @@ cell_in (Count n) = cell.Whole (pos n)
 cell_in (Sum place t) = cell.Whole t.sum
 cell_in (Min place s) = scalar_cell s
 cell_in (Max place s) = scalar_cell s
-
--- the same, but for a value of the key
-abbrev pub bare_cell_in : Accumulator → Cell
-bare_cell_in (Column v) = cell.Null
-bare_cell_in (Count n) = cell.Whole (pos n)
-bare_cell_in (Sum place t) = cell.Whole t.sum
-bare_cell_in (Min place s) = scalar_cell s
-bare_cell_in (Max place s) = scalar_cell s
 
 -- the lesser and the greater of two scalars, where there are two
 abbrev pub least_with : Option Scalar → Option Scalar → Option Scalar

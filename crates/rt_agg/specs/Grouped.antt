@@ -14,7 +14,7 @@ use Rattle.rt_model.specs.declared.query_parts.Item.TheVariants as item
 use Rattle.rt_model.specs.declared.query_parts.OrderKey.{OrderKey}
 use Rattle.rt_model.specs.Aggregate.{has_key, key_of, group_of, result_rows}
 use Rattle.rt_model.specs.Values.{key_cmp}
-use Rattle.rt_agg.specs.declared.accumulator.Accumulator.{Accumulator}
+use Rattle.rt_agg.specs.Accumulator.{Accumulator}
 use Rattle.rt_agg.specs.Accumulators.{all_known_of, ordering_items}
 use Rattle.rt_agg.specs.Reading.{scalar_at}
 
@@ -72,10 +72,9 @@ pub record Holds (query : Query) (rows : List Row) (g : Grouped) : Type 0 where
   pub fits : AllByRecursion (Fits query) rows
   pub few : length rows < 9223372036854775808
 
--- without GROUP BY there is a group before the first row
-abbrev pub first_entries : List ColumnAt → List Item → List OrderKey → List (List Value × List Accumulator)
-first_entries [] items order = ([], all_known_of [] items order [] []) ∷ []
-first_entries (c ∷ cs) items order = []
+-- what is known at a key before the first row: without GROUP BY there is a group
+abbrev pub first_known : List ColumnAt → List Item → List OrderKey → List Value → Option (List Accumulator)
+first_known columns items order key = if makes_group columns [] key then Some (all_known_of columns items order key []) else None
 
 -- of the groups of any query and any rows came those of the rows and one more, which has this key
 abbrev pub AddsUnder : List Value → Row → Grouped → Grouped → Type 0

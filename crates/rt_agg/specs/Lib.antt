@@ -1,7 +1,11 @@
+pub mod Accumulator
 pub mod Accumulators
+pub mod GroupKeys
+pub mod GroupTable
 pub mod Grouped
 pub mod Merging
 pub mod Ranking
 pub mod Reading
+pub mod ResultHolder
 pub mod Summed
 pub mod Totals

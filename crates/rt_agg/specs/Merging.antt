@@ -1,7 +1,7 @@
 -- How groups take what other groups hold.
 use Rattle.std.specs.Prelude.{◌≡◌, ℕ, Bool, true, false, List, [], ◌∷◌, Option, Some, None, slice_get}
 use Rattle.rt_schema.specs.declared.value.Value.{Value}
-use Rattle.rt_agg.specs.declared.accumulator.Accumulator.{Accumulator}
+use Rattle.rt_agg.specs.Accumulator.{Accumulator}
 use Rattle.rt_agg.specs.Accumulators.{all_merged}
 
 -- what is known at a key once its group is started, where it wasn't there and is asked for

@@ -7,7 +7,7 @@ use Rattle.std.specs.declared.cmp.Ordering.TheVariants.{Less}
 use Rattle.rt_schema.specs.declared.value.Value.{Value}
 use Rattle.rt_model.specs.declared.query_parts.OrderKey.{OrderKey}
 use Rattle.rt_model.specs.Aggregate.{Result, result_cmp, placed}
-use Rattle.rt_agg.specs.declared.accumulator.Accumulator.{Accumulator}
+use Rattle.rt_agg.specs.Accumulator.{Accumulator}
 use Rattle.rt_agg.specs.declared.result.Ranked.{Ranked}
 use Rattle.rt_agg.specs.Accumulators.{cell_in}
 

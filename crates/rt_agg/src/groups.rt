@@ -1,16 +1,17 @@
-ghost use Rattle.std.specs.Prelude.{◌≡◌, ◌≤◌, ◌∷◌, [], List, length, slice_get, Some, IfOk, OnOk, OnErr};
+ghost use Rattle.std.specs.Prelude.{◌≡◌, ◌≤◌, ◌++◌, ◌∷◌, [], List, length, map, slice_get, Some, IfOk, OnOk, OnErr};
+ghost use Rattle.std.specs.List.{Contains, IsDistinct};
+ghost use Rattle.std.specs.Map.{lookup, keys_of};
 ghost use Rattle.rt_schema.specs.declared.value.Value.{Value as AnyValue};
-ghost use Rattle.rt_agg.specs.Accumulators.{all_known_of};
-ghost use Rattle.rt_agg.specs.Grouped.{Adds, AddsUnder, Finishes, Merges, Holds, KeysStay, first_entries, keys_in_order};
+ghost use Rattle.rt_agg.specs.Accumulators.{known_of, ordering_items};
+ghost use Rattle.rt_agg.specs.Grouped.{Adds, AddsUnder, Finishes, Merges, Holds, KeysStay, first_known, keys_in_order, same_key};
+ghost use Rattle.rt_agg.specs.GroupTable.{IsOfSame};
 
-use crate::accumulator::{add_known, start_all};
+use crate::ReadRow;
 use crate::foremost::{first_places, rows_at};
+use crate::group_table::GroupTable;
 use crate::keys::key_of_row;
 use crate::merging::{merge_each, start_missing};
 use crate::ranked::{rank_all, rows_of, sort};
-use crate::table::{Table, add_at, index_of, insert_last};
-use crate::{Accumulator, ReadRow};
-use indexmap::IndexMap;
 use rt_lists::{Copied, Items};
 use rt_model::{ColumnAt, Item, OrderKey, Query, ResultRow};
 use rt_schema::{Row, Value};
@@ -23,19 +24,22 @@ const MOST_PLACED: u32 = 1_024;
 /// The groups of a query, in the order in which their first rows came.
 #[derive(Drop)]
 pub struct Groups {
-    columns: Items<ColumnAt>,
     items: Items<Item>,
     order: Items<OrderKey>,
     limit: u32,
-    table: IndexMap<Items<Value>, Items<Accumulator>>,
+    table: GroupTable,
 }
 
 impl Model for Groups {
+    ghost use Rattle.std.specs.Prelude.{◌≡◌, ◌++◌};
+    ghost use Rattle.rt_agg.specs.Accumulators.{ordering_items};
     ghost use Rattle.rt_agg.specs.Grouped.{Grouped};
 
     ghost Value = { Grouped };
 
-    ghost view = { λ g. record { columns = g.columns; items = g.items; order = g.order; limit = g.limit; groups = g.table.entries } };
+    ghost view = { λ g. record { columns = g.table.columns; items = g.items; order = g.order; limit = g.limit; groups = g.table.entries } };
+
+    ghost invariant = { λ g. g.table.items ≡ g.items ++ ordering_items g.order };
 }
 
 impl Groups {
@@ -43,12 +47,10 @@ impl Groups {
     pub fn make(alloc: Global, query: &Query) -> Result<Groups, AllocError>
         ensures { IfOk result (Holds query.now []) }
     {
-        let columns = query.groups.copied(alloc)?;
         let items = query.items.copied(alloc)?;
         let order = query.order.copied(alloc)?;
-        let table = first_table(alloc, &columns, &items, &order)?;
+        let table = first_table(alloc, &query.groups, items.as_slice(), order.as_slice())?;
         Ok(Groups {
-            columns,
             items,
             order,
             limit: query.limit,
@@ -69,24 +71,31 @@ impl Groups {
         ensures keys { OnOk result (KeysStay self.old self.new) }
         ensures err { OnErr result (self.new ≡ self.old) }
     {
-        match index_of(&self.table, &key) {
+        self.table.index(alloc)?;
+        match self.table.find(&key) {
             Some(index) => {
-                add_at(&mut self.table, index, row);
+                self.table.add(index, row);
                 Ok(index)
             }
             None => {
-                let mut known = start_all(
-                    alloc,
-                    self.columns.as_slice(),
-                    self.items.as_slice(),
-                    self.order.as_slice(),
-                    key.as_slice(),
-                )?;
-                add_known(&mut known, row);
-                let index = insert_last(&mut self.table, key, known)?;
+                let index = self.add_new(key, row)?;
                 Ok(index)
             }
         }
+    }
+
+    /// Adds a row under a key that no group has, and gives the index of its group, which is behind all others. Where memory
+    /// runs out, all is as before.
+    pub fn add_new<R: ReadRow>(&mut self, key: Items<Value>, row: &R) -> Result<usize, AllocError>
+        requires { Contains (keys_in_order self.old) key → ⊥ }
+        ensures adds { OnOk result (AddsUnder key (R.meaning row.now) self.old self.new) }
+        ensures index { IfOk result (λ i. slice_get (keys_in_order self.new) i ≡ Some key) }
+        ensures keys { OnOk result (keys_in_order self.new ≡ keys_in_order self.old ++ key ∷ []) }
+        ensures err { OnErr result (self.new ≡ self.old) }
+    {
+        let index = self.table.start(key)?;
+        self.table.add(index, row);
+        Ok(index)
     }
 
     /// Adds a row to the group at an index, where there is one; else all is as before. It takes no memory.
@@ -95,7 +104,7 @@ impl Groups {
         ensures adds { (key : List AnyValue) → slice_get (keys_in_order self.old) index ≡ Some key → AddsUnder key (R.meaning row.now) self.old self.new }
         ensures keys { keys_in_order self.new ≡ keys_in_order self.old }
     {
-        add_at(&mut self.table, index, row);
+        self.table.add(index, row);
     }
 
     /// Adds a row that the query takes. Where memory runs out, all is as before.
@@ -103,7 +112,7 @@ impl Groups {
         ensures adds { OnOk result (Adds row.now self.old self.new) }
         ensures err { OnErr result (self.new ≡ self.old) }
     {
-        let key = key_of_row(alloc, self.columns.as_slice(), row)?;
+        let key = key_of_row(alloc, self.table.columns(), row)?;
         self.add(alloc, key, row)?;
         Ok(())
     }
@@ -113,15 +122,9 @@ impl Groups {
         ensures merges { OnOk result (Merges self.old other.now self.new) }
         ensures err { OnErr result (self.new ≡ self.old) }
     {
+        self.table.index(alloc)?;
         let count = self.table.len();
-        match start_missing(
-            alloc,
-            &self.columns,
-            &self.items,
-            &self.order,
-            &mut self.table,
-            &other.table,
-        ) {
+        match start_missing(alloc, &mut self.table, &other.table) {
             Ok(places) => {
                 merge_each(&mut self.table, &other.table, &places);
                 Ok(())
@@ -171,35 +174,31 @@ impl Groups {
 fn first_table(
     alloc: Global,
     columns: &Items<ColumnAt>,
-    items: &Items<Item>,
-    order: &Items<OrderKey>,
-) -> Result<Table, AllocError>
-    ensures { IfOk result (λ t. t.entries ≡ first_entries columns.now items.now order.now) }
+    items: &[Item],
+    order: &[OrderKey],
+) -> Result<GroupTable, AllocError>
+    ensures columns { IfOk result (λ t. t.columns ≡ columns.now) }
+    ensures items { IfOk result (λ t. t.items ≡ items.now ++ ordering_items order.now) }
+    ensures known { IfOk result (λ t. (key : List AnyValue) → lookup (same_key key) t.entries ≡ first_known columns.now items.now order.now key) }
+    ensures apart { IfOk result (λ t. IsDistinct same_key (keys_of t.entries)) }
 {
-    match columns.get(0) {
-        Some(_) => Ok(IndexMap::new(alloc)),
-        None => one_group(alloc, columns, items, order),
+    let table = GroupTable::make(alloc, columns, items, order)?;
+    if columns.is_empty() {
+        let table = with_whole(alloc, table)?;
+        Ok(table)
+    } else {
+        Ok(table)
     }
 }
 
-/// The one group of a query without GROUP BY.
-fn one_group(
-    alloc: Global,
-    columns: &Items<ColumnAt>,
-    items: &Items<Item>,
-    order: &Items<OrderKey>,
-) -> Result<Table, AllocError>
-    ensures { IfOk result (λ t. t.entries ≡ ([], all_known_of columns.now items.now order.now [] []) ∷ []) }
+// The group of all rows, which is the first.
+fn with_whole(alloc: Global, table: GroupTable) -> Result<GroupTable, AllocError>
+    requires { table.entries ≡ [] }
+    ensures same { IfOk result (IsOfSame table) }
+    ensures entries { IfOk result (λ t. t.entries ≡ ([], map (known_of table.columns [] []) table.items) ∷ []) }
+    ensures apart { IfOk result (λ t. IsDistinct same_key (keys_of t.entries)) }
 {
-    let mut table = IndexMap::new(alloc);
-    let key = Items::new(alloc);
-    let known = start_all(
-        alloc,
-        columns.as_slice(),
-        items.as_slice(),
-        order.as_slice(),
-        key.as_slice(),
-    )?;
-    insert_last(&mut table, key, known)?;
+    let mut table = table;
+    table.start(Items::new(alloc))?;
     Ok(table)
 }

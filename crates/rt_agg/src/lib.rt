@@ -4,23 +4,30 @@
 //! group of a row by other means than its values adds to that group by its index, and reads the row through [`ReadRow`].
 #![tactic(auto)]
 
-mod accumulator;
+mod all_holders;
 mod compare;
-mod compare_known;
+mod counting;
 mod foremost;
+mod group_cells;
+mod group_keys;
+mod group_ref;
+mod group_table;
 mod groups;
+mod key_column;
 mod keys;
 mod laws;
 mod merging;
+mod placing;
+mod ranging;
 mod ranked;
 mod read_row;
 mod result;
+mod result_holder;
 mod scalar;
 mod served;
-mod table;
 mod total;
+mod totalling;
 
-pub use accumulator::Accumulator;
 pub use groups::Groups;
 pub use laws::rows_fit;
 pub use read_row::ReadRow;

@@ -2,78 +2,28 @@ ghost use Rattle.std.specs.Prelude.{◌≡◌, map, IfOk};
 ghost use Rattle.std.specs.List.Sorted.{IsPermutation, IsSortedBy};
 ghost use Rattle.std.specs.Ordering.{is_lt};
 ghost use Rattle.rt_model.specs.Aggregate.{result_cmp};
-ghost use Rattle.rt_agg.specs.Accumulators.{cell_in};
 ghost use Rattle.rt_agg.specs.Ranking.{shown, result_at};
 
-use crate::Accumulator;
 use crate::compare::{compare_keys, compare_orders};
+use crate::group_table::GroupTable;
 use crate::result::Ranked;
-use crate::table::Table;
-use rt_lists::{Copied, Items};
-use rt_model::{Cell, OrderKey, ResultRow};
-use rt_schema::Value;
+use rt_lists::Items;
+use rt_model::{OrderKey, ResultRow};
 use std::alloc::{AllocError, Global};
 use std::cmp::Ordering;
-
-/// The cells of what is known.
-pub(crate) fn cells_of(alloc: Global, known: &[Accumulator]) -> Result<Items<Cell>, AllocError>
-    ensures { IfOk result (λ cells. cells ≡ map cell_in known.now) }
-{
-    let mut cells = Vec::with_capacity(alloc, known.len())?;
-    for accumulator in known {
-        cells.push(accumulator.cell(alloc)?)?;
-    }
-    Ok(Items::of(cells))
-}
-
-fn rank_parts(
-    alloc: Global,
-    key: &Items<Value>,
-    items: &[Accumulator],
-    order: &[Accumulator],
-) -> Result<Ranked, AllocError>
-    ensures { IfOk result (λ r. shown r ≡ record { key = key.now; order = map cell_in order.now; row = record { cells = map cell_in items.now } }) }
-{
-    Ok(Ranked {
-        key: key.copied(alloc)?,
-        order: cells_of(alloc, order)?,
-        row: ResultRow {
-            cells: cells_of(alloc, items)?,
-        },
-    })
-}
-
-/// What a group gives whose accumulators are of so many items, and then of the keys of ORDER BY.
-fn rank(
-    alloc: Global,
-    width: usize,
-    key: &Items<Value>,
-    known: &[Accumulator],
-) -> Result<Ranked, AllocError>
-    ensures { IfOk result (λ r. shown r ≡ result_at width (key.now, known.now)) }
-{
-    if width <= known.len() {
-        let (items, order) = known.split_at(width);
-        rank_parts(alloc, key, items, order)
-    } else {
-        rank_parts(alloc, key, known, &[])
-    }
-}
 
 /// What each group gives.
 pub(crate) fn rank_all(
     alloc: Global,
     width: usize,
-    table: &Table,
+    table: &GroupTable,
 ) -> Result<Vec<Ranked>, AllocError>
     ensures { IfOk result (λ all. map shown all.items ≡ map (result_at width) table.now.entries) }
 {
-    let mut all = Vec::new(alloc);
-    for i in 0..table.len() {
-        match table.get_index(i) {
-            Some((key, known)) => all.push(rank(alloc, width, key, known.as_slice())?)?,
-            None => return Ok(all),
-        }
+    let count = table.len();
+    let mut all = Vec::with_capacity(alloc, count)?;
+    for i in 0..count {
+        all.push(table.rank(alloc, width, i)?)?;
     }
     Ok(all)
 }

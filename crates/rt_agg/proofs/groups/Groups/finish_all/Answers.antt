@@ -9,7 +9,7 @@ use Rattle.rt_agg.proofs.groups.Groups.finish_all.Goals as goal
 
 pub returns : goal.returns
 returns c =
-    let g : Grouped = record { columns = c.self.inside.columns; items = c.self.inside.items; order = c.self.inside.order; limit = c.self.inside.limit; groups = c.self.inside.table.entries } in
+    let g : Grouped = record { columns = c.self.inside.table.columns; items = c.self.inside.items; order = c.self.inside.order; limit = c.self.inside.limit; groups = c.self.inside.table.entries } in
     subst (λ s. Finishes s c.in_ok-rows.rows) c.self.view_is
     (finishes_from g c.in_ok-all.all.items c.sort.new.all.items c.in_ok-rows.rows
     (c.in_ok-all.ensures ∙ ap (λ n. map (result_at n) c.self.inside.table.entries) c.len.ensures)

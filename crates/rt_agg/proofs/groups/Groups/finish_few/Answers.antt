@@ -8,7 +8,7 @@ use Rattle.rt_agg.proofs.groups.Groups.finish_few.Goals as goal
 
 pub returns : goal.returns
 returns c =
-    let g : Grouped = record { columns = c.self.inside.columns; items = c.self.inside.items; order = c.self.inside.order; limit = c.self.inside.limit; groups = c.self.inside.table.entries } in
+    let g : Grouped = record { columns = c.self.inside.table.columns; items = c.self.inside.items; order = c.self.inside.order; limit = c.self.inside.limit; groups = c.self.inside.table.entries } in
     let ranked = ranked_at c.len-width.result c.self.inside.table.entries in
     subst (λ s. Finishes s c.in_ok-rows.rows) c.self.view_is
     (finishes_first g c.in_ok-rows.rows

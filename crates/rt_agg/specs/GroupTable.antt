@@ -1,0 +1,41 @@
+-- Groups by their numbers.
+use Rattle.std.specs.Prelude.{◌≡◌, ℕ, suc, List, [], ◌∷◌, ◌++◌, length, map, take, drop}
+use Rattle.std.specs.List.{AllByRecursion, IsDistinct}
+use Rattle.rt_schema.specs.declared.value.Value.{Value}
+use Rattle.rt_model.specs.declared.query_parts.ColumnAt.{ColumnAt}
+use Rattle.rt_model.specs.declared.query_parts.Item.{Item}
+use Rattle.rt_agg.specs.declared.result_holder.ResultHolder.{ResultHolder}
+use Rattle.rt_agg.specs.Accumulator.{Accumulator}
+use Rattle.rt_agg.specs.Grouped.{same_key}
+use Rattle.rt_agg.specs.ResultHolder.{HasStarted, held_of, merged_in, started_in}
+
+-- what a table shows: the columns of the keys, the items, and of each group its key and what is known of its rows
+pub record Tabled : Type 0 where
+  pub columns : List ColumnAt
+  pub items : List Item
+  pub entries : List (List Value × List Accumulator)
+
+-- the groups of keys, counted from a number
+abbrev pub entries_from : List ColumnAt → List ResultHolder → ℕ → List (List Value) → List (List Value × List Accumulator)
+entries_from columns holders group [] = []
+entries_from columns holders group (key ∷ keys) =
+    (key, map (held_of columns key group) holders) ∷ entries_from columns holders (suc group) keys
+
+-- no two keys are the same, and each holder has started the group of each
+pub record IsTable (holders : List ResultHolder) (keys : List (List Value)) : Type 0 where
+  pub apart : IsDistinct same_key keys
+  pub started : AllByRecursion (HasStarted (length keys)) holders
+
+-- some of the first holders have started a group
+abbrev pub StartsSome : ℕ → List ResultHolder → List ResultHolder → Type 0
+StartsSome group old new = (count : ℕ) × (new ≡ map (started_in group) (take count old) ++ drop count old)
+
+-- each holder after the rows of a group of the others were taken into a group
+abbrev pub all_merged_in : ℕ → ℕ → List ResultHolder → List ResultHolder → List ResultHolder
+all_merged_in group from [] others = []
+all_merged_in group from (h ∷ hs) [] = h ∷ hs
+all_merged_in group from (h ∷ hs) (o ∷ os) = merged_in group from h o ∷ all_merged_in group from hs os
+
+-- the columns and the items stay
+abbrev pub IsOfSame : Tabled → Tabled → Type 0
+IsOfSame old new = (new.columns ≡ old.columns) × (new.items ≡ old.items)

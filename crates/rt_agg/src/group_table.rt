@@ -1,0 +1,218 @@
+ghost use Rattle.std.specs.Prelude.{◌≡◌, ◌<◌, ◌≤◌, ◌++◌, ◌∷◌, [], cond, List, length, map, take, slice_get, Some, None, IfSome, IfNone, IfOk, OnOk, OnErr};
+ghost use Rattle.std.specs.List.{IsDistinct};
+ghost use Rattle.std.specs.Map.{lookup, keys_of};
+ghost use Rattle.rt_schema.specs.declared.value.Value.{Value as AnyValue};
+ghost use Rattle.rt_agg.specs.Accumulator.{Accumulator};
+ghost use Rattle.rt_agg.specs.Accumulators.{all_merged, known_of, ordering_items, with_row};
+ghost use Rattle.rt_agg.specs.Grouped.{same_key};
+ghost use Rattle.rt_agg.specs.GroupTable.{IsOfSame};
+ghost use Rattle.rt_agg.specs.Ranking.{ranked_at, shown};
+ghost use Rattle.rt_model.specs.Aggregate.{result_cmp};
+
+use crate::ReadRow;
+use crate::all_holders::{add_to_all, make_all, merge_all, start_all};
+use crate::group_cells::{before, behind, cells_of, compare_groups};
+use crate::group_keys::GroupKeys;
+use crate::group_ref::GroupRef;
+use crate::result::Ranked;
+use crate::result_holder::ResultHolder;
+use rt_lists::{Copied, Items};
+use rt_model::{ColumnAt, Item, OrderKey, ResultRow};
+use rt_schema::Value;
+use std::alloc::{AllocError, Global};
+use std::cmp::Ordering;
+use std::marker::Model;
+
+/// Groups by their numbers, in the order in which they were started: the key of each, and for each item what is known of
+/// its rows.
+#[derive(Drop)]
+pub(crate) struct GroupTable {
+    columns: Items<ColumnAt>,
+    keys: GroupKeys,
+    holders: Items<ResultHolder>,
+}
+
+impl Model for GroupTable {
+    ghost use Rattle.std.specs.Prelude.{map};
+    ghost use Rattle.rt_agg.specs.ResultHolder.{item_of};
+    ghost use Rattle.rt_agg.specs.GroupTable.{IsTable, Tabled, entries_from};
+
+    ghost Value = { Tabled };
+
+    ghost view = { λ t. record { columns = t.columns; items = map item_of t.holders; entries = entries_from t.columns t.holders 0 t.keys } };
+
+    ghost invariant = { λ t. IsTable t.holders t.keys };
+}
+
+impl GroupTable {
+    /// No group of a query that groups by some columns, and shows and orders by some items.
+    pub(crate) fn make(
+        alloc: Global,
+        columns: &Items<ColumnAt>,
+        items: &[Item],
+        order: &[OrderKey],
+    ) -> Result<GroupTable, AllocError>
+        ensures columns { IfOk result (λ t. t.columns ≡ columns.now) }
+        ensures items { IfOk result (λ t. t.items ≡ items.now ++ ordering_items order.now) }
+        ensures none { IfOk result (λ t. t.entries ≡ []) }
+    {
+        let columns = columns.copied(alloc)?;
+        let holders = make_all(alloc, items, order)?;
+        Ok(GroupTable {
+            columns,
+            keys: GroupKeys::new(alloc),
+            holders,
+        })
+    }
+
+    /// The columns of the keys.
+    pub(crate) fn columns(&self) -> &[ColumnAt]
+        ensures { result.now ≡ self.now.columns }
+    {
+        self.columns.as_slice()
+    }
+
+    /// The number of groups.
+    pub(crate) fn len(&self) -> usize
+        ensures len { result ≡ length self.now.entries }
+        ensures apart { IsDistinct same_key (keys_of self.now.entries) }
+    {
+        self.keys.len()
+    }
+
+    /// The key of a group.
+    pub(crate) fn key(&self, group: usize) -> &Items<Value>
+        requires { group < length self.now.entries }
+        ensures { slice_get (keys_of self.now.entries) group ≡ Some result.now }
+    {
+        self.keys.get(group)
+    }
+
+    /// The group of a key, where it is there.
+    pub(crate) fn find(&self, key: &Items<Value>) -> Option<usize>
+        ensures some { IfSome result (λ group. slice_get (keys_of self.now.entries) group ≡ Some key.now) }
+        ensures none { IfNone result (lookup (same_key key.now) self.now.entries ≡ None) }
+        ensures apart { IsDistinct same_key (keys_of self.now.entries) }
+    {
+        self.keys.find(key)
+    }
+
+    /// Makes groups be found by a hash of their keys. Fails only where memory is refused.
+    pub(crate) fn index(&mut self, alloc: Global) -> Result<(), AllocError>
+        ensures { self.new ≡ self.old }
+    {
+        self.keys.index(alloc)
+    }
+
+    /// Starts the group of a key that isn't there, behind all others, and gives it. Where memory runs out, all is as before.
+    pub(crate) fn start(&mut self, key: Items<Value>) -> Result<usize, AllocError>
+        requires { lookup (same_key key) self.old.entries ≡ None }
+        ensures group { IfOk result (λ group. group ≡ length self.old.entries) }
+        ensures entries { OnOk result (self.new.entries ≡ self.old.entries ++ (key, map (known_of self.old.columns key []) self.old.items) ∷ []) }
+        ensures same { OnOk result (IsOfSame self.old self.new) }
+        ensures apart { OnOk result (IsDistinct same_key (keys_of self.new.entries)) }
+        ensures err { OnErr result (self.new ≡ self.old) }
+    {
+        let next = self.keys.len();
+        start_all(&mut self.holders, next)?;
+        self.keys.push(key)?;
+        Ok(next)
+    }
+
+    /// Takes one more row into a group, where there is one. It takes no memory.
+    pub(crate) fn add<R: ReadRow>(&mut self, group: usize, row: &R)
+        ensures known { (k : List AnyValue) (known : List Accumulator) → slice_get self.old.entries group ≡ Some (k, known) → (q : List AnyValue) → lookup (same_key q) self.new.entries ≡ cond (same_key k q) (Some (map (with_row (R.meaning row.now)) known)) (lookup (same_key q) self.old.entries) }
+        ensures keys { keys_of self.new.entries ≡ keys_of self.old.entries }
+        ensures past { length self.old.entries ≤ group → self.new ≡ self.old }
+        ensures same { IsOfSame self.old self.new }
+        ensures apart { IsDistinct same_key (keys_of self.new.entries) }
+    {
+        add_to_all(&mut self.holders, group, row);
+    }
+
+    /// Takes all rows of a group of another table into a group. It takes no memory.
+    pub(crate) fn merge(&mut self, group: usize, other: &GroupTable, from: usize)
+        ensures known { (k : List AnyValue) (known : List Accumulator) → slice_get self.old.entries group ≡ Some (k, known) → (o : List AnyValue) (others : List Accumulator) → slice_get other.now.entries from ≡ Some (o, others) → (q : List AnyValue) → lookup (same_key q) self.new.entries ≡ cond (same_key k q) (Some (all_merged known others)) (lookup (same_key q) self.old.entries) }
+        ensures keys { keys_of self.new.entries ≡ keys_of self.old.entries }
+        ensures same { IsOfSame self.old self.new }
+        ensures apart { IsDistinct same_key (keys_of self.new.entries) }
+    {
+        merge_all(&mut self.holders, group, &other.holders, from);
+    }
+
+    /// How two groups stand by ORDER BY, and where that ties by their keys. The items are so many that are shown, and then
+    /// those of the keys of ORDER BY. It takes no memory.
+    pub(crate) fn compare(
+        &self,
+        order: &[OrderKey],
+        width: usize,
+        one: usize,
+        other: usize,
+    ) -> Ordering
+        requires one { one < length self.now.entries }
+        requires other { other < length self.now.entries }
+        ensures { result ≡ result_cmp order.now (ranked_at width self.now.entries one) (ranked_at width self.now.entries other) }
+    {
+        let holders = behind(self.holders.as_slice(), width);
+        let columns = self.columns.as_slice();
+        compare_groups(
+            order,
+            columns,
+            holders,
+            &self.group(one),
+            &self.group(other),
+        )
+    }
+
+    /// The result row of a group, of so many items.
+    pub(crate) fn row(
+        &self,
+        alloc: Global,
+        width: usize,
+        group: usize,
+    ) -> Result<ResultRow, AllocError>
+        requires { group < length self.now.entries }
+        ensures { IfOk result (λ row. row ≡ (ranked_at width self.now.entries group).row) }
+    {
+        let holders = before(self.holders.as_slice(), width);
+        let cells = cells_of(alloc, self.columns.as_slice(), holders, &self.group(group))?;
+        Ok(ResultRow { cells })
+    }
+
+    /// What a group gives: its key, what it is ordered by, and its result row of so many items.
+    pub(crate) fn rank(
+        &self,
+        alloc: Global,
+        width: usize,
+        group: usize,
+    ) -> Result<Ranked, AllocError>
+        requires { group < length self.now.entries }
+        ensures { IfOk result (λ r. shown r ≡ ranked_at width self.now.entries group) }
+    {
+        let holders = behind(self.holders.as_slice(), width);
+        let key = self.key(group).copied(alloc)?;
+        let order = cells_of(alloc, self.columns.as_slice(), holders, &self.group(group))?;
+        let row = self.row(alloc, width, group)?;
+        Ok(Ranked { key, order, row })
+    }
+
+    // A group by its number.
+    fn group(&self, number: usize) -> GroupRef<'_>
+        requires { number < length self.now.entries }
+        ensures key { slice_get (keys_of self.now.entries) number ≡ Some result.key.now }
+        ensures number { result.number ≡ number }
+    {
+        GroupRef {
+            key: self.key(number).as_slice(),
+            number,
+        }
+    }
+
+    /// Keeps the first groups, so many.
+    pub(crate) fn truncate(&mut self, count: usize)
+        ensures entries { self.new.entries ≡ take count self.old.entries }
+        ensures same { IsOfSame self.old self.new }
+    {
+        self.keys.truncate(count);
+    }
+}

@@ -1,0 +1,186 @@
+ghost use Rattle.std.specs.Prelude.{◌≡◌, IfOk, OnOk, OnErr};
+ghost use Rattle.rt_model.specs.Aggregate.{cell_cmp};
+ghost use Rattle.rt_agg.specs.Accumulators.{scalar_cell};
+ghost use Rattle.rt_agg.specs.ResultHolder.{HasStarted, bare_cell_of, cell_held, item_of, merged_in, started_in, with_row_in};
+
+use crate::compare::compare_cells;
+use crate::counting::{add_count, add_one, count_at};
+use crate::group_ref::GroupRef;
+use crate::key_column::{compare_by_column, copy_of_key};
+use crate::placing::put;
+use crate::ranging::{join_greater, join_lesser, scalar_at, take_greater, take_lesser};
+use crate::totalling::{add_sum, add_to_sum, sum_at};
+use crate::{ReadRow, Scalar, Total};
+use rt_lists::{Copied, Items};
+use rt_model::{Aggregate, Cell, ColumnAt, Item};
+use std::alloc::{AllocError, Global};
+use std::cmp::Ordering;
+
+/// What is known of the rows of all groups for one item of a query, by the groups' numbers.
+#[derive(Drop)]
+pub(crate) enum ResultHolder {
+    /// The item is a column of GROUP BY, whose values the groups' keys have.
+    Key(ColumnAt),
+    /// How many rows there are.
+    Counts(Items<u64>),
+    Sums {
+        column: ColumnAt,
+        totals: Items<Total>,
+    },
+    /// The least value, once there is a row.
+    Least {
+        column: ColumnAt,
+        scalars: Items<Option<Scalar>>,
+    },
+    /// The greatest value, once there is a row.
+    Greatest {
+        column: ColumnAt,
+        scalars: Items<Option<Scalar>>,
+    },
+}
+
+impl ResultHolder {
+    /// What is known of no group.
+    pub(crate) fn make(alloc: Global, item: &Item) -> Result<ResultHolder, AllocError>
+        ensures { IfOk result (λ holder. item_of holder ≡ item.now) }
+    {
+        match item {
+            Item::Column(column) => Ok(ResultHolder::Key(column.copied(alloc)?)),
+            Item::Aggregate(Aggregate::Count) => Ok(ResultHolder::Counts(Items::new(alloc))),
+            Item::Aggregate(Aggregate::Sum(column)) => Ok(ResultHolder::Sums {
+                column: column.copied(alloc)?,
+                totals: Items::new(alloc),
+            }),
+            Item::Aggregate(Aggregate::Min(column)) => Ok(ResultHolder::Least {
+                column: column.copied(alloc)?,
+                scalars: Items::new(alloc),
+            }),
+            Item::Aggregate(Aggregate::Max(column)) => Ok(ResultHolder::Greatest {
+                column: column.copied(alloc)?,
+                scalars: Items::new(alloc),
+            }),
+        }
+    }
+
+    /// Starts a group that has no row: that of the next number, or one that was started before.
+    pub(crate) fn start(&mut self, group: usize) -> Result<(), AllocError>
+        requires { HasStarted group self.old }
+        ensures ok { OnOk result (self.new ≡ started_in group self.old) }
+        ensures err { OnErr result (self.new ≡ self.old) }
+    {
+        match self {
+            ResultHolder::Key(_) => Ok(()),
+            ResultHolder::Counts(counts) => put(counts, group, 0),
+            ResultHolder::Sums { totals, .. } => put(totals, group, Total::none()),
+            ResultHolder::Least { scalars, .. } => put(scalars, group, None),
+            ResultHolder::Greatest { scalars, .. } => put(scalars, group, None),
+        }
+    }
+
+    /// Takes one more row into a group that was started.
+    pub(crate) fn add<R: ReadRow>(&mut self, group: usize, row: &R)
+        ensures { self.new ≡ with_row_in (R.meaning row.now) group self.old }
+    {
+        match self {
+            ResultHolder::Key(_) => (),
+            ResultHolder::Counts(counts) => add_one(counts, group),
+            ResultHolder::Sums { column, totals } => {
+                add_to_sum(totals, group, row.scalar(column.place));
+            }
+            ResultHolder::Least { column, scalars } => {
+                take_lesser(scalars, group, row.scalar(column.place));
+            }
+            ResultHolder::Greatest { column, scalars } => {
+                take_greater(scalars, group, row.scalar(column.place));
+            }
+        }
+    }
+
+    /// Takes the rows of a group of another holder for the same item into a group that was started.
+    pub(crate) fn merge(&mut self, group: usize, other: &ResultHolder, from: usize)
+        ensures { self.new ≡ merged_in group from self.old other.now }
+    {
+        match (self, other) {
+            (ResultHolder::Counts(counts), ResultHolder::Counts(others)) => {
+                add_count(counts, group, others, from);
+            }
+            (ResultHolder::Sums { totals, .. }, ResultHolder::Sums { totals: others, .. }) => {
+                add_sum(totals, group, others, from);
+            }
+            (
+                ResultHolder::Least { scalars, .. },
+                ResultHolder::Least {
+                    scalars: others,
+                    ..
+                },
+            ) => {
+                join_lesser(scalars, group, others, from);
+            }
+            (
+                ResultHolder::Greatest { scalars, .. },
+                ResultHolder::Greatest {
+                    scalars: others,
+                    ..
+                },
+            ) => {
+                join_greater(scalars, group, others, from);
+            }
+            _ => (),
+        }
+    }
+
+    /// The cell of a group.
+    pub(crate) fn cell(
+        &self,
+        alloc: Global,
+        columns: &[ColumnAt],
+        group: &GroupRef<'_>,
+    ) -> Result<Cell, AllocError>
+        ensures { IfOk result (λ cell. cell ≡ cell_held columns.now group.now.key.now group.now.number self.now) }
+    {
+        match self {
+            ResultHolder::Key(column) => {
+                Ok(Cell::Value(copy_of_key(alloc, columns, group.key, column)?))
+            }
+            held => Ok(held.bare_cell(group.number)),
+        }
+    }
+
+    // The cell of a group, where that isn't a value of its key.
+    fn bare_cell(&self, group: usize) -> Cell
+        ensures { result ≡ bare_cell_of group self.now }
+    {
+        match self {
+            ResultHolder::Key(_) => Cell::Null,
+            ResultHolder::Counts(counts) => Cell::Whole(i128::from(count_at(counts, group))),
+            ResultHolder::Sums { totals, .. } => Cell::Whole(sum_at(totals, group)),
+            ResultHolder::Least { scalars, .. } => cell_of_scalar(scalar_at(scalars, group)),
+            ResultHolder::Greatest { scalars, .. } => cell_of_scalar(scalar_at(scalars, group)),
+        }
+    }
+
+    /// How the cells of two groups stand.
+    pub(crate) fn compare(
+        &self,
+        columns: &[ColumnAt],
+        one: &GroupRef<'_>,
+        other: &GroupRef<'_>,
+    ) -> Ordering
+        ensures { result ≡ cell_cmp (cell_held columns.now one.now.key.now one.now.number self.now) (cell_held columns.now other.now.key.now other.now.number self.now) }
+    {
+        match self {
+            ResultHolder::Key(column) => compare_by_column(columns, column, one.key, other.key),
+            held => compare_cells(&held.bare_cell(one.number), &held.bare_cell(other.number)),
+        }
+    }
+}
+
+// The cell of a scalar, where there is one.
+fn cell_of_scalar(scalar: Option<Scalar>) -> Cell
+    ensures { result ≡ scalar_cell scalar }
+{
+    match scalar {
+        None => Cell::Null,
+        Some(scalar) => Cell::Value(scalar.value()),
+    }
+}
