@@ -1,12 +1,14 @@
 -- The values of a consuming column by their ids.
-use Rattle.std.proofs.Common.{◌≡◌, ℕ, ◌<◌, ◌≤◌, Bool, false, min, List, length, map, take, get_or, slice_get, Some, ap, sym, subst, ◌∙◌, arith, All}
+use Rattle.std.proofs.Common.{◌≡◌, ℕ, zero, suc, ◌+◌, ◌<◌, ◌≤◌, Bool, true, false, cond, not, min, List, [], ◌∷◌, length, map, take, get_or, slice_get, Some, ap, sym, subst, ◌∙◌, inl, inr, arith, All}
+use Rattle.std.specs.List.{position_or_len}
 use Rattle.std.proofs.Math.ListN.{get_or-map}
+use Rattle.std.proofs.lemmas.Bool.{cases_lt, false≢true}
 use Rattle.std.proofs.lemmas.List.{length-map, length-take, get_or_default, get_or-take, get_or_past, take-map, take_min, same_lists}
 use Rattle.std.proofs.lemmas.List.Elements.{All-take}
 use Rattle.std.proofs.lemmas.Option.{slice_get-get_or, get_or_from_slice_get}
 use Rattle.rt_schema.specs.declared.value.Value.{Value}
 use Rattle.rt_schema.specs.declared.value.Value.TheVariants as value
-use Rattle.rt_mutable.specs.Arrivals.{arrivals_of, ids_of}
+use Rattle.rt_mutable.specs.Arrivals.{arrivals_of, id_among, ids_of}
 use Rattle.rt_mutable.specs.Column.{same_value}
 use Rattle.rt_mutable.proofs.Arriving.{value_of_row, id_of_row_within, length_ids, length_arrivals}
 use Rattle.rt_mutable.proofs.Same.{same_laws, same_exact}
@@ -76,3 +78,30 @@ led_scalar vs id v at = ap scalar_of (sym (get_or_from_slice_get (arrivals_of sa
 
 pub few_arrivals : (vs : List Value) → length (arrivals_of same_value vs) ≤ length vs
 few_arrivals vs = length_arrivals same_laws same_exact vs
+
+-- ---- the least id of a value
+
+place_least : (p : Value → Bool) (xs : List Value) (i : ℕ) → i < length xs → p (item_at xs i) ≡ true → position_or_len p xs ≤ i
+place_least p [] i within there = absurd (omega (arith, within))
+place_least p (x ∷ xs) zero within there = by (p x) there
+  where
+    by : (b : Bool) → b ≡ true → cond (not b) (1 + position_or_len p xs) 0 ≤ 0
+    by true e = omega arith
+    by false e = absurd (false≢true e)
+place_least p (x ∷ xs) (suc i) within there = by (p x) (place_least p xs i (omega (arith, within)) there)
+  where
+    by : (b : Bool) → position_or_len p xs ≤ i → cond (not b) (1 + position_or_len p xs) 0 ≤ suc i
+    by true rest = omega arith
+    by false rest = omega (arith, rest)
+
+-- rows refer to a value by its first place
+pub least_led : (vs : List Value) (row : ℕ) → row < length vs → (other : ℕ)
+    → item_at (arrivals_of same_value vs) other ≡ item_at (arrivals_of same_value vs) (get_or (ids_of same_value vs) row 0) → get_or (ids_of same_value vs) row 0 ≤ other
+least_led vs row within other same =
+    let ks = arrivals_of same_value vs in
+    let v = item_at vs row in
+    let id : get_or (ids_of same_value vs) row 0 ≡ id_among same_value ks v = get_or_default (ids_of same_value vs) row 0 (id_among same_value ks (value.Bool false)) (omega (arith, within, count_ids vs)) ∙ get_or-map (id_among same_value ks) vs row (value.Bool false) in
+    elim (cases_lt other (length ks)) [
+      | inl inside ↦ omega (arith, id, place_least (same_value v) ks other inside (ap (same_value v) (same ∙ value_led vs row within) ∙ same_laws.refl v))
+      | inr past ↦ omega (arith, id_known vs row within, past)
+    ]

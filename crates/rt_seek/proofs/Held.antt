@@ -1,10 +1,14 @@
 -- The values of the columns of a file.
-use Rattle.std.proofs.Common.{◌≡◌, ℕ, zero, suc, ◌<◌, Bool, false, not, List, [], ◌∷◌, length, map, replicate, slice_get, Option, Some, None, refl, ap, sym, ◌∙◌, arith, All}
+use Rattle.std.proofs.Common.{◌≡◌, ℕ, zero, suc, ◌<◌, ◌≤◌, Bool, false, not, List, [], ◌∷◌, length, map, replicate, slice_get, Option, Some, None, refl, ap, sym, ◌∙◌, inl, inr, arith, All}
 use Rattle.std.specs.Prelude.{◌||◌, ◌&&◌}
 use Rattle.std.specs.declared.cmp.Ordering.{Ordering}
 use Rattle.std.proofs.Math.ListN.{get_or-map}
+use Rattle.std.proofs.lemmas.Bool.{cases_lt}
 use Rattle.std.proofs.lemmas.List.{length-map, get_or_default}
 use Rattle.std.proofs.lemmas.List.Elements.{All-head, All-tail}
+use Rattle.rt_dict.specs.Order.{IsStrictOrder, bool_order, int_order, text_order}
+use Rattle.rt_dict.specs.Values.{IsAscending}
+use Rattle.rt_dict.proofs.Ascending.{same_id}
 use Rattle.rt_schema.specs.declared.value.Value.{Value}
 use Rattle.rt_schema.specs.declared.value.Value.TheVariants as value
 use Rattle.rt_agg.specs.declared.scalar.Scalar.{Scalar}
@@ -15,7 +19,7 @@ use Rattle.rt_model.specs.Match.{accepted, is_one_of}
 use Rattle.rt_model.specs.Values.{against}
 use Rattle.rt_segment.specs.declared.dictionary.Dictionary.{Dictionary}
 use Rattle.rt_segment.specs.declared.dictionary.Dictionary.TheVariants.{Int, Long, Text, Bool as Truth, Time}
-use Rattle.rt_segment.specs.Column.{count_in, values_in}
+use Rattle.rt_segment.specs.Column.{IsDictionary, count_in, values_in}
 use Rattle.rt_seek.specs.declared.column_test.ColumnTest.{ColumnTest}
 use Rattle.rt_seek.specs.declared.column_test.ColumnTest.TheVariants.{Compare, Between, OneOf, NoneOf}
 use Rattle.rt_seek.specs.ColumnTest.{passes_test}
@@ -72,3 +76,29 @@ no_scalar f none (x ∷ xs) (suc id) = no_scalar f none xs id
 
 pub scalar_is : {K : Type 0} (f : K → Value) (s : K → Scalar) → ((x : K) → scalar_of (f x) ≡ Some (s x)) → (xs : List K) (id : ℕ) (x : K) → slice_get xs id ≡ Some x → Some (s x) ≡ scalar_of (item_at (map f xs) id)
 scalar_is f s is xs id x at = sym (ap scalar_of (mapped_at f xs id (value.Bool false) x at) ∙ is x)
+
+-- ---- the least id of a value
+
+item_there : {K : Type 0} (xs : List K) (i : ℕ) → i < length xs → (x : K) × (slice_get xs i ≡ Some x)
+item_there [] i within = absurd (omega (arith, within))
+item_there (x ∷ xs) zero within = (x, refl)
+item_there (x ∷ xs) (suc i) within = item_there xs i (omega (arith, within))
+
+module _ {K : Type 0} {below : K → K → Bool} (order : IsStrictOrder below) (wrap : K → Value) (apart : (x y : K) → wrap x ≡ wrap y → x ≡ y) where
+  least_of : (vs : List K) → IsAscending below vs → (id : ℕ) → id < length vs → (other : ℕ) → item_at (map wrap vs) other ≡ item_at (map wrap vs) id → id ≤ other
+  least_of vs up id within other same = elim (cases_lt other (length vs)) [
+    | inl inside ↦ (
+        let one = item_there vs id within in
+        let two = item_there vs other inside in
+        let alike : two.0 ≡ one.0 = apart two.0 one.0 (sym (mapped_at wrap vs other (value.Bool false) two.0 two.1) ∙ same ∙ mapped_at wrap vs id (value.Bool false) one.0 one.1) in
+        omega (arith, same_id order vs up id other one.0 one.1 (two.1 ∙ ap Some alike)))
+    | inr past ↦ omega (arith, within, past)
+  ]
+
+-- a dictionary has each value once
+pub least_held : (d : Dictionary) → IsDictionary d → (id : ℕ) → id < count_in d → (other : ℕ) → item_at (values_in d) other ≡ item_at (values_in d) id → id ≤ other
+least_held (Int zs) made = least_of int_order value.Int (λ x y e. cc) zs made.1
+least_held (Long zs) made = least_of int_order value.Long (λ x y e. cc) zs made.1
+least_held (Text ts) made = least_of text_order value.Text (λ x y e. cc) ts made.1
+least_held (Truth bs) made = least_of bool_order value.Bool (λ x y e. cc) bs made.1
+least_held (Time zs) made = least_of int_order value.Time (λ x y e. cc) zs made.1

@@ -1,4 +1,4 @@
-ghost use Rattle.std.specs.Prelude.{◌≡◌, ◌<◌, ◌≤◌, length, map, IfOk};
+ghost use Rattle.std.specs.Prelude.{◌≡◌, ℕ, ◌<◌, ◌≤◌, length, map, IfOk};
 ghost use Rattle.rt_agg.specs.declared.scalar.Scalar.TheVariants.{Int, Long, Time};
 ghost use Rattle.rt_agg.specs.Reading.{scalar_of};
 ghost use Rattle.rt_mutable.specs.Arrivals.{arrivals_of};
@@ -101,7 +101,8 @@ fn truths_in(
 
 fn first_id(column: &MutableColumn, rows: u32, row: u32) -> u32
     requires { row < length (first_values column.now rows) }
-    ensures { arrival_of column.now result ≡ item_at (first_values column.now rows) row }
+    ensures value { arrival_of column.now result ≡ item_at (first_values column.now rows) row }
+    ensures least { (other : ℕ) → arrival_of column.now other ≡ arrival_of column.now result → result ≤ other }
 {
     column.ids()[row as usize]
 }

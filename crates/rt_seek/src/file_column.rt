@@ -1,4 +1,4 @@
-ghost use Rattle.std.specs.Prelude.{◌≡◌, ◌<◌, true, length, map, replicate, IfOk};
+ghost use Rattle.std.specs.Prelude.{◌≡◌, ℕ, ◌<◌, ◌≤◌, true, length, map, replicate, IfOk};
 ghost use Rattle.rt_agg.specs.declared.scalar.Scalar.TheVariants.{Time};
 ghost use Rattle.rt_agg.specs.Reading.{scalar_of};
 ghost use Rattle.rt_segment.specs.Column.{count_in, values_in, values_of};
@@ -40,7 +40,7 @@ impl<'a> ScanColumn for FileColumn<'a> {
 
     fn id(&self, row: u32) -> u32 {
         match self {
-            FileColumn::Held(column) => column.ids()[row as usize],
+            FileColumn::Held(column) => held_id(column, row),
             FileColumn::Missing { .. } => 0,
         }
     }
@@ -58,6 +58,14 @@ impl<'a> ScanColumn for FileColumn<'a> {
             FileColumn::Missing { value, rows } => missing_scalar(value, *rows, row),
         }
     }
+}
+
+fn held_id(column: &SegmentColumn, row: u32) -> u32
+    requires { row < length (values_of column.now) }
+    ensures value { item_at (values_in column.now.dictionary) result ≡ item_at (values_of column.now) row }
+    ensures least { (other : ℕ) → item_at (values_in column.now.dictionary) other ≡ item_at (values_in column.now.dictionary) result → result ≤ other }
+{
+    column.ids()[row as usize]
 }
 
 fn missing_rows(

@@ -1,4 +1,4 @@
-ghost use Rattle.std.specs.Prelude.{◌≡◌, ℕ, ◌<◌, List, length, map, IfOk};
+ghost use Rattle.std.specs.Prelude.{◌≡◌, ℕ, ◌<◌, ◌≤◌, List, length, map, IfOk};
 ghost use Rattle.rt_schema.specs.declared.value.Value.{Value as AnyValue};
 ghost use Rattle.rt_agg.specs.Reading.{scalar_of};
 ghost use Rattle.rt_seek.specs.ColumnTest.{passes_test};
@@ -22,10 +22,11 @@ pub trait ScanColumn {
     fn rows_that_pass(&self, alloc: Global, test: &ColumnTest<'_>) -> Result<DocSet, AllocError>
         ensures { IfOk result (λ set. set ≡ map (passes_test test.now) (values self.now)) };
 
-    /// The id of a row's value.
+    /// The id of a row's value: of the ids that stand for it the least, so that rows of one value have one id.
     fn id(&self, row: u32) -> u32
         requires { row < length (values self.now) }
-        ensures { value_of self.now result ≡ item_at (values self.now) row };
+        ensures value { value_of self.now result ≡ item_at (values self.now) row }
+        ensures least { (other : ℕ) → value_of self.now other ≡ value_of self.now result → result ≤ other };
 
     /// A copy of a row's value. Fails only where memory is refused.
     fn value(&self, alloc: Global, row: u32) -> Result<Value, AllocError>
