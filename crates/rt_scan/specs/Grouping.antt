@@ -1,12 +1,12 @@
 -- Groups that are found by ids.
-use Rattle.std.specs.Prelude.{◌≡◌, ℕ, List, [], ◌∷◌, Option, Some, None, false, slice_get}
+use Rattle.std.specs.Prelude.{◌≡◌, ℕ, ◌≤◌, List, [], ◌∷◌, Option, Some, None, false, length, slice_get}
 use Rattle.std.specs.List.{Contains}
 use Rattle.rt_schema.specs.declared.value.Value.{Value}
 use Rattle.rt_schema.specs.declared.value.Value.TheVariants.{Bool as Truth}
 use Rattle.rt_model.specs.declared.query_parts.ColumnAt.{ColumnAt}
 use Rattle.rt_agg.specs.Grouped.{Grouped, keys_in_order}
-use Rattle.rt_scan.specs.GroupIds.{Met}
-use Rattle.rt_scan.specs.IndexById.{IsAt}
+use Rattle.rt_scan.specs.GroupIds.{IsAbsent, Met}
+use Rattle.rt_scan.specs.IndexById.{IsAt, IsFree}
 
 module _ {C : Type 0} (value_of : C → ℕ → Value) where
   abbrev pub value_with : Option C → ℕ → Value
@@ -27,7 +27,25 @@ module _ {C : Type 0} (value_of : C → ℕ → Value) where
   abbrev pub LeadsTo : List C → List ColumnAt → Grouped → List ℕ → ℕ → Type 0
   LeadsTo columns by groups ids index = slice_get (keys_in_order groups) index ≡ Some (key_by columns by ids)
 
-  -- each index is that of the group whose key its ids stand for
+  -- no lesser id stands for the same value
+  abbrev pub IsLeast : List C → ColumnAt → ℕ → Type 0
+  IsLeast columns column id = (other : ℕ) → value_by columns column other ≡ value_by columns column id → id ≤ other
+
+  abbrev pub AreLeast : List C → List ColumnAt → List ℕ → Type 0
+  AreLeast columns [] [] = Unit {0}
+  AreLeast columns [] (id ∷ ids) = ⊥
+  AreLeast columns (c ∷ cs) [] = ⊥
+  AreLeast columns (c ∷ cs) (id ∷ ids) = IsLeast columns c id × AreLeast columns cs ids
+
+  -- a group has the key that ids stand for
+  abbrev pub HasGroup : List C → List ColumnAt → Grouped → List ℕ → Type 0
+  HasGroup columns by groups ids = Contains (keys_in_order groups) (key_by columns by ids)
+
+  -- each index is that of the group whose key its ids stand for, and each group is found: the only one where no column
+  -- groups the rows, by one id where one does, and else by ids
   pub record Leads (columns : List C) (by : List ColumnAt) (groups : Grouped) (met : Met) : Type 0 where
     pub by_ids : (entry : List ℕ × ℕ) → Contains met.by_ids entry → LeadsTo columns by groups entry.0 entry.1
     pub by_id : (id index : ℕ) → IsAt met.by_id id index → LeadsTo columns by groups (id ∷ []) index
+    pub whole : length by ≡ 0 → LeadsTo columns by groups [] 0
+    pub one : length by ≡ 1 → (id : ℕ) → AreLeast columns by (id ∷ []) → HasGroup columns by groups (id ∷ []) → IsFree met.by_id id → ⊥
+    pub several : 2 ≤ length by → (ids : List ℕ) → AreLeast columns by ids → HasGroup columns by groups ids → IsAbsent met.by_ids ids → ⊥

@@ -2,7 +2,7 @@
 ghost use Rattle.std.specs.Prelude.{◌≡◌, ◌++◌, ◌∷◌, [], IfSome, IfNone, OnOk};
 ghost use Rattle.std.specs.List.{Contains};
 ghost use Rattle.rt_scan.specs.GroupIds.{IsAbsent};
-ghost use Rattle.rt_scan.specs.IndexById.{IsAt, NotesAtMost};
+ghost use Rattle.rt_scan.specs.IndexById.{IsAt, IsFree, Notes};
 
 use crate::index_by_id::IndexById;
 use indexmap::IndexMap;
@@ -39,7 +39,8 @@ impl GroupIds {
 
     /// The index that was noted for one id alone.
     pub(crate) fn find_one(&self, id: u32) -> Option<usize>
-        ensures { IfSome result (λ index. IsAt self.now.by_id id index) }
+        ensures some { IfSome result (λ index. IsAt self.now.by_id id index) }
+        ensures none { IfNone result (IsFree self.now.by_id id) }
     {
         self.by_id.find(id)
     }
@@ -64,9 +65,9 @@ impl GroupIds {
         Ok(())
     }
 
-    /// Notes the index of one id alone, unless the id is great.
+    /// Notes the index of one id alone.
     pub(crate) fn note_one(&mut self, id: u32, index: usize) -> Result<(), AllocError>
-        ensures noted { NotesAtMost self.old.by_id id index self.new.by_id }
+        ensures noted { OnOk result (Notes self.old.by_id id index self.new.by_id) }
         ensures same { self.new.by_ids ≡ self.old.by_ids }
     {
         self.by_id.note(id, index)

@@ -1,10 +1,10 @@
 //! The groups of the rows of a set.
-ghost use Rattle.std.specs.Prelude.{◌≡◌, ◌<◌, ◌^◌, ◌∷◌, [], ℕ, All, length, map, IfOk, IfSome, OnOk};
+ghost use Rattle.std.specs.Prelude.{◌≡◌, ◌<◌, ◌≤◌, ◌^◌, ◌∷◌, [], ℕ, All, length, map, IfOk, IfNone, IfSome, OnOk};
 ghost use Rattle.rt_model.specs.Aggregate.{key_of, taken};
 ghost use Rattle.rt_model.specs.Match.{passes, value_in};
 ghost use Rattle.rt_agg.specs.Grouped.{AddsUnder, Fits, Holds};
 ghost use Rattle.rt_seek.specs.Table.{row_at, rows_by};
-ghost use Rattle.rt_scan.specs.Grouping.{key_by, value_by, Leads};
+ghost use Rattle.rt_scan.specs.Grouping.{key_by, value_by, AreLeast, IsLeast, Leads};
 
 use crate::group_ids::GroupIds;
 use crate::row_reader::RowReader;
@@ -57,6 +57,10 @@ fn add_row<C: ScanColumn>(
     ensures adds { OnOk result (AddsUnder (key_of by.now (row_at C.values columns.now row)) (row_at C.values columns.now row) groups.old groups.new) }
     ensures met { OnOk result (Leads C.value_of columns.now by.now groups.new met.new) }
 {
+    if by.is_empty() {
+        groups.add_at(0, &RowReader { columns, row });
+        return Ok(());
+    }
     match only_column(by) {
         Some(column) => add_by_id(alloc, column, columns, row, met, groups),
         None => add_by_ids(alloc, by, columns, row, ids, met, groups),
@@ -86,14 +90,15 @@ fn add_by_id<C: ScanColumn>(
         }
         None => {
             let key = read_key(alloc, slice::from_ref(by), columns, row)?;
-            let index = groups.add(alloc, key, &reader)?;
+            let index = groups.add_new(key, &reader)?;
             met.note_one(id, index)
         }
     }
 }
 
 fn only_column(by: &[ColumnAt]) -> Option<&ColumnAt>
-    ensures { IfSome result (λ column. by.now ≡ column.now ∷ []) }
+    ensures some { IfSome result (λ column. by.now ≡ column.now ∷ []) }
+    ensures none { IfNone result (length by.now ≡ 1 → ⊥) }
 {
     match by {
         [column] => Some(column),
@@ -101,7 +106,7 @@ fn only_column(by: &[ColumnAt]) -> Option<&ColumnAt>
     }
 }
 
-// Adds a row to its group, which is found by the ids of the row.
+// Adds a row to its group, where several columns group the rows.
 fn add_by_ids<C: ScanColumn>(
     alloc: Global,
     by: &[ColumnAt],
@@ -111,6 +116,7 @@ fn add_by_ids<C: ScanColumn>(
     met: &mut GroupIds,
     groups: &mut Groups,
 ) -> Result<(), AllocError>
+    requires several { 2 ≤ length by.now }
     requires row { All (λ column. row < length (C.values column)) columns.now }
     requires met { Leads C.value_of columns.now by.now groups.old met.old }
     ensures adds { OnOk result (AddsUnder (key_of by.now (row_at C.values columns.now row)) (row_at C.values columns.now row) groups.old groups.new) }
@@ -125,7 +131,7 @@ fn add_by_ids<C: ScanColumn>(
         }
         None => {
             let key = read_key(alloc, by, columns, row)?;
-            let index = groups.add(alloc, key, &reader)?;
+            let index = groups.add_new(key, &reader)?;
             met.note(copy_of(alloc, ids)?, index)
         }
     }
@@ -147,7 +153,8 @@ fn read_ids<C: ScanColumn>(
     ids: &mut Items<u32>,
 ) -> Result<(), AllocError>
     requires { All (λ column. row < length (C.values column)) columns.now }
-    ensures { OnOk result (key_by C.value_of columns.now by.now ids.new ≡ key_of by.now (row_at C.values columns.now row)) }
+    ensures key { OnOk result (key_by C.value_of columns.now by.now ids.new ≡ key_of by.now (row_at C.values columns.now row)) }
+    ensures least { OnOk result (AreLeast C.value_of columns.now by.now ids.new) }
 {
     ids.clear();
     for column in by {
@@ -158,7 +165,8 @@ fn read_ids<C: ScanColumn>(
 
 fn id_in<C: ScanColumn>(columns: &[C], row: u32, column: &ColumnAt) -> u32
     requires { All (λ column. row < length (C.values column)) columns.now }
-    ensures { value_by C.value_of columns.now column.now result ≡ value_in (row_at C.values columns.now row) column.now }
+    ensures value { value_by C.value_of columns.now column.now result ≡ value_in (row_at C.values columns.now row) column.now }
+    ensures least { IsLeast C.value_of columns.now column.now result }
 {
     let place = column.place as usize;
     if place < columns.len() {

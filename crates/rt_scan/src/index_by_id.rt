@@ -1,14 +1,11 @@
 //! Indices of single ids.
-ghost use Rattle.std.specs.Prelude.{[], ◌≡◌, ◌≤◌, length, IfSome, OnOk};
-ghost use Rattle.rt_scan.specs.IndexById.{IsAt, HasNoMore, NotesAtMost};
+ghost use Rattle.std.specs.Prelude.{[], ◌≡◌, ◌≤◌, length, IfSome, IfNone, OnOk};
+ghost use Rattle.rt_scan.specs.IndexById.{IsAt, IsFree, HasNoMore, Notes};
 
 use std::alloc::{AllocError, Global};
 use std::marker::Model;
 
-// Ids from here on are not noted, so that the list takes 16 mebibytes at most. A segment has fewer rows than that.
-const MOST_IDS: u32 = 1_048_576;
-
-/// The indices of small ids, each at its id.
+/// The indices of ids, each at its id. Ids are below the number of a segment's rows.
 #[derive(Drop)]
 pub(crate) struct IndexById {
     indices: Vec<Option<usize>>,
@@ -34,7 +31,8 @@ impl IndexById {
 
     /// The index that was noted at an id.
     pub(crate) fn find(&self, id: u32) -> Option<usize>
-        ensures { IfSome result (λ index. IsAt self.now id index) }
+        ensures some { IfSome result (λ index. IsAt self.now id index) }
+        ensures none { IfNone result (IsFree self.now id) }
     {
         match self.indices.get(id as usize) {
             Some(index) => *index,
@@ -42,13 +40,10 @@ impl IndexById {
         }
     }
 
-    /// Notes the index of an id, unless the id is great.
+    /// Notes the index of an id.
     pub(crate) fn note(&mut self, id: u32, index: usize) -> Result<(), AllocError>
-        ensures { NotesAtMost self.old id index self.new }
+        ensures { OnOk result (Notes self.old id index self.new) }
     {
-        if id >= MOST_IDS {
-            return Ok(());
-        }
         let place = id as usize;
         make_room(&mut self.indices, place + 1)?;
         self.indices[place] = Some(index);
@@ -58,7 +53,8 @@ impl IndexById {
 
 // Grows a list to a length, if it is shorter.
 fn make_room(indices: &mut Vec<Option<usize>>, count: usize) -> Result<(), AllocError>
-    ensures same { HasNoMore indices.old.items indices.new.items }
+    ensures more { HasNoMore indices.old.items indices.new.items }
+    ensures kept { HasNoMore indices.new.items indices.old.items }
     ensures room { OnOk result (count ≤ length indices.new.items) }
 {
     while indices.len() < count {

@@ -15,7 +15,7 @@ use Rattle.rt_scan.proofs.grouping.groups_of.Goals as goal
 pub loop-row-init : goal.loop-row-init
 loop-row-init g c = record {
   holds = c.in_ok-groups.ensures {u = tt};
-  met = leads_none g.C.ScanColumn.values g.C.ScanColumn.value_of c.args.columns.now c.args.query.now.groups c.in_ok-groups.groups c.new-met.result c.new-met.ensures;
+  met = leads_none g.C.ScanColumn.values g.C.ScanColumn.value_of c.args.columns.now c.args.query.now c.in_ok-groups.groups c.new-met.result (c.in_ok-groups.ensures {u = tt}) c.new-met.ensures;
   within = omega arith;
 }
 
