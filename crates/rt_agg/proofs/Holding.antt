@@ -51,7 +51,7 @@ fit_filter P test (x ∷ xs) all = by (test x) (fit_filter P test xs all.1)
     by true rest = (all.0, rest)
     by false rest = rest
 
-few_filter : {X : Type 0} (test : X → Bool) (xs : List X) → length (filter test xs) ≤ length xs
+pub few_filter : {X : Type 0} (test : X → Bool) (xs : List X) → length (filter test xs) ≤ length xs
 few_filter test [] = omega arith
 few_filter test (x ∷ xs) = by (test x) (few_filter test xs)
   where
