@@ -174,7 +174,7 @@ answers_can w q a s there due =
       record {
         ranges = refl;
         missing = refl;
-        rows = λ others held few. alike_answered a.query rows others (served_of a) served.held held;
+        rows = λ others held few. alike_answered a.query rows others (served_of a) served.held held served.few few;
         causes = answer_caused a (given answer) due refl;
       },
     )

@@ -35,8 +35,8 @@ HoldsTypes (phase.Retained kept) = Unit {0}
 HoldsTypes (phase.Committed kept) = Unit {0}
 HoldsTypes (phase.Discarded d) = Unit {0}
 
--- each state of the program meets this: a replica that seals its rows has rows, and a number of its segment, such as their
--- types hold
+-- a replica that seals its rows has rows, and a number of its segment, such as their types hold: each world of a run meets
+-- this (rt_made)
 abbrev pub IsTyped : State → Event → Type 0
 IsTyped w (event.Build i p q) = (r : Consumer) → replica_at w i p q ≡ Some r → (r.sequence.0 < 2 ^ 32) × HoldsTypes r.phase
 IsTyped w other = Unit {0}
