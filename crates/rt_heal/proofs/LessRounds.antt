@@ -267,7 +267,7 @@ each_none act xs busy w v told none h =
 module _ (w : State) (i : ℕ) (n : ServerNode) (k : IsSteady w) (there : slice_get w.servers i ≡ Some n) where
   healthy : IsHealthy w w
   healthy =
-      record { safe = k.safe; same = refl; written = refl; up = k.up; unplanned = k.unplanned; controllers = refl }
+      record { safe = k.safe; same = refl; written = refl; up = k.up; unplanned = k.unplanned; controllers = refl; reached = ([], refl) }
 
   -- a server that saw the ideal state again is as it was
   module _ (y : State) (seen : HasSeen w (record { 0 = i }) n y) (safe : IsSafeWorld y) (after : IsHealthy w y) where

@@ -49,6 +49,7 @@ use Rattle.rt_heal.specs.Calm.{IsCalm}
 use Rattle.rt_heal.specs.Led.{IsLed}
 use Rattle.rt_heal.specs.Resting.{IsIdle}
 use Rattle.rt_safety.proofs.JobsOn.{own_slot}
+use Rattle.rt_safety.specs.Runs.{Leads, Turn}
 use Rattle.rt_heal.proofs.Nothing.{fails_test, nothing, transits_none, wanted_none}
 use Rattle.rt_heal.proofs.Seeing.{HasSeen, IsHealthy, same_leader, see_healthy, see_told}
 
@@ -440,11 +441,10 @@ module _ (w : State) (i : ℕ) (n : ServerNode) (s : IsSafeWorld w) (there : sli
 
 -- ---- a round
 
--- what a quiet round leaves, where nothing was written
+-- what a quiet round leaves
 pub record HasRested (from w : State) : Type 0 where
   pub safe : IsSafeWorld w
-  pub same : w.setup ≡ from.setup
-  pub written : w.store.writes ≡ from.store.writes
+  pub reached : (turns : List Turn) × Leads from turns w
   pub unplanned : w.store.faults.plan ≡ []
   pub rest : IsAtRest w
 
@@ -456,15 +456,14 @@ round_leaves w v safe up unplanned led h =
     let q = from_quiet (ReplicasTurn false)
     (λ i u. IsLed u → is_server_up u (record { 0 = i }) ≡ true → (s : SegmentAt) → Has (held_in u (record { 0 = i })) s → HasNothing (record { 0 = i }) s u)
     held_quiet 0 y.setup.servers t.told y t.last t.further in
-    let k : IsHealthy w w = record { safe = safe; same = refl; written = refl; up = up; unplanned = unplanned; controllers = refl } in
+    let k : IsHealthy w w = record { safe = safe; same = refl; written = refl; up = up; unplanned = unplanned; controllers = refl; reached = ([], refl) } in
     let calm = servers_quiet w 0 w.setup.servers false w t.between k (λ i n found below. absurd (omega (arith, below)))
     (subst (λ (b : Bool). ServersTurn false w t.between (Ok b)) q.unbusy t.came) in
     let end : v.world ≡ y = ap (λ (x : Reached). x.world) t.whole ∙ ap (λ (x : Reached). x.world) q.same in
     subst (HasRested w) (sym end)
     (record {
       safe = calm.healthy.safe;
-      same = calm.healthy.same;
-      written = calm.healthy.written;
+      reached = calm.healthy.reached;
       unplanned = calm.healthy.unplanned;
       rest = all y calm q.so;
     })

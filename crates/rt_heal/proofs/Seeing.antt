@@ -1,6 +1,6 @@
 -- What comes of a server that sees the ideal state, where no fault of the store is planned.
 use Rattle.std.specs.List.{position}
-use Rattle.std.proofs.Common.{◌≡◌, ℕ, inl, inr, Bool, List, [], Option, Some, Result, Ok, Err, sym, ◌∙◌, ap, subst, slice_get}
+use Rattle.std.proofs.Common.{◌≡◌, ℕ, inl, inr, Bool, List, [], ◌∷◌, ◌++◌, Option, Some, Result, Ok, Err, refl, sym, ◌∙◌, ap, subst, slice_get}
 use Rattle.std.specs.Prelude.{slice_set}
 use Rattle.std.proofs.lemmas.Option.{none-some}
 use Rattle.rt_base.specs.Faults.{Planned, answer_under, fault_of, met_by, met_fault}
@@ -22,6 +22,7 @@ use Rattle.rt_nodes.specs.Refused.{outcome_by}
 use Rattle.rt_nodes.specs.Servers.{NodeSees}
 use Rattle.rt_nodes.specs.declared.controller_node.ControllerNode.{ControllerNode}
 use Rattle.rt_nodes.specs.declared.server_node.ServerNode.{ServerNode}
+use Rattle.rt_safety.specs.Runs.{happens, Leads, Turn, TurnsTo}
 use Rattle.rt_server.specs.Calls.{targets_of, seen_by, with_targets}
 use Rattle.rt_server.specs.Table.{ServerState}
 use Rattle.rt_state.specs.IsSafeWorld.{IsSafeWorld}
@@ -44,8 +45,8 @@ use Rattle.rt_world.proofs.Places.{at_set}
 use Rattle.rt_world.proofs.SafeSteps.{steps_keep}
 use Rattle.rt_heal.specs.AtRest.{IsUp}
 
--- the setup, the controllers and all that was written are as they were in another world, all servers are up, and no fault of the store
--- is planned
+-- a world that was reached from another one. The setup, the controllers and all that was written are as they were there, all servers
+-- are up, and no fault of the store is planned
 pub record IsHealthy (from w : State) : Type 0 where
   pub safe : IsSafeWorld w
   pub same : w.setup ≡ from.setup
@@ -53,6 +54,12 @@ pub record IsHealthy (from w : State) : Type 0 where
   pub up : AreAt IsUp w.servers
   pub unplanned : w.store.faults.plan ≡ []
   pub controllers : w.controllers ≡ from.controllers
+  pub reached : (turns : List Turn) × Leads from turns w
+
+-- by a turn more
+leads_more : (from : State) (turns : List Turn) (w y : State) (t : Turn) → Leads from turns w → TurnsTo w t y → Leads from (turns ++ t ∷ []) y
+leads_more from [] w y t same turn = (y, subst (λ (x : State). TurnsTo x t y) same turn, refl)
+leads_more from (u ∷ us) w y t (next, first, rest) turn = (next, first, leads_more next us w y t rest turn)
 
 -- who is asked is told by the controllers alone
 pub same_leader : (v w : State) → v.controllers ≡ w.controllers → leader_in v ≡ leader_in w
@@ -160,5 +167,8 @@ see_healthy from w i n y outcome k there step s =
       up = at_set IsUp w.servers i.0 s.new (s.up ∙ k.up i.0 n there) k.up;
       unplanned = s.unplanned;
       controllers = k.controllers;
+      reached =
+          subst (λ (x : State). (turns : List Turn) × Leads from turns x) s.is
+          (k.reached.0 ++ happens (See i) outcome ∷ [], leads_more from k.reached.0 w y (happens (See i) outcome) k.reached.1 (tt, step));
     } in
     subst (IsHealthy from) (sym s.is) healthy

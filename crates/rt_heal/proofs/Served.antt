@@ -97,7 +97,7 @@ refused_not x e h = cc
 served_same : (x y : ServedRows) → served_as x ≡ served_as y → x ≡ y
 served_same x y h = cc
 
-stage_not : (stage : Stage) → state_at stage ≡ state.Discarded → ⊥
+pub stage_not : (stage : Stage) → state_at stage ≡ state.Discarded → ⊥
 stage_not InitialConsuming e = cc
 stage_not (CatchingUp target reason) e = cc
 stage_not (Holding reason) e = cc

@@ -74,7 +74,7 @@ turned_is p s e a b = by_test (is_of p s e) (own_segment p s e a b)
     by_test true is = refl
     by_test false is = absurd (false≢true is)
 
-in_partition : (ds : List IdealEntry) (p : Partition) (e : IdealEntry) → Has ds e → e.partition ≡ p → has_partition ds p ≡ true
+pub in_partition : (ds : List IdealEntry) (p : Partition) (e : IdealEntry) → Has ds e → e.partition ≡ p → has_partition ds p ≡ true
 in_partition [] p e has at = absurd has
 in_partition (d ∷ ds) p e (inl same) at =
     or_left (d.partition.0 == p.0) (has_partition ds p)

@@ -1,5 +1,6 @@
 -- What each write owes so that committed segments stay turned, as the history grows by it.
 use Rattle.std.proofs.Common.{◌≡◌, ℕ, ◌+◌, ◌<◌, ◌⊎◌, inl, inr, List, [], ◌∷◌, ◌++◌, Option, Some, None, refl, sym, ◌∙◌, ap, subst}
+use Rattle.rt_base.specs.declared.numbers.Instance.{Instance}
 use Rattle.rt_base.specs.declared.numbers.Partition.{Partition}
 use Rattle.rt_lists.specs.Members.{Has, IsFront}
 use Rattle.rt_lists.proofs.Members.{front_push, Has-front, Has-push_cases}
@@ -15,13 +16,16 @@ use Rattle.rt_model.specs.declared.node.Key.TheVariants as key
 use Rattle.rt_model.specs.declared.node.Node.{Node}
 use Rattle.rt_model.specs.declared.node.Node.TheVariants as node
 use Rattle.rt_model.specs.declared.node.Seen.{Seen}
+use Rattle.rt_model.specs.declared.status.Status.TheVariants.{Abandoned}
 use Rattle.rt_model.proofs.Chains.{IsDone-final}
 use Rattle.rt_model.proofs.Entries.{entry_names}
 use Rattle.rt_model.proofs.Histories.{last_write-more, last_write-other, Stands-last}
 use Rattle.rt_model.proofs.Lawful.{has_chains, has_endings, versions_count_writes}
 use Rattle.rt_model.proofs.Lives.{Follows-final}
+use Rattle.rt_past.specs.Segments.{HadEntry}
 use Rattle.rt_store.specs.Answers.{Leaves}
 use Rattle.rt_store.proofs.Seeing.{effect_of}
+use Rattle.rt_heal.specs.Dropped.{NoneConsumes}
 use Rattle.rt_heal.specs.Turned.{AreTurned, WasCommitted}
 use Rattle.rt_heal.proofs.Mended.{present_grounded}
 
@@ -83,20 +87,37 @@ ideal_undone h w p q is (v, has, at, done) = by_place (Has-push_cases h w v has)
     by_place (inl has) = (v, has, at, done)
     by_place (inr same) = absurd (apart (sym is ∙ ap (λ (x : Seen). x.key) same ∙ at))
 
+-- a node that is given up
+abbrev pub IsGivenUp : Node → Type 0
+IsGivenUp (node.Meta m) = m.status ≡ Abandoned
+IsGivenUp (node.Ideal i) = ⊥
+IsGivenUp node.Boot = ⊥
+IsGivenUp node.Gone = ⊥
+
+-- no instance is to consume the segment, which had entries
+abbrev pub NobodyConsumes : List Seen → Partition → ℕ → Type 0
+NobodyConsumes h p q =
+    HadEntry h p (record { 0 = q }) × ((i : Instance) → NoneConsumes (entries_of h) p (record { 0 = q }) i)
+
+-- a segment is given up only so
+abbrev pub GivesUp : List Seen → Key → Node → Type 0
+GivesUp h k n = IsGivenUp n → (p : Partition) (q : ℕ) → k ≡ node_key p q → NobodyConsumes h p q
+
 -- what a call owes that is carried out: a set of the ideal state keeps the entries turned from which it starts, and no other one
--- writes it
+-- writes it; and it gives a segment up only where nobody is to consume it
 abbrev pub Turns : Starting → List Seen → Write → Type 0
-Turns s h (create k n) = k ≡ key.Ideal → ⊥
-Turns s h (set from n) = Has h from × (from.key ≡ key.Ideal → Turned s h (entries_by from.node) → Turned s h (entries_by n))
+Turns s h (create k n) = (k ≡ key.Ideal → ⊥) × (IsGivenUp n → ⊥)
+Turns s h (set from n) =
+    Has h from × (from.key ≡ key.Ideal → Turned s h (entries_by from.node) → Turned s h (entries_by n)) × GivesUp h from.key n
 Turns s h (delete from) = from.key ≡ key.Ideal → ⊥
-Turns s h (create_after k n prior) = k ≡ key.Ideal → ⊥
+Turns s h (create_after k n prior) = (k ≡ key.Ideal → ⊥) × (IsGivenUp n → ⊥)
 Turns s h (bump i) = Unit {0}
 
 abbrev pub TurnsSome : Starting → List Seen → Option Write → Type 0
 TurnsSome s h None = Unit {0}
 TurnsSome s h (Some call) = Turns s h call
 
-by_ideal : (k : Key) (P : Type 0) → (k ≡ key.Ideal → P) → ((k ≡ key.Ideal → ⊥) → P) → P
+pub by_ideal : (k : Key) (P : Type 0) → (k ≡ key.Ideal → P) → ((k ≡ key.Ideal → ⊥) → P) → P
 by_ideal key.Ideal P same other = same refl
 by_ideal (key.Meta p s) P same other = other (λ e. cc)
 by_ideal (key.Boot i) P same other = other (λ e. cc)
@@ -117,12 +138,12 @@ module _ (s : Starting) (h : List Seen) (lawful : IsLawfulHistory s h) (turned :
 
   wrote_turned : (call : Write) → IsLawfulHistory s (h ++ written_by h call ∷ []) → TakesEffect h call → Turns s h call
       → TurnedNow s (h ++ written_by h call ∷ [])
-  wrote_turned (create k n) after effect turns = other_turned (write_of h k n) turns after
+  wrote_turned (create k n) after effect turns = other_turned (write_of h k n) turns.0 after
   wrote_turned (set from n) after effect turns =
       by_ideal from.key (TurnedNow s (h ++ write_of h from.key n ∷ [])) (λ is. set_turned from n is effect turns)
       (λ other. other_turned (write_of h from.key n) other after)
   wrote_turned (delete from) after effect turns = other_turned (write_of h from.key node.Gone) turns after
-  wrote_turned (create_after k n prior) after effect turns = other_turned (write_of h k n) turns after
+  wrote_turned (create_after k n prior) after effect turns = other_turned (write_of h k n) turns.0 after
   wrote_turned (bump i) after effect turns = other_turned (write_of h (key.Boot i) node.Boot) (λ e. cc) after
 
   -- what a call leaves

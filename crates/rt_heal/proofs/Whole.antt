@@ -1,16 +1,14 @@
 -- A query over a world at rest is answered whole.
-use Rattle.std.proofs.Common.{◌≡◌, ◌<◌, List, [], Ok, false, ◌∙◌, ap, subst, sym}
+use Rattle.std.proofs.Common.{◌≡◌, ◌<◌, List, [], Ok, false, ◌∙◌, ap}
 use Rattle.rt_base.specs.declared.numbers.Partition.{Partition}
 use Rattle.rt_macros.specs.Doing.{Reached}
 use Rattle.rt_macros.specs.Querying.{Queries}
 use Rattle.rt_macros.specs.Settling.{Round}
 use Rattle.rt_model.specs.Aggregate.{aggregate}
 use Rattle.rt_model.specs.Checked.{IsQuery}
-use Rattle.rt_model.specs.Entries.{entries_of}
 use Rattle.rt_model.specs.RightAnswer.{rows_of}
 use Rattle.rt_model.specs.Setup.{IsSetup}
 use Rattle.rt_model.specs.declared.answer.Answer.{Answer}
-use Rattle.rt_model.specs.declared.node.Seen.{Seen}
 use Rattle.rt_model.specs.declared.query.Query.{Query}
 use Rattle.rt_model.specs.declared.setup.Setup.{Setup}
 use Rattle.rt_safety.proofs.Later.{runs_are_safe}
@@ -22,13 +20,15 @@ use Rattle.rt_heal.specs.AtRest.{AreUp, IsAtRest}
 use Rattle.rt_heal.specs.Led.{IsLed}
 use Rattle.rt_heal.specs.Mended.{GoesOn, NeedsNoRepair}
 use Rattle.rt_heal.specs.Planned.{AreOnline, NoneDropped}
-use Rattle.rt_heal.specs.Turned.{AreTurned, IsTurned, NoneHalfRetired, WasCommitted}
+use Rattle.rt_heal.specs.Turned.{NoneHalfRetired}
 use Rattle.rt_heal.proofs.Asking.{query_answered}
+use Rattle.rt_heal.proofs.Dropped.{dropped_out, leads_told, runs_told}
 use Rattle.rt_heal.proofs.Missing.{misses_nothing}
 use Rattle.rt_heal.proofs.Online.{are_online}
-use Rattle.rt_heal.proofs.Quiet.{round_leaves, HasRested}
+use Rattle.rt_heal.proofs.Quiet.{round_leaves}
 use Rattle.rt_heal.proofs.Ranges.{names_all}
-use Rattle.rt_heal.proofs.TurnedRuns.{runs_turned}
+use Rattle.rt_heal.proofs.TurnedRuns.{leads_turned, runs_turned}
+use Rattle.rt_heal.proofs.Undropped.{none_dropped}
 use Rattle.rt_heal.proofs.Wholes.{unneeding_goes_on}
 
 pub answered_whole : (w : State) → IsSafeWorld w → IsAtRest w → w.store.faults.plan ≡ [] → ((p : Partition) → p.0 < w.setup.partitions → GoesOn w.store.writes p)
@@ -44,23 +44,19 @@ answered_whole w s rest unplanned goes online kept query v answer fits h =
       rows = k.rows ∙ ap (λ rs. aggregate query (rows_of w.setup.schema w.log rs)) ranges;
     }
 
--- committed segments stay turned in a quiet round
-quiet_turned : (w v : State) → HasRested w v → IsTurned w → IsTurned v
-quiet_turned w v r turned =
-    subst (λ (x : Setup). AreTurned (WasCommitted x.partitions v.store.writes) (entries_of v.store.writes)) (sym r.same)
-    (subst (λ (h : List Seen). AreTurned (WasCommitted w.setup.partitions h) (entries_of h)) (sym r.written) turned)
-
 pub after_quiet : (setup : Setup) (turns : List Turn) (w : State) (v : Reached) → IsSetup setup → Runs setup turns w → AreUp w
     → w.store.faults.plan ≡ [] → IsLed w → Round false w v (Ok false)
     → ((p : Partition) → p.0 < v.world.setup.partitions → NeedsNoRepair v.world.setup v.world.store.writes v.world.moment p)
     → ((p : Partition) → p.0 < v.world.setup.partitions → NoneHalfRetired v.world.store.writes p)
-    → ((p : Partition) → p.0 < v.world.setup.partitions → NoneDropped v.world p)
     → (query : Query) (x : Reached) (answer : Answer) → IsQuery v.world.setup.schema query → Queries query v.world x (Ok answer)
     → IsAnsweredWhole v.world query answer
-after_quiet setup turns w v is run up unplanned led round mended retired kept query x answer fits asked =
+after_quiet setup turns w v is run up unplanned led round mended retired query x answer fits asked =
     let r = round_leaves w v (runs_are_safe setup turns w is run) up unplanned led round in
-    let turned = quiet_turned w v.world r (runs_turned setup turns w is run) in
+    let safe = runs_are_safe setup turns w is run in
+    let turned = leads_turned w r.reached.0 v.world safe (runs_turned setup turns w is run) r.reached.1 in
+    let out = leads_told w r.reached.0 v.world safe (runs_told setup turns w is run) r.reached.1 in
     let goes : (p : Partition) → p.0 < v.world.setup.partitions → GoesOn v.world.store.writes p =
     λ p within. unneeding_goes_on v.world p r.safe within (mended p within) in
     answered_whole v.world r.safe r.rest r.unplanned goes
-    (λ p within. are_online v.world p r.safe turned within (goes p within) (retired p within)) kept query x answer fits asked
+    (λ p within. are_online v.world p r.safe turned within (goes p within) (retired p within)) (none_dropped v.world r.safe r.rest (dropped_out v.world out))
+    query x answer fits asked

@@ -1,8 +1,9 @@
 -- The writes of jobs, repairs and retirements keep committed segments turned.
-use Rattle.std.proofs.Common.{◌≡◌, ℕ, ◌+◌, ◌-◌, ◌<◌, ◌⊎◌, inl, inr, Bool, true, false, ◌&&◌, not, nat_lt, cond, List, [], ◌∷◌, Option, Some, None, refl, sym, ◌∙◌, ap, subst, arith}
+use Rattle.std.proofs.Common.{◌≡◌, ℕ, ◌+◌, ◌-◌, ◌<◌, ◌⊎◌, inl, inr, Bool, true, false, ◌&&◌, ◌||◌, not, nat_lt, cond, List, [], ◌∷◌, Option, Some, None, refl, sym, ◌∙◌, ap, subst, arith}
 use Rattle.std.specs.Prelude.{◌==◌}
-use Rattle.std.proofs.lemmas.Bool.{and_from, cond_both, eq-eqb, lt-ltb, or_left, or_right, true≢false}
+use Rattle.std.proofs.lemmas.Bool.{and_from, and_parts, cond_both, eq-eqb, lt-ltb, or_left, or_right, true≢false}
 use Rattle.rt_base.specs.declared.limits.TheConstants.{LAST_NUMBER}
+use Rattle.rt_base.specs.declared.numbers.Instance.{Instance}
 use Rattle.rt_base.specs.declared.numbers.Moment.{Moment}
 use Rattle.rt_base.specs.declared.numbers.Partition.{Partition}
 use Rattle.rt_base.specs.declared.numbers.Sequence.{Sequence}
@@ -18,14 +19,15 @@ use Rattle.rt_lists.specs.Members.{Has}
 use Rattle.rt_lists.proofs.Members.{Has-front}
 use Rattle.rt_model.specs.Entries.{entries_by, entries_in, entries_of, HasEntry, IsUnbroken}
 use Rattle.rt_model.specs.History.{last_write}
-use Rattle.rt_model.specs.Ideal.{add_consuming_of, commit_step_of, goes_on, has_entry}
+use Rattle.rt_model.specs.Ideal.{add_consuming_of, commit_step_of, goes_on, has_entry, is_of}
 use Rattle.rt_model.specs.Lawful.{set, create_after, IsLawfulHistory}
 use Rattle.rt_model.specs.Laws.{IsEnding, IsGoneLast}
 use Rattle.rt_model.specs.Metadata.{listed_write, metadata_of, node_key, IsCreated, IsDone, IsDoneStatus, IsInProgress}
 use Rattle.rt_model.specs.Moments.{later}
-use Rattle.rt_model.specs.Repair.{are_offline, decide_by, decide_last, decide_open}
+use Rattle.rt_model.specs.Repair.{are_offline, is_offline, decide_by, decide_last, decide_open}
 use Rattle.rt_model.specs.Starting.{Starting}
 use Rattle.rt_model.specs.declared.asked.Asked.{Asked}
+use Rattle.rt_model.specs.declared.commit.Commit.{Commit}
 use Rattle.rt_model.specs.declared.decision.Decision.{Decision}
 use Rattle.rt_model.specs.declared.decision.Decision.TheVariants.{Nothing, AddToIdeal, Abandon}
 use Rattle.rt_model.specs.declared.ideal_state.IdealEntry.{IdealEntry}
@@ -37,6 +39,7 @@ use Rattle.rt_model.specs.declared.node.Seen.{Seen}
 use Rattle.rt_model.specs.declared.status.Status.{Status}
 use Rattle.rt_model.specs.declared.status.Status.TheVariants.{InProgress, Done, Abandoned}
 use Rattle.rt_model.proofs.Chains.{IsDone-final}
+use Rattle.rt_model.proofs.Entries.{is_of-same}
 use Rattle.rt_model.proofs.Histories.{value_of-last}
 use Rattle.rt_model.proofs.Kept.{last_write-Has}
 use Rattle.rt_model.proofs.Lawful.{has_endings, has_passed_deletions, has_unbroken_runs}
@@ -56,10 +59,13 @@ use Rattle.rt_repair.specs.declared.retiring.Retiring.TheVariants as retiring
 use Rattle.rt_repair.proofs.Adding.{before_of}
 use Rattle.rt_repair.proofs.LastSegment.{IsLast, last_segment}
 use Rattle.rt_repair.proofs.MayRepair.{IsState, state_read}
+use Rattle.rt_store.proofs.Listing.{value_has}
+use Rattle.rt_heal.specs.Dropped.{NoneConsumes}
 use Rattle.rt_heal.specs.Turned.{WasCommitted}
+use Rattle.rt_heal.proofs.Stopping.{stays_none}
 use Rattle.rt_heal.proofs.Asked.{done_listed}
 use Rattle.rt_heal.proofs.Turned.{add_turned, commit_turned, offline_turned, remove_turned}
-use Rattle.rt_heal.proofs.Turning.{created_ended, Turned, Turns, TurnsSome}
+use Rattle.rt_heal.proofs.Turning.{created_ended, NobodyConsumes, Turned, Turns, TurnsSome}
 
 -- no node of a segment is the ideal state
 node_apart : (p : Partition) (q : ℕ) → node_key p q ≡ key.Ideal → ⊥
@@ -69,6 +75,13 @@ node_apart p q e = cc
 written_unbroken : (s : Starting) (h : List Seen) (ideal : Seen) (p : Partition) → IsLawfulHistory s h → Has h ideal → ideal.key ≡ key.Ideal
     → IsUnbroken (entries_by ideal.node) p
 written_unbroken s h ideal p lawful has is = has_unbroken_runs s h lawful ideal p (record { has = has; is_ideal = is })
+
+-- a segment that is committed or begun isn't given up
+done_kept : (commit : Commit) → Done commit ≡ Abandoned → ⊥
+done_kept commit e = cc
+
+begun_kept : InProgress ≡ Abandoned → ⊥
+begun_kept e = cc
 
 -- ---- jobs
 
@@ -91,11 +104,11 @@ module _ (s : Starting) (h : List Seen) (lawful : IsLawfulHistory s h) where
   pub stage_turns : (a : Assigned) (q : Asked) (now : Moment) (at : JobStage) → IsAt h q at → CallTurns s h (call_at a q now at)
   stage_turns a q now (stage.Check from end path) k = tt
   stage_turns a q now (stage.Done from commit) k =
-      (k.read.has, λ is turned. absurd (node_apart q.partition q.sequence.0 (sym k.read.of ∙ is)))
-  stage_turns a q now (stage.Next done) k = λ e. cc
+      (k.read.has, λ is turned. absurd (node_apart q.partition q.sequence.0 (sym k.read.of ∙ is)), λ gone p t e. absurd (done_kept commit gone))
+  stage_turns a q now (stage.Next done) k = (λ e. cc, λ gone. begun_kept gone)
   stage_turns a q now (stage.IdealRead w found) k = tt
   stage_turns a q now (stage.IdealSet w found ideal) k =
-      (k.has, λ is turned. work_turned a q w (entries_by ideal.node) (written_unbroken s h ideal q.partition lawful k.has is) turned)
+      (k.has, λ is turned. work_turned a q w (entries_by ideal.node) (written_unbroken s h ideal q.partition lawful k.has is) turned, λ gone p t e. absurd gone)
   stage_turns a q now stage.Ended k = tt
 
 -- ---- repairs
@@ -123,6 +136,42 @@ record IsReadAt (s : Starting) (h first second : List Seen) (r : Repairing) (l :
   listed : HasListed s h r.partition (Some (read_node r.partition l)) follows first
   read : HasIdeal s h first ideal second
   last : IsLast first r.partition l
+
+or_fails : (a b : Bool) → a ≡ true → b ≡ false → not a || b ≡ true → ⊥
+or_fails true true is none e = true≢false none
+or_fails true false is none e = true≢false (sym e)
+or_fails false b is none e = true≢false (sym is)
+
+-- entries that are all OFFLINE
+offline_none : (es : List IdealEntry) (p : Partition) (q : Sequence) (i : Instance) → are_offline es p q ≡ true → NoneConsumes es p q i
+offline_none [] p q i off e has a b c d = absurd has
+offline_none (x ∷ es) p q i off e has a b c d = by_place has (λ there. offline_none es p q i parts.1 e there a b c d)
+  where
+    parts : (not (is_of p q x) || is_offline x.mode ≡ true) × (are_offline es p q ≡ true)
+    parts = and_parts (not (is_of p q x) || is_offline x.mode) (are_offline es p q) off
+
+    here : (y : IdealEntry) → (not (is_of p q y) || is_offline y.mode ≡ true) → e ≡ y → ⊥
+    here y one same =
+        or_fails (is_of p q y) (is_offline y.mode)
+        (subst (λ (z : IdealEntry). is_of p q z ≡ true) same (is_of-same p q e a (ap (λ (z : Sequence). z.0) b)))
+        (ap is_offline (ap (λ (z : IdealEntry). z.mode) (sym same) ∙ d)) one
+
+    by_place : (x ≡ e) ⊎ Has es e → (Has es e → ⊥) → ⊥
+    by_place (inl same) further = here x parts.0 (sym same)
+    by_place (inr there) further = further there
+
+same_place : (p o : Partition) (a b : Sequence) → key.Meta p a ≡ key.Meta o b → p ≡ o
+same_place p o a b e = cc
+
+same_number : (p o : Partition) (a b : Sequence) → key.Meta p a ≡ key.Meta o b → a ≡ b
+same_number p o a b e = cc
+
+same_node : (p o : Partition) (q t : ℕ) → node_key p q ≡ node_key o t → (p ≡ o) × (q ≡ t)
+same_node p o q t e = (same_place p o (record { 0 = q }) (record { 0 = t }) e, ap (λ (x : Sequence). x.0) (same_number p o (record { 0 = q }) (record { 0 = t }) e))
+
+not_false : (b : Bool) → not b ≡ false → b ≡ true
+not_false true e = refl
+not_false false e = absurd (true≢false e)
 
 module _ (s : Starting) (h first second : List Seen) (r : Repairing) (l : Listed) (follows : Bool) (ideal : Seen)
     (k : IsReadAt s h first second r l follows ideal) where
@@ -188,6 +237,26 @@ module _ (s : Starting) (h first second : List Seen) (r : Repairing) (l : Listed
           by_test true c = absurd (true≢false (sym (lt-ltb 0 l.sequence.0 (omega (arith, at))) ∙ c))
 
   module _ (now : Moment) (i : IdealState) (state : IsState h ideal i) where
+    -- all its entries were OFFLINE as they were read, and no instance gets it again
+    given_up : are_offline es p l.sequence ≡ true → has_entry es p l.sequence ≡ true → (o : Partition) (t : ℕ) → node_key p l.sequence.0 ≡ node_key o t
+        → NobodyConsumes h o t
+    given_up off some o t e =
+        let place = same_node p o l.sequence.0 t e in
+        subst (λ (x : Partition). NobodyConsumes h x t) place.0
+        (subst (λ (x : ℕ). NobodyConsumes h p x) place.1 (
+          (ideal, record { has = state.has; is_ideal = state.is_ideal }, some),
+          λ j.
+              stays_none s second h p l.sequence j k.read.past.front k.read.past.lawful k.lawful
+              (ideal, record { has = value_there; is_ideal = state.is_ideal }, some)
+              (subst (λ (fs : List IdealEntry). NoneConsumes fs p l.sequence j) (sym now_read) (offline_none es p l.sequence j off)),
+        ))
+      where
+        now_read : entries_of second ≡ es
+        now_read = ap entries_in (value_of-last second key.Ideal ideal k.read.value).0
+
+        value_there : Has second ideal
+        value_there = (value_has second key.Ideal ideal k.read.value).0
+
     -- the call of what is decided
     abbrev Decides : Decision → Type 0
     Decides d = TurnsSome s h (repair_write_by r now (Some (read_node p l)) follows ideal d)
@@ -197,16 +266,20 @@ module _ (s : Starting) (h first second : List Seen) (r : Repairing) (l : Listed
         cond_both (not (has_entry es p l.sequence)) (AddToIdeal l.sequence) (cond (are_offline es p l.sequence) (Abandon l.sequence) Nothing) Decides
         (λ none.
         cond_both (goes_on es p l.sequence.0) (Some (set ideal (node.Ideal (record { entries = added_entries r l.sequence follows es })))) None
-        (TurnsSome s h) (λ on. (state.has, λ is turned. added_turned goes on state.has is turned)) (λ off. tt))
+        (TurnsSome s h) (λ on. (state.has, λ is turned. added_turned goes on state.has is turned, λ gone q t e. absurd gone)) (λ off. tt))
         (λ some.
         cond_both (are_offline es p l.sequence) (Abandon l.sequence) Nothing Decides
-        (λ off. (Has-front first h (listed_write p l) k.listed.past.front k.last.has, λ is turned. absurd (node_apart p l.sequence.0 is)))
+        (λ off. (
+          Has-front first h (listed_write p l) k.listed.past.front k.last.has,
+          λ is turned. absurd (node_apart p l.sequence.0 is),
+          λ gone o t e. given_up off (not_false (has_entry es p l.sequence) some) o t e,
+        ))
         (λ on. tt))
 
     status_turns : (status : Status) → l.seen.meta.status ≡ status → Decides (decide_by p l.sequence es l.seen.meta status)
     status_turns InProgress is = open_turns (subst IsInProgress (sym is) tt)
-    status_turns (Done commit) is = λ e. cc
-    status_turns Abandoned is = λ e. cc
+    status_turns (Done commit) is = (λ e. cc, λ gone. begun_kept gone)
+    status_turns Abandoned is = (λ e. cc, λ gone. begun_kept gone)
 
     last_turns : Decides (decide_last p es now r.grace (Some l))
     last_turns =
@@ -246,7 +319,7 @@ retiring_turns : (s : Starting) (h : List Seen) (r : Retirement) (o : Option Lis
     → TurnsSome s h (retire_write_by r (read_by r.partition o) ideal d)
 retiring_turns s h r o ideal i retiring.Nothing state = tt
 retiring_turns s h r o ideal i (retiring.Remove q) state =
-    (state.has, λ is turned. remove_turned (WasCommitted s.partitions h) (entries_by ideal.node) r.partition q turned)
+    (state.has, λ is turned. remove_turned (WasCommitted s.partitions h) (entries_by ideal.node) r.partition q turned, λ gone o t e. absurd gone)
 retiring_turns s h r o ideal i (retiring.Delete q) state = deleted_turns s h r.partition o
 
 pub retire_turns : (s : Starting) (h : List Seen) (r : Retirement) (now : Moment) (at : RetireStage) → retires.Remembers s h r.partition at

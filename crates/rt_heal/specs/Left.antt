@@ -92,3 +92,14 @@ CanFollowEntry log (Committed c) = Unit {0}
 abbrev pub CanAllFollow : State → Type 0
 CanAllFollow w =
     (i : ℕ) (n : ServerNode) → slice_get w.servers i ≡ Some n → (x : Segment × Entry) → Has n.server.table.entries x → CanFollowEntry w.log x.1
+
+-- ---- short segments
+
+-- no more messages lie past a replica's start than a segment has rows at most
+abbrev pub IsShort : Log → Entry → Type 0
+IsShort log (Replica r) = length (messages_of log r.partition) ≤ r.start.0 + MOST_ROWS
+IsShort log (Committed c) = Unit {0}
+
+abbrev pub AreAllShort : State → Type 0
+AreAllShort w =
+    (i : ℕ) (n : ServerNode) → slice_get w.servers i ≡ Some n → (x : Segment × Entry) → Has n.server.table.entries x → IsShort w.log x.1

@@ -2,6 +2,8 @@ pub mod Answered
 pub mod Asks
 pub mod AtRest
 pub mod Calm
+pub mod Dropped
+pub mod GivenUp
 pub mod Led
 pub mod Left
 pub mod Mended

@@ -1,7 +1,8 @@
 //! What is whole once there is nothing left to do. Each law stands on a function that does nothing: its clause is the law.
-ghost use Rattle.std.specs.Prelude.{◌≡◌, ◌<◌, ◌≤◌, ◌⊎◌, ℕ, Bool, List, [], Some, Ok, true, false};
+ghost use Rattle.std.specs.Prelude.{◌≡◌, ◌<◌, ◌≤◌, ◌⊎◌, ℕ, Bool, List, [], Some, Ok, length, true, false};
 ghost use Rattle.rt_base.specs.declared.numbers.Instance.{Instance};
 ghost use Rattle.rt_base.specs.declared.numbers.Moment.{Moment};
+ghost use Rattle.rt_base.specs.declared.numbers.Offset.{Offset};
 ghost use Rattle.rt_base.specs.declared.numbers.Partition.{Partition};
 ghost use Rattle.rt_base.specs.declared.numbers.Sequence.{Sequence};
 ghost use Rattle.rt_broker.specs.Asking.{Asking};
@@ -18,28 +19,35 @@ ghost use Rattle.rt_model.specs.Metadata.{metadata_of, sequences_of, BecameFinal
 ghost use Rattle.rt_model.specs.Plan.{plan_of};
 ghost use Rattle.rt_model.specs.Setup.{IsSetup};
 ghost use Rattle.rt_model.specs.declared.answer.Answer.{Answer};
+ghost use Rattle.rt_model.specs.declared.ideal_state.IdealEntry.{IdealEntry};
 ghost use Rattle.rt_model.specs.declared.ideal_state.Mode.TheVariants.{Consuming, Online};
 ghost use Rattle.rt_model.specs.declared.node.Listed.{Listed};
 ghost use Rattle.rt_model.specs.declared.piece.Piece.{Piece};
 ghost use Rattle.rt_model.specs.declared.query.Query.{Query};
 ghost use Rattle.rt_model.specs.declared.reply.Reply.{Reply};
-ghost use Rattle.rt_model.specs.declared.reply.ReplyStatus.TheVariants.{Discard};
+ghost use Rattle.rt_model.specs.declared.reply.ReplyStatus.TheVariants.{CatchUp, Discard, Processed};
+ghost use Rattle.rt_model.specs.declared.request.Request.{Request};
+ghost use Rattle.rt_model.specs.declared.request.RequestKind.TheVariants.{Stopped};
 ghost use Rattle.rt_model.specs.declared.sent.Sent.TheVariants as sent;
 ghost use Rattle.rt_model.specs.declared.setup.Setup.{Setup};
 ghost use Rattle.rt_past.specs.IsPast.{IsPast};
 ghost use Rattle.rt_past.specs.Past.{Past};
+ghost use Rattle.rt_past.specs.Segments.{HadEntry};
 ghost use Rattle.rt_state.specs.IsSafeWorld.{IsSafeWorld};
 ghost use Rattle.rt_state.specs.Queries.{IsAnswerOf};
 ghost use Rattle.rt_safety.specs.Runs.{Turn, Leads, Runs};
 ghost use Rattle.rt_state.specs.declared.state.State.{State};
+ghost use Rattle.rt_stream.specs.Log.{messages_of};
 ghost use Rattle.rt_world.specs.Reading.{is_ready_at};
 ghost use Rattle.rt_world.specs.Step.{Steps};
 ghost use Rattle.rt_heal.specs.Answered.{IsAnsweredWhole, IsAskedNow, whole_from};
 ghost use Rattle.rt_heal.specs.Asks.{Asks};
 ghost use Rattle.rt_heal.specs.AtRest.{AreUp, IsAtRest, IsConsumedAt, IsServedAt};
 ghost use Rattle.rt_heal.specs.Calm.{AreAllCalm};
+ghost use Rattle.rt_heal.specs.Dropped.{AreDroppedOut, IsOut};
+ghost use Rattle.rt_heal.specs.GivenUp.{IsConsumable};
 ghost use Rattle.rt_heal.specs.Led.{IsLed};
-ghost use Rattle.rt_heal.specs.Left.{left_in_world, CanAllFollow};
+ghost use Rattle.rt_heal.specs.Left.{left_in_world, AreAllShort, CanAllFollow};
 ghost use Rattle.rt_heal.specs.Mended.{GoesOn, NeedsNoRepair};
 ghost use Rattle.rt_heal.specs.Planned.{AreOnline, IsGivenWhole, NoneDropped};
 ghost use Rattle.rt_heal.specs.Turned.{IsTurned, NoneHalfRetired};
@@ -85,12 +93,30 @@ pub fn committed_segments_are_turned_online()
         → NoneHalfRetired w.store.writes p → AreOnline w.store.writes p }
 {}
 
-/// Each DISCARD of a run is told of a segment that has ended, by a commit or given up: no replica of a segment in progress drops its
-/// rows by such an answer.
-#[tactic(auto, using(crate::proofs::Discards::discards_end))]
-pub fn a_discard_is_told_of_a_segment_that_ended()
-    ensures { (setup : Setup) (turns : List Turn) (w : State) (r : Reply) → IsSetup setup → Runs setup turns w
+/// In each world of each run what an instance is to consume can be consumed: the segment of each CONSUMING entry is listed, in
+/// progress or committed. It isn't deleted, nor given up, since that is done only where nobody is to consume it.
+#[tactic(auto, using(crate::proofs::GivenUp::consumable))]
+pub fn what_is_to_be_consumed_can_be()
+    ensures { (setup : Setup) (turns : List Turn) (w : State) (e : IdealEntry) → IsSetup setup → Runs setup turns w
+        → Has (entries_of w.store.writes) e → e.mode ≡ Consuming → IsConsumable w.store.writes e.partition e.sequence }
+{}
+
+/// A replica has dropped its rows only where its segment has ended, by a commit or given up, or where its instance has nothing of it
+/// to consume any more; and that lasts. In each run DISCARD is told of segments alone that have ended, and to a stop PROCESSED once
+/// its sender is out so. So at rest no replica of a segment in progress has dropped its rows that is to consume it.
+#[tactic(auto, using(crate::proofs::Dropped::discards_end, crate::proofs::Dropped::stops_out))]
+pub fn a_replica_that_dropped_its_rows_is_out()
+    ensures discards { (setup : Setup) (turns : List Turn) (w : State) (r : Reply) → IsSetup setup → Runs setup turns w
         → Has w.sent (sent.Reply r) → r.status ≡ Discard → BecameFinal w.store.writes r.partition r.sequence.0 }
+    ensures stops { (setup : Setup) (turns : List Turn) (w : State) (q : Request) (r : Reply) → IsSetup setup → Runs setup turns w
+        → Has w.sent (sent.Request q) → Has w.sent (sent.Reply r) → q.number ≡ r.number → q.kind ≡ Stopped → r.status ≡ Processed
+        → IsOut w.store.writes q.partition q.sequence q.number.instance }
+    ensures replicas { (setup : Setup) (turns : List Turn) (w : State) → IsSetup setup → Runs setup turns w → AreDroppedOut w }
+    ensures lasts { (setup : Setup) (turns : List Turn) (w : State) (more : List Turn) (v : State) → IsSetup setup → Runs setup turns w
+        → Leads w more v → (p : Partition) (q : Sequence) (i : Instance) → HadEntry w.store.writes p q → IsOut w.store.writes p q i
+        → IsOut v.store.writes p q i }
+    ensures rests { (setup : Setup) (turns : List Turn) (w : State) → IsSetup setup → Runs setup turns w → IsAtRest w
+        → (p : Partition) → p.0 < w.setup.partitions → NoneDropped w p }
 {}
 
 /// At rest each piece of a partition's plan is served whole by a replica, the committed ones from their start to their end and the
@@ -128,7 +154,6 @@ pub fn at_rest_a_query_is_answered_whole()
         → w.store.faults.plan ≡ [] → IsLed w → Round false w v (Ok false)
         → ((p : Partition) → p.0 < v.world.setup.partitions → NeedsNoRepair v.world.setup v.world.store.writes v.world.moment p)
         → ((p : Partition) → p.0 < v.world.setup.partitions → NoneHalfRetired v.world.store.writes p)
-        → ((p : Partition) → p.0 < v.world.setup.partitions → NoneDropped v.world p)
         → (query : Query) (x : Reached) (answer : Answer) → IsQuery v.world.setup.schema query → Queries query v.world x (Ok answer)
         → IsAnsweredWhole v.world query answer }
 {}
@@ -144,14 +169,25 @@ pub fn a_batch_and_a_build_leave_less_to_do()
         → Steps w (Build i p q) y (Ok outcome) → left_in_world y < left_in_world w }
 {}
 
+/// In each world of each run each CATCH_UP names an offset within the log. So each replica that is sent to a target, by CATCH_UP or by a
+/// commit, can come to it, where no more messages lie past its segment's start than a segment has rows at most.
+#[tactic(auto, using(crate::proofs::Following::catches_within, crate::proofs::Following::follows))]
+pub fn each_replica_can_come_to_its_target()
+    ensures catches { (setup : Setup) (turns : List Turn) (w : State) (r : Reply) (x : Offset) → IsSetup setup → Runs setup turns w
+        → Has w.sent (sent.Reply r) → r.status ≡ CatchUp x → x.0 ≤ length (messages_of w.log r.partition) }
+    ensures follows { (setup : Setup) (turns : List Turn) (w : State) → IsSetup setup → Runs setup turns w → AreAllShort w
+        → CanAllFollow w }
+{}
+
 /// Each round of `settle` in which anything happens and no replica asks a controller leaves less to do, whether the run is paused or
 /// not; so `settle` answers `settled` as soon as it has more rounds than there are messages and steps left, unless a replica asks. So
 /// it does in any case where no controller is up. All servers are up and have nothing to move, no fault of the store is planned, and
-/// each replica that is sent to a target can come to it.
+/// no more messages lie past the start of a replica's segment than a segment has rows at most.
 pub fn settle_ends_where_no_replica_asks()
-    ensures rounds { (paused : Bool) (w : State) (v : Reached) → IsSafeWorld w → AreUp w → w.store.faults.plan ≡ [] → AreAllCalm w
-        → CanAllFollow w → Round paused w v (Ok true) → Asks w v ⊎ (left_in_world v.world < left_in_world w) }
-    ensures settles { (paused : Bool) (rounds : ℕ) (w : State) (v : Reached) (settled : Bool) → IsSafeWorld w → AreUp w
-        → w.store.faults.plan ≡ [] → AreAllCalm w → CanAllFollow w → left_in_world w < rounds
-        → Settles paused rounds w v (Ok settled) → Asks w v ⊎ (settled ≡ true) }
+    ensures rounds { (setup : Setup) (turns : List Turn) (paused : Bool) (w : State) (v : Reached) → IsSetup setup
+        → Runs setup turns w → AreUp w → w.store.faults.plan ≡ [] → AreAllCalm w → AreAllShort w → Round paused w v (Ok true)
+        → Asks w v ⊎ (left_in_world v.world < left_in_world w) }
+    ensures settles { (setup : Setup) (turns : List Turn) (paused : Bool) (rounds : ℕ) (w : State) (v : Reached) (settled : Bool)
+        → IsSetup setup → Runs setup turns w → AreUp w → w.store.faults.plan ≡ [] → AreAllCalm w → AreAllShort w
+        → left_in_world w < rounds → Settles paused rounds w v (Ok settled) → Asks w v ⊎ (settled ≡ true) }
 {}
