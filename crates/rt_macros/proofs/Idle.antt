@@ -212,7 +212,7 @@ module _ (i : Instance) (p : Partition) (q : Sequence) (busy : Bool) (w : State)
       (idle_turn a.stage a.at (rests_idle a.at.replica.phase (ap rests_in a.at.so ∙ a.passed)))
 
   -- the second part of that of a replica which takes messages
-  pub takes_turn : takes_at w i (p, q) ≡ true → Comes (BuildAndExchange i (p, q) busy w) w (Ok busy)
+  pub takes_turn : takes_at w i (p, q) ≡ true → Comes (BuildAndExchange i (p, q) busy w) w w (Ok busy)
   takes_turn h =
       let a = so_at w i p q takes_in h in
-      record { turns = []; came = idle_turn a.stage a.at (takes_idle a.at.replica.phase (ap takes_in a.at.so ∙ a.passed)) }
+      record { turns = []; came = idle_turn a.stage a.at (takes_idle a.at.replica.phase (ap takes_in a.at.so ∙ a.passed)); led = refl }

@@ -65,22 +65,24 @@ module _ (paused : Bool) (i : Instance) (xs : List SegmentAt) where
   Left at noted w = Each (ReplicaTurn paused i) (drop at xs) noted w
 
   -- from the first that isn't at rest on
-  pub list_starts : (n : ℕ) (noted : Bool) (w : State) → n ≡ prefix_len (rests_at w i) xs → Leads (Left n noted w) (Each (ReplicaTurn paused i) xs noted w)
+  pub list_starts : (n : ℕ) (noted : Bool) (w : State) → n ≡ prefix_len (rests_at w i) xs → Leads (Left n noted w) (Each (ReplicaTurn paused i) xs noted w) w w
   list_starts n noted w e = record {
     taken = [];
     leads = λ v r rest.
         passed (ReplicaTurn paused i) w (rests_at w i) (λ x busy h. rests_turn i x.0 x.1 busy w paused h) xs noted v r
         (subst (λ k. Left k noted w v r) e rest);
+    led = refl;
   }
 
   -- and so from a place on
-  pub list_passes : (at n : ℕ) (noted : Bool) (w : State) (all : Coming Bool)
-      → Leads (Left at noted w) all → n ≡ prefix_len (rests_at w i) (drop at xs) → Leads (Left (at + n) noted w) all
+  pub list_passes : {from : State} (at n : ℕ) (noted : Bool) (w : State) (all : Coming Bool)
+      → Leads (Left at noted w) all from w → n ≡ prefix_len (rests_at w i) (drop at xs) → Leads (Left (at + n) noted w) all from w
   list_passes at n noted w all leads e = record {
     taken = leads.taken;
     leads = λ v r rest.
         leads.leads v r (passed (ReplicaTurn paused i) w (rests_at w i) (λ x busy h. rests_turn i x.0 x.1 busy w paused h) (drop at xs) noted v r
         (subst (λ ys. Each (ReplicaTurn paused i) ys noted w v r) (sym (drop-drop n at xs) ∙ ap (λ k. drop k (drop at xs)) e) rest));
+    led = leads.led;
   }
 
 -- those that are passed are of the list

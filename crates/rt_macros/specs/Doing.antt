@@ -5,7 +5,7 @@ use Rattle.rt_events.specs.declared.event.Event.{Event}
 use Rattle.rt_events.specs.declared.outcome.Outcome.{Outcome}
 use Rattle.rt_events.specs.declared.refusal.Refusal.{Refusal}
 use Rattle.rt_events.specs.declared.refusal.Refusal.TheVariants.{NoSuchMessage, NoSuchNode, NodeDown, NothingToDo, Limit, Memory}
-use Rattle.rt_safety.specs.Runs.{Turn, happens, passes}
+use Rattle.rt_safety.specs.Runs.{Leads, Turn, happens, passes}
 use Rattle.rt_state.specs.Clock.{Passes, pass_due}
 use Rattle.rt_world.specs.Kept.{Kept}
 use Rattle.rt_state.specs.Room.{dropped}
@@ -123,25 +123,36 @@ pub record PassesOver (w : State) (v : Reached) (result : Result (Unit {0}) Refu
 
 -- ---- calls
 
--- turns led to this world, and this came of them
-pub record Comes {A : Type 0} (wanted : Coming A) (w : State) (result : Result A Refusal) : Type 0 where
+-- turns led from a world to this one
+pub record IsLed (from v : State) : Type 0 where
   pub turns : List Turn
-  pub came : wanted (reached turns w) result
+  pub led : Leads from turns v
 
--- a call did this; want of memory is free
-abbrev pub Does : {A : Type 0} → Coming A → Kept → Result A Refusal → Type 0
-Does wanted new (Ok x) = (new.spent ≡ false) × Comes wanted new.state (Ok x)
-Does wanted new (Err Memory) = Unit {0}
-Does wanted new (Err NoSuchMessage) = (new.spent ≡ false) × Comes wanted new.state (Err NoSuchMessage)
-Does wanted new (Err NoSuchNode) = (new.spent ≡ false) × Comes wanted new.state (Err NoSuchNode)
-Does wanted new (Err NodeDown) = (new.spent ≡ false) × Comes wanted new.state (Err NodeDown)
-Does wanted new (Err NothingToDo) = (new.spent ≡ false) × Comes wanted new.state (Err NothingToDo)
-Does wanted new (Err (Limit which)) = (new.spent ≡ false) × Comes wanted new.state (Err (Limit which))
+-- turns led from a world to this one, and this came of them
+pub record Comes {A : Type 0} (wanted : Coming A) (from v : State) (result : Result A Refusal) : Type 0 where
+  pub turns : List Turn
+  pub came : wanted (reached turns v) result
+  pub led : Leads from turns v
+
+-- this was done from a world on. Where memory ran out at an event the world is spent; where it ran out beside the world, for a
+-- list or a text, turns have led to this one
+abbrev pub DoesFrom : {A : Type 0} → Coming A → State → Kept → Result A Refusal → Type 0
+DoesFrom wanted from new (Ok x) = (new.spent ≡ false) × Comes wanted from new.state (Ok x)
+DoesFrom wanted from new (Err Memory) = new.spent ≡ false → IsLed from new.state
+DoesFrom wanted from new (Err NoSuchMessage) = (new.spent ≡ false) × Comes wanted from new.state (Err NoSuchMessage)
+DoesFrom wanted from new (Err NoSuchNode) = (new.spent ≡ false) × Comes wanted from new.state (Err NoSuchNode)
+DoesFrom wanted from new (Err NodeDown) = (new.spent ≡ false) × Comes wanted from new.state (Err NodeDown)
+DoesFrom wanted from new (Err NothingToDo) = (new.spent ≡ false) × Comes wanted from new.state (Err NothingToDo)
+DoesFrom wanted from new (Err (Limit which)) = (new.spent ≡ false) × Comes wanted from new.state (Err (Limit which))
+
+-- a call did this from a world on
+abbrev pub Does : {A : Type 0} → Act A → State → Kept → Result A Refusal → Type 0
+Does act from new result = DoesFrom (act from) from new result
 
 -- a call did this, and made the text that is told of it
 abbrev pub text_told : List ℕ → Result (Unit {0}) Refusal → Result (List ℕ) Refusal
 text_told text (Ok done) = Ok text
 text_told text (Err refusal) = Err refusal
 
-abbrev pub DoesText : Coming (List ℕ) → Kept → List ℕ → Result (Unit {0}) Refusal → Type 0
-DoesText wanted new text result = Does wanted new (text_told text result)
+abbrev pub DoesText : Act (List ℕ) → State → Kept → List ℕ → Result (Unit {0}) Refusal → Type 0
+DoesText act from new text result = Does act from new (text_told text result)

@@ -14,7 +14,7 @@ use std::alloc::Global;
 pub fn apply(alloc: Global, world: &mut World, event: &Event) -> Result<Outcome, Refusal>
     requires unspent { world.old.spent ≡ false }
     requires fits { Fits world.old.state.setup.schema event.now }
-    ensures { Does (Happens event.now world.old.state) world.new result }
+    ensures { Does (Happens event.now) world.old.state world.new result }
 {
     world.apply(alloc, event)
 }
@@ -23,7 +23,7 @@ pub fn apply(alloc: Global, world: &mut World, event: &Event) -> Result<Outcome,
 pub fn act(alloc: Global, world: &mut World, event: Event) -> Result<Outcome, Refusal>
     requires unspent { world.old.spent ≡ false }
     requires fits { Fits world.old.state.setup.schema event }
-    ensures { Does (Happens event world.old.state) world.new result }
+    ensures { Does (Happens event) world.old.state world.new result }
 {
     apply(alloc, world, &event)
 }
@@ -32,7 +32,7 @@ pub fn act(alloc: Global, world: &mut World, event: Event) -> Result<Outcome, Re
 #[tactic(auto, using(crate::proofs::Applied::line_passes))]
 pub fn pass(world: &mut World) -> Result<(), Refusal>
     requires { world.old.spent ≡ false }
-    ensures { Does (PassesOver world.old.state) world.new result }
+    ensures { Does PassesOver world.old.state world.new result }
 {
     match world.pass() {
         Ok(()) => Ok(()),
@@ -44,7 +44,7 @@ pub fn pass(world: &mut World) -> Result<(), Refusal>
 pub fn happen(alloc: Global, world: &mut World, event: Event) -> Result<(), Refusal>
     requires unspent { world.old.spent ≡ false }
     requires fits { Fits world.old.state.setup.schema event }
-    ensures { Does (Passed event world.old.state) world.new result }
+    ensures { Does (Passed event) world.old.state world.new result }
 {
     match act(alloc, world, event) {
         Ok(outcome) => {
@@ -64,7 +64,7 @@ pub fn produce(
     message: &Bytes,
 ) -> Result<(), Refusal>
     requires { world.old.spent ≡ false }
-    ensures { Does (Passed (Produce partition message.now) world.old.state) world.new result }
+    ensures { Does (Passed (Produce partition message.now)) world.old.state world.new result }
 {
     match world.produce(alloc, partition, message) {
         Ok(_offset) => Ok(()),
@@ -77,7 +77,7 @@ pub fn produce(
 pub fn attempt(alloc: Global, world: &mut World, event: Event, busy: bool) -> Result<bool, Refusal>
     requires unspent { world.old.spent ≡ false }
     requires fits { Fits world.old.state.setup.schema event }
-    ensures { Does (Attempted event busy world.old.state) world.new result }
+    ensures { Does (Attempted event busy) world.old.state world.new result }
 {
     match act(alloc, world, event) {
         Ok(outcome) => {

@@ -45,7 +45,7 @@ pub fn exchange(
     controller: ControllerId,
 ) -> Result<Exchanged, Refusal>
     requires { world.old.spent ≡ false }
-    ensures { Does (Exchanges instance partition sequence controller world.old.state) world.new result }
+    ensures { Does (Exchanges instance partition sequence controller) world.old.state world.new result }
 {
     let report = Event::Report {
         instance,
@@ -63,7 +63,7 @@ fn exchange_by(
 ) -> Result<Exchanged, Refusal>
     requires unspent { world.old.spent ≡ false }
     requires fits { Fits world.old.state.setup.schema report }
-    ensures { Does (ExchangesBy report controller world.old.state) world.new result }
+    ensures { Does (ExchangesBy report controller) world.old.state world.new result }
 {
     exchange_due(world, &report, controller)?;
     report_and_finish(alloc, world, report, controller)
@@ -79,7 +79,7 @@ fn report_and_finish(
 ) -> Result<Exchanged, Refusal>
     requires unspent { world.old.spent ≡ false }
     requires fits { Fits world.old.state.setup.schema report }
-    ensures { Does (ReportsAndFinishes report controller world.old.state) world.new result }
+    ensures { Does (ReportsAndFinishes report controller) world.old.state world.new result }
 {
     let outcome = act(alloc, world, report)?;
     finish_exchange(alloc, world, outcome, controller)
@@ -125,7 +125,7 @@ pub fn finish_exchange(
     controller: ControllerId,
 ) -> Result<Exchanged, Refusal>
     requires { world.old.spent ≡ false }
-    ensures { Does (AfterReport controller reported world.old.state) world.new result }
+    ensures { Does (AfterReport controller reported) world.old.state world.new result }
 {
     match sent(reported) {
         Some(request) => send_and_take(alloc, world, request, controller),
@@ -141,7 +141,7 @@ fn send_and_take(
     controller: ControllerId,
 ) -> Result<Exchanged, Refusal>
     requires { world.old.spent ≡ false }
-    ensures { Does (SendsAndTakes controller request world.old.state) world.new result }
+    ensures { Does (SendsAndTakes controller request) world.old.state world.new result }
 {
     let replied = handle(alloc, world, request, controller)?;
     take_answer(alloc, world, request, replied)
@@ -156,7 +156,7 @@ fn take_answer(
     replied: Replied,
 ) -> Result<Exchanged, Refusal>
     requires { world.old.spent ≡ false }
-    ensures { Does (TakesAnswer request replied world.old.state) world.new result }
+    ensures { Does (TakesAnswer request replied) world.old.state world.new result }
 {
     let reply = Event::Reply {
         message: replied.message,
@@ -182,7 +182,7 @@ fn handle(
     controller: ControllerId,
 ) -> Result<Replied, Refusal>
     requires { world.old.spent ≡ false }
-    ensures { Does (Handles controller request world.old.state) world.new result }
+    ensures { Does (Handles controller request) world.old.state world.new result }
 {
     let deliver = Event::Deliver {
         message: request,
@@ -199,7 +199,7 @@ fn after_delivery(
     delivered: Delivered,
 ) -> Result<Replied, Refusal>
     requires { world.old.spent ≡ false }
-    ensures { Does (AfterDelivery controller delivered world.old.state) world.new result }
+    ensures { Does (AfterDelivery controller delivered) world.old.state world.new result }
 {
     match delivered {
         Delivered::Replied(replied) => Ok(replied),
@@ -209,6 +209,7 @@ fn after_delivery(
 }
 
 // Makes the steps of a job until it has ended; there are no more of them than events left.
+#[tactic(auto, using(crate::proofs::Doing::leads_itself))]
 fn end_job(
     alloc: Global,
     world: &mut World,
@@ -216,7 +217,7 @@ fn end_job(
     job: u64,
 ) -> Result<Replied, Refusal>
     requires { world.old.spent ≡ false }
-    ensures { Does (MakesJob controller job world.old.state) world.new result }
+    ensures { Does (MakesJob controller job) world.old.state world.new result }
 {
     let mut left = world.events_left();
     while left > 0 {
@@ -239,7 +240,7 @@ fn step(
     job: u64,
 ) -> Result<Option<Replied>, Refusal>
     requires { world.old.spent ≡ false }
-    ensures { Does (MakesStep controller job world.old.state) world.new result }
+    ensures { Does (MakesStep controller job) world.old.state world.new result }
 {
     let outcome = act(alloc, world, Event::Job { controller, job })?;
     Ok(ended(outcome))

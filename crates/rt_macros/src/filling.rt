@@ -17,7 +17,7 @@ pub fn fill(
     count: u64,
 ) -> Result<Offset, Refusal>
     requires { world.old.spent ≡ false }
-    ensures { Does (Fills partition count world.old.state) world.new result }
+    ensures { Does (Fills partition count) world.old.state world.new result }
 {
     if partition.0 >= world.setup().partitions {
         return Err(Refusal::NoSuchNode);
@@ -37,7 +37,7 @@ fn fill_more(
     count: u64,
 ) -> Result<(), Refusal>
     requires { world.old.spent ≡ false }
-    ensures { Does (EachFrom (FillsOne partition) 0 count tt world.old.state) world.new result }
+    ensures { Does (EachFrom (FillsOne partition) 0 count tt) world.old.state world.new result }
 {
     let mut done = 0;
     while done < count {
@@ -53,7 +53,7 @@ fn fill_more(
 // One message more, which says its own offset.
 fn fill_one(alloc: Global, world: &mut World, partition: Partition) -> Result<(), Refusal>
     requires { world.old.spent ≡ false }
-    ensures { Does (FillsOne partition 0 tt world.old.state) world.new result }
+    ensures { Does (FillsOne partition 0 tt) world.old.state world.new result }
 {
     let offset = world.length(partition);
     let message = numbered_text(alloc, offset)?;

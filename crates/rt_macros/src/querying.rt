@@ -16,7 +16,7 @@ use std::alloc::Global;
 pub fn query(alloc: Global, world: &mut World, query: Query) -> Result<Answer, Refusal>
     requires unspent { world.old.spent ≡ false }
     requires fits { IsQuery world.old.state.setup.schema query }
-    ensures { Does (Queries query world.old.state) world.new result }
+    ensures { Does (Queries query) world.old.state world.new result }
 {
     let outcome = act(alloc, world, Event::Ask { query })?;
     by_number(alloc, world, asked(outcome))
@@ -24,7 +24,7 @@ pub fn query(alloc: Global, world: &mut World, query: Query) -> Result<Answer, R
 
 fn by_number(alloc: Global, world: &mut World, number: Option<u32>) -> Result<Answer, Refusal>
     requires { world.old.spent ≡ false }
-    ensures { Does (ByNumber number world.old.state) world.new result }
+    ensures { Does (ByNumber number) world.old.state world.new result }
 {
     match number {
         Some(number) => finish_query(alloc, world, number),
@@ -36,7 +36,7 @@ fn by_number(alloc: Global, world: &mut World, number: Option<u32>) -> Result<An
 #[tactic(auto, using(crate::proofs::Doing::does_then, crate::proofs::Doing::does_refused, crate::proofs::Doing::does_told))]
 fn finish_query(alloc: Global, world: &mut World, number: u32) -> Result<Answer, Refusal>
     requires { world.old.spent ≡ false }
-    ensures { Does (AfterAsking number world.old.state) world.new result }
+    ensures { Does (AfterAsking number) world.old.state world.new result }
 {
     route_all(alloc, world, number)?;
     ask_and_answer(alloc, world, number)
@@ -45,7 +45,7 @@ fn finish_query(alloc: Global, world: &mut World, number: u32) -> Result<Answer,
 #[tactic(auto, using(crate::proofs::Doing::does_then, crate::proofs::Doing::does_refused, crate::proofs::Doing::does_told))]
 fn ask_and_answer(alloc: Global, world: &mut World, number: u32) -> Result<Answer, Refusal>
     requires { world.old.spent ≡ false }
-    ensures { Does (AsksAndAnswers number world.old.state) world.new result }
+    ensures { Does (AsksAndAnswers number) world.old.state world.new result }
 {
     ask_all(alloc, world, number)?;
     answer_now(alloc, world, number)
@@ -54,7 +54,7 @@ fn ask_and_answer(alloc: Global, world: &mut World, number: u32) -> Result<Answe
 #[tactic(auto, using(crate::proofs::Doing::does_then, crate::proofs::Doing::does_refused, crate::proofs::Doing::does_told))]
 fn answer_now(alloc: Global, world: &mut World, number: u32) -> Result<Answer, Refusal>
     requires { world.old.spent ≡ false }
-    ensures { Does (AnswersNow number world.old.state) world.new result }
+    ensures { Does (AnswersNow number) world.old.state world.new result }
 {
     let outcome = act(alloc, world, Event::Answer { query: number })?;
     match answer(outcome) {
@@ -66,7 +66,7 @@ fn answer_now(alloc: Global, world: &mut World, number: u32) -> Result<Answer, R
 #[tactic(auto, using(crate::proofs::Doing::leads_itself))]
 fn route_all(alloc: Global, world: &mut World, number: u32) -> Result<(), Refusal>
     requires { world.old.spent ≡ false }
-    ensures { Does (RoutesAll number world.old.state) world.new result }
+    ensures { Does (RoutesAll number) world.old.state world.new result }
 {
     let partitions = world.setup().partitions;
     let mut at = 0;
@@ -87,7 +87,7 @@ fn route_all(alloc: Global, world: &mut World, number: u32) -> Result<(), Refusa
 #[tactic(auto, using(crate::proofs::Doing::leads_itself))]
 fn ask_all(alloc: Global, world: &mut World, number: u32) -> Result<(), Refusal>
     requires { world.old.spent ≡ false }
-    ensures { Does (AsksAll number world.old.state) world.new result }
+    ensures { Does (AsksAll number) world.old.state world.new result }
 {
     let partitions = world.setup().partitions;
     let mut at = 0;
@@ -102,7 +102,7 @@ fn ask_all(alloc: Global, world: &mut World, number: u32) -> Result<(), Refusal>
 }
 
 // Asks for the pieces of a partition's plan.
-#[tactic(auto, using(crate::proofs::Doing::list_goes_on, crate::proofs::Doing::list_stops))]
+#[tactic(auto, using(crate::proofs::Doing::leads_itself))]
 fn ask_partition(
     alloc: Global,
     world: &mut World,
@@ -110,7 +110,7 @@ fn ask_partition(
     partition: Partition,
 ) -> Result<(), Refusal>
     requires { world.old.spent ≡ false }
-    ensures { Does (AsksPartition number partition.0 tt world.old.state) world.new result }
+    ensures { Does (AsksPartition number partition.0 tt) world.old.state world.new result }
 {
     let pieces = world.pieces(alloc, number, partition)?;
     for piece in pieces.as_slice() {
@@ -126,7 +126,7 @@ fn ask_partition(
 #[tactic(auto, using(crate::proofs::Doing::does_then, crate::proofs::Doing::does_refused, crate::proofs::Doing::does_told))]
 fn ask_piece(alloc: Global, world: &mut World, number: u32, piece: Piece) -> Result<(), Refusal>
     requires { world.old.spent ≡ false }
-    ensures { Does (AsksPiece number piece tt world.old.state) world.new result }
+    ensures { Does (AsksPiece number piece tt) world.old.state world.new result }
 {
     let _served = ask_replicas(alloc, world, number, piece)?;
     Ok(())
@@ -140,7 +140,7 @@ fn ask_replicas(
     piece: Piece,
 ) -> Result<bool, Refusal>
     requires { world.old.spent ≡ false }
-    ensures { Does (AsksReplicas number piece world.old.state) world.new result }
+    ensures { Does (AsksReplicas number piece) world.old.state world.new result }
 {
     let replication = world.setup().table.replication;
     let mut served = false;
@@ -165,7 +165,7 @@ fn ask_one(
     served: bool,
 ) -> Result<bool, Refusal>
     requires { world.old.spent ≡ false }
-    ensures { Does (AsksOne number piece k served world.old.state) world.new result }
+    ensures { Does (AsksOne number piece k served) world.old.state world.new result }
 {
     if served {
         Ok(true)
@@ -183,7 +183,7 @@ fn ask_now(
     k: u32,
 ) -> Result<bool, Refusal>
     requires { world.old.spent ≡ false }
-    ensures { Does (AsksNow number piece k world.old.state) world.new result }
+    ensures { Does (AsksNow number piece k) world.old.state world.new result }
 {
     let setup = world.setup();
     let instance = replica(piece.partition, k, setup.table.replication, setup.servers);

@@ -40,7 +40,7 @@ pub const BATCH: u32 = 100;
 /// paused no replica begins to consume.
 pub fn settle(alloc: Global, world: &mut World, pause: &Pause, rounds: u64) -> Result<bool, Refusal>
     requires { world.old.spent ≡ false }
-    ensures { Does (Settles pause.now rounds world.old.state) world.new result }
+    ensures { Does (Settles pause.now rounds) world.old.state world.new result }
 {
     if rounds == 0 || rounds > MOST_ROUNDS {
         return Err(Refusal::NothingToDo);
@@ -48,6 +48,7 @@ pub fn settle(alloc: Global, world: &mut World, pause: &Pause, rounds: u64) -> R
     settle_rounds(alloc, world, pause, rounds)
 }
 
+#[tactic(auto, using(crate::proofs::Doing::leads_itself))]
 fn settle_rounds(
     alloc: Global,
     world: &mut World,
@@ -55,7 +56,7 @@ fn settle_rounds(
     rounds: u64,
 ) -> Result<bool, Refusal>
     requires { world.old.spent ≡ false }
-    ensures { Does (SettlesIn pause.now rounds world.old.state) world.new result }
+    ensures { Does (SettlesIn pause.now rounds) world.old.state world.new result }
 {
     let mut left = rounds;
     while left > 0 {
@@ -73,7 +74,7 @@ fn settle_rounds(
 #[tactic(auto, using(crate::proofs::Doing::does_then, crate::proofs::Doing::does_refused, crate::proofs::Doing::does_told))]
 fn round(alloc: Global, world: &mut World, pause: &Pause) -> Result<bool, Refusal>
     requires { world.old.spent ≡ false }
-    ensures { Does (Round pause.now world.old.state) world.new result }
+    ensures { Does (Round pause.now) world.old.state world.new result }
 {
     let busy = serve_all(alloc, world)?;
     consume_all(alloc, world, pause, busy)
@@ -83,7 +84,7 @@ fn round(alloc: Global, world: &mut World, pause: &Pause) -> Result<bool, Refusa
 #[tactic(auto, using(crate::proofs::Doing::leads_itself))]
 fn serve_all(alloc: Global, world: &mut World) -> Result<bool, Refusal>
     requires { world.old.spent ≡ false }
-    ensures { Does (ServersTurn false world.old.state) world.new result }
+    ensures { Does (ServersTurn false) world.old.state world.new result }
 {
     let servers = world.setup().servers;
     let mut busy = false;
@@ -107,7 +108,7 @@ fn consume_all(
     noted: bool,
 ) -> Result<bool, Refusal>
     requires { world.old.spent ≡ false }
-    ensures { Does (ReplicasOfAll pause.now noted world.old.state) world.new result }
+    ensures { Does (ReplicasOfAll pause.now noted) world.old.state world.new result }
 {
     let servers = world.setup().servers;
     let mut busy = noted;
@@ -130,7 +131,7 @@ fn server_turn(
     busy: bool,
 ) -> Result<bool, Refusal>
     requires { world.old.spent ≡ false }
-    ensures { Does (ServerTurn instance.0 busy world.old.state) world.new result }
+    ensures { Does (ServerTurn instance.0 busy) world.old.state world.new result }
 {
     if !world.up(NodeId::Server(instance)) {
         return Ok(busy);
@@ -147,13 +148,13 @@ fn transit_and_download(
     busy: bool,
 ) -> Result<bool, Refusal>
     requires { world.old.spent ≡ false }
-    ensures { Does (TransitsAndDownloads instance busy world.old.state) world.new result }
+    ensures { Does (TransitsAndDownloads instance busy) world.old.state world.new result }
 {
     let busy = transit_all(alloc, world, instance, busy)?;
     download_all(alloc, world, instance, busy)
 }
 
-#[tactic(auto, using(crate::proofs::Doing::list_goes_on, crate::proofs::Doing::list_stops))]
+#[tactic(auto, using(crate::proofs::Doing::leads_itself))]
 fn transit_all(
     alloc: Global,
     world: &mut World,
@@ -161,7 +162,7 @@ fn transit_all(
     noted: bool,
 ) -> Result<bool, Refusal>
     requires { world.old.spent ≡ false }
-    ensures { Does (Transits instance noted world.old.state) world.new result }
+    ensures { Does (Transits instance noted) world.old.state world.new result }
 {
     let due = world.due_transits(alloc, instance)?;
     let mut busy = noted;
@@ -180,7 +181,7 @@ fn transit_all(
     Ok(busy)
 }
 
-#[tactic(auto, using(crate::proofs::Doing::list_goes_on, crate::proofs::Doing::list_stops))]
+#[tactic(auto, using(crate::proofs::Doing::leads_itself))]
 fn download_all(
     alloc: Global,
     world: &mut World,
@@ -188,7 +189,7 @@ fn download_all(
     noted: bool,
 ) -> Result<bool, Refusal>
     requires { world.old.spent ≡ false }
-    ensures { Does (Downloads instance noted world.old.state) world.new result }
+    ensures { Does (Downloads instance noted) world.old.state world.new result }
 {
     let wanted = world.wanted(alloc, instance)?;
     let mut busy = noted;
@@ -216,7 +217,7 @@ fn replicas_turn(
     noted: bool,
 ) -> Result<bool, Refusal>
     requires { world.old.spent ≡ false }
-    ensures { Does (ReplicasTurn pause.now instance.0 noted world.old.state) world.new result }
+    ensures { Does (ReplicasTurn pause.now instance.0 noted) world.old.state world.new result }
 {
     if !world.up(NodeId::Server(instance)) {
         return Ok(noted);
@@ -232,7 +233,7 @@ fn held_turn(
     noted: bool,
 ) -> Result<bool, Refusal>
     requires { world.old.spent ≡ false }
-    ensures { Does (ReplicasHeld pause.now instance noted world.old.state) world.new result }
+    ensures { Does (ReplicasHeld pause.now instance noted) world.old.state world.new result }
 {
     let held = world.held(alloc, instance)?;
     turn_all(alloc, world, pause, instance, held.as_slice(), noted)
@@ -249,7 +250,7 @@ fn turn_all(
     noted: bool,
 ) -> Result<bool, Refusal>
     requires { world.old.spent ≡ false }
-    ensures { Does (Each (ReplicaTurn pause.now instance) segments.now noted world.old.state) world.new result }
+    ensures { Does (Each (ReplicaTurn pause.now instance) segments.now noted) world.old.state world.new result }
 {
     let mut busy = noted;
     let mut at = resting(world, instance, segments);
@@ -277,7 +278,7 @@ fn replica_turn(
     busy: bool,
 ) -> Result<bool, Refusal>
     requires { world.old.spent ≡ false }
-    ensures { Does (ReplicaTurn pause.now instance (partition, sequence) busy world.old.state) world.new result }
+    ensures { Does (ReplicaTurn pause.now instance (partition, sequence) busy) world.old.state world.new result }
 {
     let busy = consume_turn(alloc, world, pause, instance, partition, sequence, busy)?;
     build_and_exchange(alloc, world, instance, partition, sequence, busy)
@@ -294,7 +295,7 @@ fn build_and_exchange(
     busy: bool,
 ) -> Result<bool, Refusal>
     requires { world.old.spent ≡ false }
-    ensures { Does (BuildAndExchange instance (partition, sequence) busy world.old.state) world.new result }
+    ensures { Does (BuildAndExchange instance (partition, sequence) busy) world.old.state world.new result }
 {
     if takes(world, instance, partition, sequence) {
         return Ok(busy);
@@ -319,7 +320,7 @@ fn consume_turn(
     busy: bool,
 ) -> Result<bool, Refusal>
     requires { world.old.spent ≡ false }
-    ensures { Does (ConsumeTurn pause.now instance (partition, sequence) busy world.old.state) world.new result }
+    ensures { Does (ConsumeTurn pause.now instance (partition, sequence) busy) world.old.state world.new result }
 {
     if !may_consume(world, pause, instance, partition, sequence) {
         return Ok(busy);
@@ -373,7 +374,7 @@ fn exchange_turn(
     busy: bool,
 ) -> Result<bool, Refusal>
     requires { world.old.spent ≡ false }
-    ensures { Does (ExchangeTurn instance (partition, sequence) busy world.old.state) world.new result }
+    ensures { Does (ExchangeTurn instance (partition, sequence) busy) world.old.state world.new result }
 {
     let Some(controller) = world.leader() else {
         return Ok(busy);
@@ -395,7 +396,7 @@ fn request_turn(
     busy: bool,
 ) -> Result<bool, Refusal>
     requires { world.old.spent ≡ false }
-    ensures { Does (Requests instance (partition, sequence) controller busy world.old.state) world.new result }
+    ensures { Does (Requests instance (partition, sequence) controller busy) world.old.state world.new result }
 {
     let report = Event::Report {
         instance,
@@ -422,7 +423,7 @@ fn finish_turn(
     controller: ControllerId,
 ) -> Result<bool, Refusal>
     requires { world.old.spent ≡ false }
-    ensures { Does (FinishesTurn controller reported world.old.state) world.new result }
+    ensures { Does (FinishesTurn controller reported) world.old.state world.new result }
 {
     let _exchanged = finish_exchange(alloc, world, reported, controller)?;
     Ok(true)

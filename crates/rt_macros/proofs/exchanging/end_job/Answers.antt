@@ -8,13 +8,13 @@ pub loop-left-preserved : goal.loop-left-preserved
 loop-left-preserved c = record {
   unspent = (c.in-Ok-None.ensures {u = tt}).0;
   same = job_goes_on c.args.controller c.args.job c.loop-left.left (c.loop-left.left - 1) c.loop-left.world.state c.step.new.world (MakesJob c.args.controller c.args.job c.args.world.now.state) c.loop-left.invariant.same (omega (arith, c.loop-left-test.true))
-      (subst (λ o. Does (MakesStep c.args.controller c.args.job c.loop-left.world.state) c.step.new.world (Ok o)) c.in-Ok-None.field-0-is (c.in-Ok-None.ensures {u = tt}));
+      (subst (λ o. Does (MakesStep c.args.controller c.args.job) c.loop-left.world.state c.step.new.world (Ok o)) c.in-Ok-None.field-0-is (c.in-Ok-None.ensures {u = tt}));
 }
 
 pub returns-in-Ok-Some : goal.returns-in-Ok-Some
 returns-in-Ok-Some c =
     job_ends c.args.controller c.args.job c.loop-left.left (c.loop-left.left - 1) c.loop-left.world.state c.step.new.world c.in-Ok-Some.replied (MakesJob c.args.controller c.args.job c.args.world.now.state) c.loop-left.invariant.same (omega (arith, c.loop-left-test.true))
-    (subst (λ o. Does (MakesStep c.args.controller c.args.job c.loop-left.world.state) c.step.new.world (Ok o)) c.in-Ok-Some.field-0-is (c.in-Ok-Some.ensures {u = tt}))
+    (subst (λ o. Does (MakesStep c.args.controller c.args.job) c.loop-left.world.state c.step.new.world (Ok o)) c.in-Ok-Some.field-0-is (c.in-Ok-Some.ensures {u = tt}))
 
 pub returns-in-Err : goal.returns-in-Err
 returns-in-Err c =

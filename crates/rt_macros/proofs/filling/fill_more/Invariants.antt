@@ -8,7 +8,7 @@ abbrev pub invariant-loop-done : goal.invariant-loop-done
 invariant-loop-done l = record {
   unspent : l.world.spent ≡ false;
   within : l.done ≤ l.count;
-  same : Leads (EachFrom (FillsOne l.partition) l.done (l.count - l.done) tt l.world.state) (EachFrom (FillsOne l.partition) 0 l.count tt l.initial.world.state);
+  same : Leads (EachFrom (FillsOne l.partition) l.done (l.count - l.done) tt l.world.state) (EachFrom (FillsOne l.partition) 0 l.count tt l.initial.world.state) l.initial.world.state l.world.state;
 }
 
 abbrev pub decreases-loop-done : goal.decreases-loop-done

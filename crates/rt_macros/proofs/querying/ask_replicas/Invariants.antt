@@ -8,7 +8,7 @@ abbrev pub invariant-loop-k : goal.invariant-loop-k
 invariant-loop-k l = record {
   unspent : l.world.spent ≡ false;
   within : l.k ≤ l.replication;
-  same : Leads (EachFrom (AsksOne l.number l.piece) l.k (l.replication - l.k) l.served l.world.state) (AsksReplicas l.number l.piece l.initial.world.state);
+  same : Leads (EachFrom (AsksOne l.number l.piece) l.k (l.replication - l.k) l.served l.world.state) (AsksReplicas l.number l.piece l.initial.world.state) l.initial.world.state l.world.state;
 }
 
 abbrev pub decreases-loop-k : goal.decreases-loop-k

@@ -8,7 +8,7 @@ abbrev pub invariant-loop-at : goal.invariant-loop-at
 invariant-loop-at l = record {
   unspent : l.world.spent ≡ false;
   within : l.at ≤ l.partitions;
-  same : Leads (EachFrom (RoutesOne l.number) l.at (l.partitions - l.at) tt l.world.state) (RoutesAll l.number l.initial.world.state);
+  same : Leads (EachFrom (RoutesOne l.number) l.at (l.partitions - l.at) tt l.world.state) (RoutesAll l.number l.initial.world.state) l.initial.world.state l.world.state;
 }
 
 abbrev pub decreases-loop-at : goal.decreases-loop-at

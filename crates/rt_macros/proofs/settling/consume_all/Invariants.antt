@@ -8,7 +8,7 @@ abbrev pub invariant-loop-at : goal.invariant-loop-at
 invariant-loop-at l = record {
   unspent : l.world.spent ≡ false;
   within : l.at ≤ l.servers;
-  same : Leads (EachFrom (ReplicasTurn l.pause) l.at (l.servers - l.at) l.busy l.world.state) (ReplicasOfAll l.pause l.noted l.initial.world.state);
+  same : Leads (EachFrom (ReplicasTurn l.pause) l.at (l.servers - l.at) l.busy l.world.state) (ReplicasOfAll l.pause l.noted l.initial.world.state) l.initial.world.state l.world.state;
 }
 
 abbrev pub decreases-loop-at : goal.decreases-loop-at

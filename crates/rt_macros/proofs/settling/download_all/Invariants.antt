@@ -7,5 +7,5 @@ use Rattle.rt_macros.proofs.settling.download_all.Given as goal
 abbrev pub invariant-loop-segment : goal.invariant-loop-segment
 invariant-loop-segment l = record {
   unspent : l.world.spent ≡ false;
-  same : Leads (Each (DownloadTurn l.instance) (drop l.segment-index l.segment-items) l.busy l.world.state) (Downloads l.instance l.noted l.initial.world.state);
+  same : Leads (Each (DownloadTurn l.instance) (drop l.segment-index l.segment-items) l.busy l.world.state) (Downloads l.instance l.noted l.initial.world.state) l.initial.world.state l.world.state;
 }

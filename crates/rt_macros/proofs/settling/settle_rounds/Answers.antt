@@ -7,12 +7,12 @@ use Rattle.rt_macros.proofs.settling.settle_rounds.Goals as goal
 pub loop-left-preserved : goal.loop-left-preserved
 loop-left-preserved c = record {
   unspent = c.in-Ok-true.ensures.0;
-  same = rounds_go_on c.args.pause.now c.loop-left.left (c.loop-left.left - 1) c.loop-left.world.state c.round.new.world (SettlesIn c.args.pause.now c.args.rounds c.args.world.now.state) c.loop-left.invariant.same (omega (arith, c.loop-left-test.true)) (subst (λ b. Does (Round c.args.pause.now c.loop-left.world.state) c.round.new.world (Ok b)) c.in-Ok-true.field-0-test c.in-Ok-true.ensures);
+  same = rounds_go_on c.args.pause.now c.loop-left.left (c.loop-left.left - 1) c.loop-left.world.state c.round.new.world (SettlesIn c.args.pause.now c.args.rounds c.args.world.now.state) c.loop-left.invariant.same (omega (arith, c.loop-left-test.true)) (subst (λ b. Does (Round c.args.pause.now) c.loop-left.world.state c.round.new.world (Ok b)) c.in-Ok-true.field-0-test c.in-Ok-true.ensures);
 }
 
 pub returns-in-Ok-false : goal.returns-in-Ok-false
 returns-in-Ok-false c =
-    rounds_end c.args.pause.now c.loop-left.left (c.loop-left.left - 1) c.loop-left.world.state c.round.new.world (SettlesIn c.args.pause.now c.args.rounds c.args.world.now.state) c.loop-left.invariant.same (omega (arith, c.loop-left-test.true)) (subst (λ b. Does (Round c.args.pause.now c.loop-left.world.state) c.round.new.world (Ok b)) c.in-Ok-false.field-0-test c.in-Ok-false.ensures)
+    rounds_end c.args.pause.now c.loop-left.left (c.loop-left.left - 1) c.loop-left.world.state c.round.new.world (SettlesIn c.args.pause.now c.args.rounds c.args.world.now.state) c.loop-left.invariant.same (omega (arith, c.loop-left-test.true)) (subst (λ b. Does (Round c.args.pause.now) c.loop-left.world.state c.round.new.world (Ok b)) c.in-Ok-false.field-0-test c.in-Ok-false.ensures)
 
 pub returns-in-Err : goal.returns-in-Err
 returns-in-Err c =
