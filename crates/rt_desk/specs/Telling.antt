@@ -2,7 +2,8 @@
 use Rattle.std.specs.Prelude.{ℕ, List, Result, Ok, Err}
 use Rattle.rt_desk.specs.declared.desk.Desk.{Desk}
 use Rattle.rt_events.specs.declared.refusal.Refusal.{Refusal}
-use Rattle.rt_macros.specs.Doing.{Act, Coming, Does, Gives, PassesOver, Then}
+use Rattle.rt_macros.specs.Doing.{Act, Does, Gives, PassesOver, Then}
+use Rattle.rt_state.specs.declared.state.State.{State}
 use Rattle.rt_world.specs.Kept.{Kept}
 
 -- ---- lines that leave the desk as it was
@@ -30,8 +31,8 @@ abbrev pub changed_by : {Part : Type 0} → List ℕ → Part → Result (Unit {
 changed_by text part (Ok done) = Ok (changed part text)
 changed_by text part (Err refusal) = Err refusal
 
-abbrev pub DoesChange : {Part : Type 0} → Coming (Changed Part) → Kept → List ℕ → Part → Result (Unit {0}) Refusal → Type 0
-DoesChange wanted new text part result = Does wanted new (changed_by text part result)
+abbrev pub DoesChange : {Part : Type 0} → Act (Changed Part) → State → Kept → List ℕ → Part → Result (Unit {0}) Refusal → Type 0
+DoesChange act from new text part result = Does act from new (changed_by text part result)
 
 -- ---- all lines
 
@@ -53,5 +54,5 @@ Beside desk act w = Then act (λ text. Gives (told desk text)) w
 abbrev pub Puts : {Part : Type 0} → (Part → Desk) → Act (Changed Part) → Telling
 Puts put act w = Then act (λ x. Gives (told (put x.part) x.text)) w
 
-abbrev pub DoesTold : Coming Told → Kept → List ℕ → Desk → Result (Unit {0}) Refusal → Type 0
-DoesTold wanted new text desk result = DoesChange wanted new text desk result
+abbrev pub DoesTold : Telling → State → Kept → List ℕ → Desk → Result (Unit {0}) Refusal → Type 0
+DoesTold act from new text desk result = DoesChange act from new text desk result

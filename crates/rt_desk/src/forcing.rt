@@ -24,7 +24,7 @@ pub(crate) fn play_pause(
 ) -> Result<(), Refusal>
     requires unspent { world.old.spent ≡ false }
     requires empty { string_bytes text.old ≡ [] }
-    ensures { DoesChange (PauseTold world.old.state) world.new (string_bytes text.new) pause.new result }
+    ensures { DoesChange PauseTold world.old.state world.new (string_bytes text.new) pause.new result }
 {
     let forced = force_all(alloc, world)?;
     pause.pause();
@@ -41,7 +41,7 @@ pub(crate) fn play_resume(
 ) -> Result<(), Refusal>
     requires unspent { world.old.spent ≡ false }
     requires empty { string_bytes text.old ≡ [] }
-    ensures { DoesChange (ResumeTold world.old.state) world.new (string_bytes text.new) pause.new result }
+    ensures { DoesChange ResumeTold world.old.state world.new (string_bytes text.new) pause.new result }
 {
     pass(world)?;
     pause.resume();
@@ -59,7 +59,7 @@ pub(crate) fn play_force_commit(
 ) -> Result<(), Refusal>
     requires unspent { world.old.spent ≡ false }
     requires empty { string_bytes text.old ≡ [] }
-    ensures { DoesChange (ForceCommitTold jobs.old world.old.state) world.new (string_bytes text.new) jobs.new result }
+    ensures { DoesChange (ForceCommitTold jobs.old) world.old.state world.new (string_bytes text.new) jobs.new result }
 {
     let forced = force_all(alloc, world)?;
     keep_job(alloc, jobs, forced.as_slice(), text)?;
@@ -92,7 +92,7 @@ pub(crate) fn play_force_status(
 ) -> Result<(), Refusal>
     requires unspent { world.old.spent ≡ false }
     requires empty { string_bytes text.old ≡ [] }
-    ensures { DoesText (ForceStatusTold jobs.now number world.old.state) world.new (string_bytes text.new) result }
+    ensures { DoesText (ForceStatusTold jobs.now number) world.old.state world.new (string_bytes text.new) result }
 {
     match jobs.as_slice().get(number as usize) {
         Some(job) => tell_pending(alloc, world, number, job, text),
@@ -110,7 +110,7 @@ fn tell_pending(
 ) -> Result<(), Refusal>
     requires unspent { world.old.spent ≡ false }
     requires empty { string_bytes text.old ≡ [] }
-    ensures { DoesText (PendingTold number job.now world.old.state) world.new (string_bytes text.new) result }
+    ensures { DoesText (PendingTold number job.now) world.old.state world.new (string_bytes text.new) result }
 {
     pass(world)?;
     let nodes = present_nodes(alloc, world)?;
@@ -134,10 +134,10 @@ fn present_nodes(alloc: Global, world: &World) -> Result<Items<Items<Listed>>, A
 }
 
 // The event `force` for each replica for which it is due; those that were forced.
-#[tactic(auto, using(rt_macros::proofs::Doing::list_goes_on, rt_macros::proofs::Doing::list_stops))]
+#[tactic(auto, using(rt_macros::proofs::Doing::leads_itself))]
 fn force_all(alloc: Global, world: &mut World) -> Result<Items<ReplicaSeen>, Refusal>
     requires { world.old.spent ≡ false }
-    ensures { Does (ForcesAll world.old.state) world.new result }
+    ensures { Does ForcesAll world.old.state world.new result }
 {
     let replicas = world.replicas(alloc)?;
     let mut forced = Items::new(alloc);
@@ -158,7 +158,7 @@ fn force_one(
     noted: Items<ReplicaSeen>,
 ) -> Result<Items<ReplicaSeen>, Refusal>
     requires { world.old.spent ≡ false }
-    ensures { Does (ForcesOne replica noted world.old.state) world.new result }
+    ensures { Does (ForcesOne replica noted) world.old.state world.new result }
 {
     let force = Event::Force {
         instance: replica.instance,

@@ -29,7 +29,7 @@ pub(crate) fn push_line(
 ) -> Result<(), Refusal>
     requires unspent { world.old.spent ≡ false }
     requires empty { string_bytes text.old ≡ [] }
-    ensures told { DoesChange (PushLine rows.now table.old world.old.state) world.new (string_bytes text.new) table.new result }
+    ensures told { DoesChange (PushLine rows.now table.old) world.old.state world.new (string_bytes text.new) table.new result }
     ensures schema { OnOk result (table.new.schema ≡ table.old.schema) }
 {
     if u64::from(table.pushes()) >= MOST_EVENTS {
@@ -82,7 +82,7 @@ pub(crate) fn play_hybrid(
     requires table { IfSome table.now (λ t. t.schema ≡ world.old.state.setup.schema) }
     requires fits { FitsText world.old.state.setup.schema asked }
     requires empty { string_bytes text.old ≡ [] }
-    ensures { DoesText (HybridTold table.now asked world.old.state) world.new (string_bytes text.new) result }
+    ensures { DoesText (HybridTold table.now asked) world.old.state world.new (string_bytes text.new) result }
 {
     match table {
         Some(table) => hybrid_by(alloc, world, table, asked, text),
@@ -101,7 +101,7 @@ fn hybrid_by(
     requires table { table.now.schema ≡ world.old.state.setup.schema }
     requires fits { FitsText world.old.state.setup.schema asked }
     requires empty { string_bytes text.old ≡ [] }
-    ensures { DoesText (HybridBy table.now asked world.old.state) world.new (string_bytes text.new) result }
+    ensures { DoesText (HybridBy table.now asked) world.old.state world.new (string_bytes text.new) result }
 {
     match asked {
         QueryText::Query(query) => hybrid_query(alloc, world, table, &query, text),
@@ -121,7 +121,7 @@ fn hybrid_query(
     requires table { table.now.schema ≡ world.old.state.setup.schema }
     requires fits { IsQuery world.old.state.setup.schema query.now }
     requires empty { string_bytes text.old ≡ [] }
-    ensures { DoesText (HybridQuery table.now query.now world.old.state) world.new (string_bytes text.new) result }
+    ensures { DoesText (HybridQuery table.now query.now) world.old.state world.new (string_bytes text.new) result }
 {
     pass(world)?;
     let answer = hybrid(alloc, world, table, query)?;

@@ -27,7 +27,7 @@ pub(crate) fn play_latest(
     requires config { IfSome upsert.now (IsUpsertConfig world.old.state.setup.schema) }
     requires fits { FitsText world.old.state.setup.schema asked }
     requires empty { string_bytes text.old ≡ [] }
-    ensures { DoesText (LatestTold upsert.now asked world.old.state) world.new (string_bytes text.new) result }
+    ensures { DoesText (LatestTold upsert.now asked) world.old.state world.new (string_bytes text.new) result }
 {
     match upsert {
         Some(config) => latest_by(alloc, world, config, asked, text),
@@ -46,7 +46,7 @@ fn latest_by(
     requires config { IsUpsertConfig world.old.state.setup.schema config.now }
     requires fits { FitsText world.old.state.setup.schema asked }
     requires empty { string_bytes text.old ≡ [] }
-    ensures { DoesText (LatestBy config.now asked world.old.state) world.new (string_bytes text.new) result }
+    ensures { DoesText (LatestBy config.now asked) world.old.state world.new (string_bytes text.new) result }
 {
     match asked {
         QueryText::Query(query) => latest_query(alloc, world, config, &query, text),
@@ -66,7 +66,7 @@ fn latest_query(
     requires config { IsUpsertConfig world.old.state.setup.schema config.now }
     requires fits { IsQuery world.old.state.setup.schema query.now }
     requires empty { string_bytes text.old ≡ [] }
-    ensures { DoesText (LatestQuery config.now query.now world.old.state) world.new (string_bytes text.new) result }
+    ensures { DoesText (LatestQuery config.now query.now) world.old.state world.new (string_bytes text.new) result }
 {
     pass(world)?;
     let answer = latest(alloc, world, config, query)?;

@@ -28,7 +28,7 @@ pub(crate) fn play_macro(
     requires unspent { world.old.spent ≡ false }
     requires fits { FitsMacro world.old.state.setup.schema said }
     requires empty { string_bytes text.old ≡ [] }
-    ensures { DoesText (MacroTold pause.now said world.old.state) world.new (string_bytes text.new) result }
+    ensures { DoesText (MacroTold pause.now said) world.old.state world.new (string_bytes text.new) result }
 {
     match said {
         Macro::Fill { partition, count } => play_fill(alloc, world, partition, count, text),
@@ -55,7 +55,7 @@ fn play_fill(
 ) -> Result<(), Refusal>
     requires unspent { world.old.spent ≡ false }
     requires empty { string_bytes text.old ≡ [] }
-    ensures { DoesText (FillTold partition count world.old.state) world.new (string_bytes text.new) result }
+    ensures { DoesText (FillTold partition count) world.old.state world.new (string_bytes text.new) result }
 {
     let length = fill(alloc, world, partition, count)?;
     write_filled(text, partition, length)?;
@@ -73,7 +73,7 @@ pub fn play_query(
     requires unspent { world.old.spent ≡ false }
     requires fits { IsQuery world.old.state.setup.schema asked }
     requires empty { string_bytes text.old ≡ [] }
-    ensures { DoesText (QueryTold asked world.old.state) world.new (string_bytes text.new) result }
+    ensures { DoesText (QueryTold asked) world.old.state world.new (string_bytes text.new) result }
 {
     let answer = query(alloc, world, asked)?;
     write_answer(alloc, text, &answer)?;
@@ -92,7 +92,7 @@ fn play_exchange(
 ) -> Result<(), Refusal>
     requires unspent { world.old.spent ≡ false }
     requires empty { string_bytes text.old ≡ [] }
-    ensures { DoesText (ExchangeTold instance partition sequence controller world.old.state) world.new (string_bytes text.new) result }
+    ensures { DoesText (ExchangeTold instance partition sequence controller) world.old.state world.new (string_bytes text.new) result }
 {
     let done = exchange(alloc, world, instance, partition, sequence, controller)?;
     write_exchanged(
@@ -116,7 +116,7 @@ fn play_settle(
 ) -> Result<(), Refusal>
     requires unspent { world.old.spent ≡ false }
     requires empty { string_bytes text.old ≡ [] }
-    ensures { DoesText (SettleTold pause.now rounds world.old.state) world.new (string_bytes text.new) result }
+    ensures { DoesText (SettleTold pause.now rounds) world.old.state world.new (string_bytes text.new) result }
 {
     let quiet = settle(alloc, world, pause, rounds)?;
     write_settled(text, quiet)?;

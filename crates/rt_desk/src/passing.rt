@@ -13,7 +13,7 @@ use rt_world::{Refusal, World};
 pub(crate) fn pass_noquery(world: &mut World, number: u32, text: &mut String) -> Result<(), Refusal>
     requires unspent { world.old.spent ≡ false }
     requires empty { string_bytes text.old ≡ [] }
-    ensures { DoesText (Counts (noquery_text number) world.old.state) world.new (string_bytes text.new) result }
+    ensures { DoesText (Counts (noquery_text number)) world.old.state world.new (string_bytes text.new) result }
 {
     pass(world)?;
     write_noquery(text, number)?;
@@ -25,7 +25,7 @@ pub(crate) fn pass_noquery(world: &mut World, number: u32, text: &mut String) ->
 pub(crate) fn pass_nooffline(world: &mut World, text: &mut String) -> Result<(), Refusal>
     requires unspent { world.old.spent ≡ false }
     requires empty { string_bytes text.old ≡ [] }
-    ensures { DoesText (Counts (nooffline_text 1) world.old.state) world.new (string_bytes text.new) result }
+    ensures { DoesText (Counts (nooffline_text 1)) world.old.state world.new (string_bytes text.new) result }
 {
     pass(world)?;
     write_nooffline(text, 1)?;

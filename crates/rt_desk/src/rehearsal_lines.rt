@@ -22,7 +22,7 @@ pub(crate) fn play_peer(
 ) -> Result<(), Refusal>
     requires unspent { world.old.spent ≡ false }
     requires empty { string_bytes text.old ≡ [] }
-    ensures { DoesText (PeerTold instance partition sequence world.old.state) world.new (string_bytes text.new) result }
+    ensures { DoesText (PeerTold instance partition sequence) world.old.state world.new (string_bytes text.new) result }
 {
     match peer(alloc, world, instance, partition, sequence) {
         Ok(file) => tell_found(world, instance, partition, sequence, file, text),
@@ -41,7 +41,7 @@ fn tell_found(
 ) -> Result<(), Refusal>
     requires unspent { world.old.spent ≡ false }
     requires empty { string_bytes text.old ≡ [] }
-    ensures { DoesText (Counts (found_text instance partition sequence file) world.old.state) world.new (string_bytes text.new) result }
+    ensures { DoesText (Counts (found_text instance partition sequence file)) world.old.state world.new (string_bytes text.new) result }
 {
     pass(world)?;
     write_found(text, instance, partition, sequence, file)?;
@@ -75,7 +75,7 @@ pub(crate) fn play_rehearse(
 ) -> Result<(), Refusal>
     requires unspent { world.old.spent ≡ false }
     requires empty { string_bytes text.old ≡ [] }
-    ensures { DoesChange (RehearseTold servers keep rehearsing.old world.old.state) world.new (string_bytes text.new) rehearsing.new result }
+    ensures { DoesChange (RehearseTold servers keep rehearsing.old) world.old.state world.new (string_bytes text.new) rehearsing.new result }
 {
     let planned = rehearsing.plan(alloc, world, servers, keep)?;
     tell_planned(world, planned, text)
@@ -85,7 +85,7 @@ pub(crate) fn play_rehearse(
 fn tell_planned(world: &mut World, planned: Planned, text: &mut String) -> Result<(), Refusal>
     requires unspent { world.old.spent ≡ false }
     requires empty { string_bytes text.old ≡ [] }
-    ensures { DoesText (Counts (planned_text planned) world.old.state) world.new (string_bytes text.new) result }
+    ensures { DoesText (Counts (planned_text planned)) world.old.state world.new (string_bytes text.new) result }
 {
     pass(world)?;
     write_planned(text, planned)?;
@@ -113,7 +113,7 @@ pub(crate) fn play_loaded(
 ) -> Result<(), Refusal>
     requires unspent { world.old.spent ≡ false }
     requires empty { string_bytes text.old ≡ [] }
-    ensures { DoesChange (LoadedTold instance partition sequence rehearsing.old world.old.state) world.new (string_bytes text.new) rehearsing.new result }
+    ensures { DoesChange (LoadedTold instance partition sequence rehearsing.old) world.old.state world.new (string_bytes text.new) rehearsing.new result }
 {
     let planned = rehearsing.loaded(world, instance, partition, sequence)?;
     tell_loaded(world, planned, text)
@@ -123,7 +123,7 @@ pub(crate) fn play_loaded(
 fn tell_loaded(world: &mut World, planned: bool, text: &mut String) -> Result<(), Refusal>
     requires unspent { world.old.spent ≡ false }
     requires empty { string_bytes text.old ≡ [] }
-    ensures { DoesText (Counts (rehearsed_text planned) world.old.state) world.new (string_bytes text.new) result }
+    ensures { DoesText (Counts (rehearsed_text planned)) world.old.state world.new (string_bytes text.new) result }
 {
     pass(world)?;
     write_rehearsed(text, planned)?;
@@ -139,7 +139,7 @@ pub(crate) fn play_step(
 ) -> Result<(), Refusal>
     requires unspent { world.old.spent ≡ false }
     requires empty { string_bytes text.old ≡ [] }
-    ensures { DoesChange (StepTold rehearsing.old world.old.state) world.new (string_bytes text.new) rehearsing.new result }
+    ensures { DoesChange (StepTold rehearsing.old) world.old.state world.new (string_bytes text.new) rehearsing.new result }
 {
     let stepped = rehearsing.step()?;
     tell_stepped(world, stepped, text)
@@ -149,7 +149,7 @@ pub(crate) fn play_step(
 fn tell_stepped(world: &mut World, stepped: Stepped, text: &mut String) -> Result<(), Refusal>
     requires unspent { world.old.spent ≡ false }
     requires empty { string_bytes text.old ≡ [] }
-    ensures { DoesText (Counts (stepped_text stepped) world.old.state) world.new (string_bytes text.new) result }
+    ensures { DoesText (Counts (stepped_text stepped)) world.old.state world.new (string_bytes text.new) result }
 {
     pass(world)?;
     write_stepped(text, stepped)?;

@@ -36,7 +36,7 @@ pub fn play_said(
     requires desk { IsDesk world.old.state.setup.schema desk.old }
     requires fits { FitsLine world.old.state.setup.schema said }
     requires empty { string_bytes text.old ≡ [] }
-    ensures told { DoesTold (LineTold said desk.old world.old.state) world.new (string_bytes text.new) desk.new result }
+    ensures told { DoesTold (LineTold said desk.old) world.old.state world.new (string_bytes text.new) desk.new result }
     ensures desk { OnOk result (IsDesk world.old.state.setup.schema desk.new) }
 {
     match said {
@@ -58,7 +58,7 @@ fn play_further(
     requires desk { IsDesk world.old.state.setup.schema desk.old }
     requires fits { FitsFurther world.old.state.setup.schema said }
     requires empty { string_bytes text.old ≡ [] }
-    ensures told { DoesTold (FurtherTold said desk.old world.old.state) world.new (string_bytes text.new) desk.new result }
+    ensures told { DoesTold (FurtherTold said desk.old) world.old.state world.new (string_bytes text.new) desk.new result }
     ensures desk { OnOk result (IsDesk world.old.state.setup.schema desk.new) }
 {
     match said {
@@ -104,7 +104,7 @@ fn play_offline(
     requires unspent { world.old.spent ≡ false }
     requires desk { IsDesk world.old.state.setup.schema desk.old }
     requires empty { string_bytes text.old ≡ [] }
-    ensures told { DoesTold (OfflineTold rows.now desk.old desk.old.hybrid world.old.state) world.new (string_bytes text.new) desk.new result }
+    ensures told { DoesTold (OfflineTold rows.now desk.old desk.old.hybrid) world.old.state world.new (string_bytes text.new) desk.new result }
     ensures desk { OnOk result (IsDesk world.old.state.setup.schema desk.new) }
 {
     match &mut desk.hybrid {
@@ -124,7 +124,7 @@ fn play_event_line(
     requires unspent { world.old.spent ≡ false }
     requires fits { Fits world.old.state.setup.schema event.now }
     requires empty { string_bytes text.old ≡ [] }
-    ensures { DoesText (EventLineTold pause.now event.now world.old.state) world.new (string_bytes text.new) result }
+    ensures { DoesText (EventLineTold pause.now event.now) world.old.state world.new (string_bytes text.new) result }
 {
     let held = held_by(world, pause, event);
     play_unless_held(alloc, world, held, event, text)
@@ -140,7 +140,7 @@ fn play_unless_held(
     requires unspent { world.old.spent ≡ false }
     requires fits { Fits world.old.state.setup.schema event.now }
     requires empty { string_bytes text.old ≡ [] }
-    ensures { DoesText (UnlessHeld held event.now world.old.state) world.new (string_bytes text.new) result }
+    ensures { DoesText (UnlessHeld held event.now) world.old.state world.new (string_bytes text.new) result }
 {
     match held {
         Some((instance, partition, sequence)) => {
@@ -191,7 +191,7 @@ fn play_event(
     requires unspent { world.old.spent ≡ false }
     requires fits { Fits world.old.state.setup.schema event.now }
     requires empty { string_bytes text.old ≡ [] }
-    ensures { DoesText (EventTold event.now world.old.state) world.new (string_bytes text.new) result }
+    ensures { DoesText (EventTold event.now) world.old.state world.new (string_bytes text.new) result }
 {
     let outcome = apply(alloc, world, event)?;
     let written = write_outcome(alloc, text, event, &outcome);

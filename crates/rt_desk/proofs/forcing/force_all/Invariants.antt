@@ -7,5 +7,5 @@ use Rattle.rt_macros.proofs.Doing.{Leads}
 abbrev pub invariant-loop-replica : goal.invariant-loop-replica
 invariant-loop-replica l = record {
   unspent : l.world.spent ≡ false;
-  same : Leads (Each ForcesOne (drop l.replica-index l.replica-items) l.forced l.world.state) (ForcesAll l.initial.world.state);
+  same : Leads (Each ForcesOne (drop l.replica-index l.replica-items) l.forced l.world.state) (ForcesAll l.initial.world.state) l.initial.world.state l.world.state;
 }
