@@ -88,7 +88,7 @@ is_generated asked setup made v told e first run =
 
 -- its report was written
 pub generated_told : (asked : Generated) (setup : Setup) (made : Kept) (w : State) (answer : List ℕ) (old new : SinkMeaning)
-    → generated_setup asked ≡ Ok setup → made ≡ record { state = start setup; spent = false } → Comes (RunsGenerated asked made.state) w (Ok answer)
+    → generated_setup asked ≡ Ok setup → made ≡ record { state = start setup; spent = false } → Comes (RunsGenerated asked made.state) made.state w (Ok answer)
     → WritesTexts (report_texts asked.partitions w answer) old new (Ok tt) → TellsGenerated asked old new (Ok (record { lines = asked.partitions + 1 }))
 generated_told asked setup made w answer old new e first c puts = (
   record {
@@ -102,7 +102,7 @@ generated_told asked setup made w answer old new e first c puts = (
 
 -- its report was written in part
 pub generated_stopped : (fault : PlayFault) (asked : Generated) (setup : Setup) (made : Kept) (w : State) (answer : List ℕ) (old new : SinkMeaning)
-    → generated_setup asked ≡ Ok setup → made ≡ record { state = start setup; spent = false } → Comes (RunsGenerated asked made.state) w (Ok answer)
+    → generated_setup asked ≡ Ok setup → made ≡ record { state = start setup; spent = false } → Comes (RunsGenerated asked made.state) made.state w (Ok answer)
     → WritesTexts (report_texts asked.partitions w answer) old new (Err fault) → TellsGenerated asked old new (Err fault)
 generated_stopped WriteFault asked setup made w answer old new e first c h = record {
   texts = h.front;
@@ -139,7 +139,7 @@ nothing_generated asked s = record { texts = []; is = inl refl; puts = nothing_p
 
 -- an event of it was refused
 pub generated_refused : (why : Refusal) (asked : Generated) (setup : Setup) (made v : Kept) (s : SinkMeaning)
-    → generated_setup asked ≡ Ok setup → made ≡ record { state = start setup; spent = false } → Does (RunsGenerated asked made.state) v (Err why) → TellsGenerated asked s s (Err (fault_at 0 why))
+    → generated_setup asked ≡ Ok setup → made ≡ record { state = start setup; spent = false } → Does (RunsGenerated asked) made.state v (Err why) → TellsGenerated asked s s (Err (fault_at 0 why))
 generated_refused refusal.NoSuchMessage asked setup made v s e first d = record { report = stopped (fault_at 0 refusal.NoSuchMessage); is = is_generated asked setup made (reached d.1.turns v.state) (Err refusal.NoSuchMessage) e first d.1.came; stop = refl; puts = nothing_put s }
 generated_refused refusal.NoSuchNode asked setup made v s e first d = record { report = stopped (fault_at 0 refusal.NoSuchNode); is = is_generated asked setup made (reached d.1.turns v.state) (Err refusal.NoSuchNode) e first d.1.came; stop = refl; puts = nothing_put s }
 generated_refused refusal.NodeDown asked setup made v s e first d = record { report = stopped (fault_at 0 refusal.NodeDown); is = is_generated asked setup made (reached d.1.turns v.state) (Err refusal.NodeDown) e first d.1.came; stop = refl; puts = nothing_put s }

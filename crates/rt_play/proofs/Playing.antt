@@ -24,10 +24,10 @@ no_line number o old before text why none e =
 
 -- it was refused
 module _ (number : ℕ) (said : Line) (old new : Kept) (before after : Desk) (text : List ℕ) where
-  stopped : (r : Refusal) → Comes (LineTold said before old.state) new.state (Err r) → HasStopped number (Some said) (going old before) (fault_at number r)
+  stopped : (r : Refusal) → Comes (LineTold said before old.state) old.state new.state (Err r) → HasStopped number (Some said) (going old before) (fault_at number r)
   stopped r came = record { behind = reached came.turns new.state; stops = (r, came.came, refl) }
 
-  stops_at : (r : Refusal) → DoesTold (LineTold said before old.state) new text after (Err r)
+  stops_at : (r : Refusal) → DoesTold (LineTold said before) old.state new text after (Err r)
       → PlaysSaid number (Some said) old before new after text (Err (fault_at number r))
   stops_at NoSuchMessage d = stopped NoSuchMessage d.1
   stops_at NoSuchNode d = stopped NoSuchNode d.1
@@ -37,7 +37,7 @@ module _ (number : ℕ) (said : Line) (old new : Kept) (before after : Desk) (te
   stops_at Memory d = tt
 
 pub line_stops : (number : ℕ) (o : Option Line) (said : Line) (old new : Kept) (before after : Desk) (text : List ℕ) (r : Refusal) (why : PlayFault)
-    → o ≡ Some said → why ≡ fault_at number r → DoesTold (LineTold said before old.state) new text after (Err r)
+    → o ≡ Some said → why ≡ fault_at number r → DoesTold (LineTold said before) old.state new text after (Err r)
     → PlaysSaid number o old before new after text (Err why)
 line_stops number o said old new before after text r why is e d =
     subst (λ (z : PlayFault). PlaysSaid number o old before new after text (Err z)) (sym e)

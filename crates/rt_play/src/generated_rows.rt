@@ -22,7 +22,7 @@ pub(crate) fn produce_rows(
     requires unspent { world.old.spent ≡ false }
     requires some { 1 ≤ asked.partitions }
     requires few { asked.partitions ≤ MOST_PARTITIONS }
-    ensures { Does (ProducesRows asked world.old.state) world.new result }
+    ensures { Does (ProducesRows asked) world.old.state world.new result }
 {
     let mut spare = Bytes::new(alloc);
     let mut x = asked.seed;
@@ -50,7 +50,7 @@ fn produce_row(
     requires unspent { world.old.spent ≡ false }
     requires some { 1 ≤ partitions }
     requires few { partitions ≤ MOST_PARTITIONS }
-    ensures { Does (ProducesRow partitions at x world.old.state) world.new result }
+    ensures { Does (ProducesRow partitions at x) world.old.state world.new result }
 {
     let next = next_number(x);
     let message = row_text(alloc, next, spare)?;

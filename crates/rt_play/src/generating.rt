@@ -152,7 +152,7 @@ fn run(
     requires empty { string_bytes answer.old ≡ [] }
     requires some { 1 ≤ asked.partitions }
     requires few { asked.partitions ≤ MOST_PARTITIONS }
-    ensures { DoesText (RunsGenerated asked world.old.state) world.new (string_bytes answer.new) result }
+    ensures { DoesText (RunsGenerated asked) world.old.state world.new (string_bytes answer.new) result }
 {
     let _last = produce_rows(alloc, world, asked)?;
     settle_and_ask(alloc, world, answer)
@@ -162,7 +162,7 @@ fn run(
 fn settle_and_ask(alloc: Global, world: &mut World, answer: &mut String) -> Result<(), Refusal>
     requires unspent { world.old.spent ≡ false }
     requires empty { string_bytes answer.old ≡ [] }
-    ensures { DoesText (SettlesAndAsks world.old.state) world.new (string_bytes answer.new) result }
+    ensures { DoesText SettlesAndAsks world.old.state world.new (string_bytes answer.new) result }
 {
     let _quiet = settle_unpaused(alloc, world)?;
     ask(alloc, world, answer)
@@ -171,7 +171,7 @@ fn settle_and_ask(alloc: Global, world: &mut World, answer: &mut String) -> Resu
 // Settles the cluster; no line pauses a generated run.
 fn settle_unpaused(alloc: Global, world: &mut World) -> Result<bool, Refusal>
     requires { world.old.spent ≡ false }
-    ensures { Does (Settles false MOST_ROUNDS world.old.state) world.new result }
+    ensures { Does (Settles false MOST_ROUNDS) world.old.state world.new result }
 {
     let pause = Pause::make();
     settle(alloc, world, &pause, MOST_ROUNDS)
@@ -180,7 +180,7 @@ fn settle_unpaused(alloc: Global, world: &mut World) -> Result<bool, Refusal>
 fn ask(alloc: Global, world: &mut World, answer: &mut String) -> Result<(), Refusal>
     requires unspent { world.old.spent ≡ false }
     requires empty { string_bytes answer.old ≡ [] }
-    ensures { DoesText (Asks world.old.state) world.new (string_bytes answer.new) result }
+    ensures { DoesText Asks world.old.state world.new (string_bytes answer.new) result }
 {
     let setup = world.setup();
     let said = read_line(alloc, &setup.schema, &setup.table.name, QUERY.as_bytes())?;
@@ -196,7 +196,7 @@ fn ask_said(
     requires unspent { world.old.spent ≡ false }
     requires fits { IfSome said (IsQuery world.old.state.setup.schema) }
     requires empty { string_bytes answer.old ≡ [] }
-    ensures { DoesText (AsksQuery said world.old.state) world.new (string_bytes answer.new) result }
+    ensures { DoesText (AsksQuery said) world.old.state world.new (string_bytes answer.new) result }
 {
     match said {
         Some(query) => play_query(alloc, world, query, answer),

@@ -8,7 +8,7 @@ abbrev pub invariant-loop-at : goal.invariant-loop-at
 invariant-loop-at l = record {
   unspent : l.world.spent ≡ false;
   within : l.at ≤ l.asked.rows;
-  same : Leads (EachFrom (ProducesRow l.asked.partitions) l.at (l.asked.rows - l.at) l.x l.world.state) (ProducesRows l.asked l.initial.world.state);
+  same : Leads (EachFrom (ProducesRow l.asked.partitions) l.at (l.asked.rows - l.at) l.x l.world.state) (ProducesRows l.asked l.initial.world.state) l.initial.world.state l.world.state;
 }
 
 abbrev pub decreases-loop-at : goal.decreases-loop-at

@@ -10,4 +10,4 @@ returns c =
     let said : c.query_said.result ≡ query_said (line_in c.args.world.now.state.setup generated_query) =
     c.query_said.ensures ∙ ap query_said
     (c.in_ok-said.ensures.line ∙ ap (λ (setup : Setup). line_in setup c.as_bytes.result.now) c.setup-setup.ensures.same ∙ ap (line_in c.args.world.now.state.setup) c.as_bytes.ensures.value) in
-    subst (λ asked. DoesText (AsksQuery asked c.args.world.now.state) c.ask_said.new.world (string_bytes c.ask_said.new.answer) c.ask_said.result) said c.ask_said.ensures
+    subst (λ asked. DoesText (AsksQuery asked) c.args.world.now.state c.ask_said.new.world (string_bytes c.ask_said.new.answer) c.ask_said.result) said c.ask_said.ensures
