@@ -1,0 +1,12 @@
+pub mod Answered
+pub mod Exchanging
+pub mod Goes
+pub mod JobSteps
+pub mod Only
+pub mod Pieces
+pub mod Querying
+pub mod Requested
+pub mod Segments
+pub mod Settling
+pub mod StartedJobs
+pub mod Up
