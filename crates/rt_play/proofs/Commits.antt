@@ -1,6 +1,7 @@
 -- What the lines of a script tell of commits agrees with one range of each segment.
-use Rattle.std.proofs.Common.{◌≡◌, ◌<◌, ◌==◌, ℕ, List, [], ◌∷◌, ◌++◌, Option, Some, None, Ok, nat_lt, refl, sym, ◌∙◌, ap, subst}
+use Rattle.std.proofs.Common.{◌≡◌, ◌<◌, ◌==◌, ◌||◌, ℕ, true, false, cond, List, [], ◌∷◌, ◌++◌, Option, Some, None, Ok, nat_lt, refl, sym, ◌∙◌, ap, subst, ⊎_elim}
 use Rattle.std.specs.Prelude.{Bool, IfSome}
+use Rattle.rt_base.specs.declared.numbers.ControllerId.{ControllerId}
 use Rattle.rt_base.specs.declared.numbers.Instance.{Instance}
 use Rattle.rt_base.specs.declared.numbers.Partition.{Partition}
 use Rattle.rt_base.specs.declared.numbers.Sequence.{Sequence}
@@ -21,17 +22,19 @@ use Rattle.rt_model.specs.Setup.{IsSetup}
 use Rattle.rt_model.specs.Tiled.{mark_of}
 use Rattle.rt_model.specs.declared.setup.Setup.{Setup}
 use Rattle.rt_play.proofs.EventNotes.{noted, tells}
+use Rattle.rt_play.proofs.ExchangeLines.{TellsExchange, exchange_told}
 use Rattle.rt_play.proofs.Keeping.{Keeps, choose_keeps, each_from_keeps, passed_keeps, stay_keeps, then_keeps}
+use Rattle.rt_play.proofs.Known.{IsKnown, known_committed}
 use Rattle.rt_play.proofs.Leading.{leads_then}
 use Rattle.rt_play.proofs.LineReads.{beside, same_told, was_then}
-use Rattle.rt_play.proofs.Noted.{Holds, job_kept, none_at_work, stays_with_jobs}
+use Rattle.rt_play.proofs.Noted.{Holds, WasCommitted, job_kept, none_at_work, stays_and_more, stays_with_jobs}
 use Rattle.rt_play.proofs.NotedAnswers.{names_so}
 use Rattle.rt_play.proofs.QueryLines.{query_answer}
 use Rattle.rt_play.proofs.Ranged.{AreRanged, are_ranged, range_in}
 use Rattle.rt_play.proofs.ScriptRuns.{line_leads, lines_lead}
 use Rattle.rt_play.specs.Beginning.{going_from}
 use Rattle.rt_play.specs.Going.{Going}
-use Rattle.rt_play.specs.Ledger.{AllTellSo, CommitsStay, IsTold, Notes, Ranges, TellsFirst, TellsSo, no_notes, noted_behind}
+use Rattle.rt_play.specs.Ledger.{AllTellSo, CommitsStay, IsTold, LineTells, Notes, Ranges, Segment, event_noted, exchange_noted, is_success_status, knows_commit, no_notes}
 use Rattle.rt_play.specs.Report.{FrontRuns, RunAll, Runs as LineRuns, said_at}
 use Rattle.rt_play.specs.declared.beginning.Beginning.{Beginning}
 use Rattle.rt_report.specs.Outcome.{outcome_text}
@@ -53,26 +56,28 @@ use Rattle.rt_world.specs.Step.{Steps}
 
 -- ---- a line
 
--- what a line tells, and what is noted behind it
-record Says (ranges : Ranges) (w v : State) (notes : Notes) (said : Option Line) (text : List ℕ) : Type 0 where
-  outcome : Outcome
-  told : IsTold said text outcome
-  so : TellsSo w.setup ranges notes said outcome
-  holds : Holds ranges v (noted_behind said outcome notes)
+-- what a line tells, where all that is said behind it follows from what is then noted
+abbrev Says : Ranges → State → State → Notes → Option Line → List ℕ → Type 1
+Says ranges w v notes said text = (later : Notes → Type 0) → ((more : Notes) → Holds ranges v more → later more) → LineTells w.setup ranges notes said text later
 
 -- a partition's mark is 0 where nothing is retired
 abbrev KeepsMarks : State → Type 0
 KeepsMarks w = (p : Partition) → p.0 < w.setup.partitions → w.setup.retention ≡ None → mark_of w.store.writes p ≡ 0
 
+-- a segment alone
+abbrev only : Partition → Sequence → List Segment
+only p q = record { partition = p; sequence = q } ∷ []
+
 -- an event's text is that of its outcome
-event_text : (e : Event) (text : List ℕ) (o : Outcome) → text ≡ outcome_text e o → IsTold (Some (line.Event e)) text o
+event_text : (e : Event) (text : List ℕ) (o : Outcome) → text ≡ outcome_text e o → IsTold e text o
 event_text (event.Consume i p q max) text o same = tt
 event_text e text o same = same
 
 -- nothing happens in place of a `consume` that is held
 held_says : (ranges : Ranges) (w : State) (notes : Notes) (e : Event) (paused : Bool) (text : List ℕ) (at : Instance × Partition × Sequence) → held_by w paused e ≡ Some at
     → Holds ranges w notes → Says ranges w w notes (Some (line.Event e)) text
-held_says ranges w notes (event.Consume i p q max) paused text at held k = record { outcome = came.Noted; told = tt; so = tt; holds = k }
+held_says ranges w notes (event.Consume i p q max) paused text at held k =
+    λ later f. record { outcome = came.Noted; told = tt; so = tt; behind = f notes k }
 held_says ranges w notes e paused text at held k = absurd (cc)
 
 -- ---- a fill
@@ -110,11 +115,11 @@ module _ (ranges : Ranges) (w : State) (notes : Notes) (safe : IsSafeWorld w) (m
       let t = was_then (Happens e) (λ outcome. Gives (outcome_text e outcome)) w u text h in
       let same : u.world ≡ t.between.world = ap (λ (x : Reached). x.world) t.whole ∙ ap (λ (x : Reached). x.world) t.further.0 in
       let steps : Steps w e u.world (Ok t.told) = subst (λ (x : State). Steps w e x (Ok t.told)) (sym same) t.came.by.0 in
-      record {
+      λ later f. record {
         outcome = t.told;
         told = event_text e text t.told (same_told text (outcome_text e t.told) t.further.1);
         so = tells ranges w u.world notes safe goes ranged k e t.told fits steps;
-        holds = noted ranges w u.world notes safe goes ranged k e t.told fits steps;
+        behind = f (event_noted e t.told notes) (noted ranges w u.world notes safe goes ranged k e t.told fits steps);
       }
 
   unless_says : (o : Option (Instance × Partition × Sequence)) (e : Event) (paused : Bool) (u : Reached) (text : List ℕ) → Fits w.setup.schema e → GoesOn w u.world
@@ -125,14 +130,35 @@ module _ (ranges : Ranges) (w : State) (notes : Notes) (safe : IsSafeWorld w) (m
       of_world w u.world (Some (line.Event e)) text (ap (λ (x : Reached). x.world) h.0) (held_says ranges w notes e paused text at held k)
 
   -- where no job is known any more
-  other_says : (v : State) (said : Option Line) (text : List ℕ) → GoesOn w v → IsTold said text came.Noted → TellsSo w.setup ranges notes said came.Noted
-      → noted_behind said came.Noted notes ≡ record notes { jobs = [] } → Says ranges w v notes said text
-  other_says v said text goes told so none = record {
-    outcome = came.Noted;
-    told = told;
-    so = so;
-    holds = subst (Holds ranges v) (sym none) (none_at_work ranges w v notes goes k);
-  }
+  none_known : (v : State) (later : Notes → Type 0) → GoesOn w v → ((more : Notes) → Holds ranges v more → later more) → later (record notes { jobs = [] })
+  none_known v later goes f = f (record notes { jobs = [] }) (none_at_work ranges w v notes goes k)
+
+  exchange_says : (i : Instance) (p : Partition) (q : Sequence) (c : ControllerId) (v : State) (text : List ℕ) → GoesOn w v
+      → AreRanged (starting_of v.setup) v.store.writes ranges → TellsExchange v p q text → Says ranges w v notes (Some (line.Macro (macro.Exchange i p q c))) text
+  exchange_says i p q c v text goes ranged t later f =
+      let x = t.exchanged in
+      record {
+        request = x.request;
+        reply = x.reply;
+        status = x.status;
+        stands = x.state;
+        told = t.told;
+        behind = f (exchange_noted p q x.status x.state notes) (by_test (is_success_status x.status) (knows_commit x.state) t.is.success t.is.knows);
+      }
+    where
+      none : Holds ranges v (record notes { jobs = [] })
+      none = none_at_work ranges w v notes goes k
+
+      more : IsKnown v p q → Holds ranges v (record notes { jobs = []; committed = only p q ++ notes.committed })
+      more known =
+          stays_and_more ranges v (record notes { jobs = [] }) (only p q) none
+          (λ s has. ⊎_elim (λ same. subst (WasCommitted ranges v) same (known_committed ranges v p q ranged known)) (λ none. absurd none) has)
+
+      by_test : (a b : Bool) → (a ≡ true → IsKnown v p q) → (b ≡ true → IsKnown v p q)
+          → Holds ranges v (record notes { jobs = []; committed = cond (a || b) (only p q ++ notes.committed) notes.committed })
+      by_test true b success knows = more (success refl)
+      by_test false true success knows = more (knows refl)
+      by_test false false success knows = none
 
   line_says : (said : Line) (desk after : Desk) (v : Reached) (text : List ℕ) → FitsLine w.setup.schema said → GoesOn w v.world
       → AreRanged (starting_of v.world.setup) v.world.store.writes ranges → LineTold said desk w v (Ok (told after text)) → Says ranges w v.world notes (Some said) text
@@ -145,27 +171,23 @@ module _ (ranges : Ranges) (w : State) (notes : Notes) (safe : IsSafeWorld w) (m
       let b = beside (MacroTold desk.pause (macro.Query query)) desk after w v text h in
       let a = query_answer query w b.between text safe fits b.came in
       let same = ap (λ (x : State). x.controllers) b.same ∙ a.found.kept in
-      record {
-        outcome = came.Answered a.answer;
-        told = (a.answer, refl, a.told);
+      λ later f. record {
+        answer = a.answer;
+        told = a.told;
         so = names_so ranges w b.between.world notes a.answer safe k a.found marks;
-        holds = stays_with_jobs ranges w v.world notes goes (λ x has at. job_kept w v.world x goes same at) k;
+        behind = f notes (stays_with_jobs ranges w v.world notes goes (λ x has at. job_kept w v.world x goes same at) k);
       }
   line_says (line.Macro (macro.Fill p count)) desk after v text fits goes ranged h =
       let b = beside (MacroTold desk.pause (macro.Fill p count)) desk after w v text h in
       let same = ap (λ (x : State). x.controllers) b.same ∙ fill_keeps w p count w b.between (Ok text) refl b.came in
-      record {
-        outcome = came.Noted;
-        told = tt;
-        so = tt;
-        holds = stays_with_jobs ranges w v.world notes goes (λ x has at. job_kept w v.world x goes same at) k;
-      }
+      λ later f. f notes (stays_with_jobs ranges w v.world notes goes (λ x has at. job_kept w v.world x goes same at) k)
   line_says (line.Macro (macro.Exchange i p q c)) desk after v text fits goes ranged h =
-      other_says v.world (Some (line.Macro (macro.Exchange i p q c))) text goes tt tt refl
-  line_says (line.Macro (macro.Settle rounds)) desk after v text fits goes ranged h =
-      other_says v.world (Some (line.Macro (macro.Settle rounds))) text goes tt tt refl
-  line_says (line.NoQuery number) desk after v text fits goes ranged h = other_says v.world (Some (line.NoQuery number)) text goes tt tt refl
-  line_says (line.Further further) desk after v text fits goes ranged h = other_says v.world (Some (line.Further further)) text goes tt tt refl
+      let b = beside (MacroTold desk.pause (macro.Exchange i p q c)) desk after w v text h in
+      let told = exchange_told i p q c w b.between text safe b.came in
+      exchange_says i p q c v.world text goes ranged (subst (λ (x : State). TellsExchange x p q text) (sym b.same) told)
+  line_says (line.Macro (macro.Settle rounds)) desk after v text fits goes ranged h = λ later f. none_known v.world later goes f
+  line_says (line.NoQuery number) desk after v text fits goes ranged h = λ later f. none_known v.world later goes f
+  line_says (line.Further further) desk after v text fits goes ranged h = λ later f. none_known v.world later goes f
 
 said_says : (ranges : Ranges) (o : Option Line) (g : Going) (turns : List Turn) (h : Going) (text : List ℕ) (notes : Notes) → IsSafeWorld g.world → KeepsMarks g.world
     → Holds ranges g.world notes → IfSome o (FitsLine g.world.setup.schema) → GoesOn g.world h.world → AreRanged (starting_of h.world.setup) h.world.store.writes ranges
@@ -202,16 +224,12 @@ module _ (setup : Setup) (is : IsSetup setup) (ranges : Ranges) where
       let said : said_at g first ≡ line_in setup first.1 = ap (λ (s : Setup). line_in s first.1) same in
       let says = said_says ranges (said_at g first) g run.own run.between run.text notes safe (marks_kept before g.world started same) k
       (line_fits g.world.setup.schema g.world.setup.table.name first.1) goes (ranged_before run.between.world h.world same_then further ranged) run.first in
-      let others = lines_say lines rest (before ++ run.own) run.between run.more h run.others (noted_behind (said_at g first) says.outcome notes) now same_then says.holds
-      run.then_others ranged in
+      let later : Notes → Type 0 = λ more. AllTellSo setup ranges more (lines ++ rest) run.others in
+      let told = says later
+      (λ more holds. lines_say lines rest (before ++ run.own) run.between run.more h run.others more now same_then holds run.then_others ranged) in
       subst (AllTellSo setup ranges notes (first ∷ (lines ++ rest))) (sym run.whole)
-      (subst (λ (o : Option Line). TellsFirst setup ranges notes o run.text (λ more. AllTellSo setup ranges more (lines ++ rest) run.others)) said
-      (record {
-        outcome = says.outcome;
-        told = says.told;
-        so = subst (λ (s : Setup). TellsSo s ranges notes (said_at g first) says.outcome) same says.so;
-        behind = others;
-      }))
+      (subst (λ (o : Option Line). LineTells setup ranges notes o run.text later) said
+      (subst (λ (s : Setup). LineTells s ranges notes (said_at g first) run.text later) same told))
 
 -- nothing was noted before the first line
 none_noted : (ranges : Ranges) (w : State) → Holds ranges w no_notes

@@ -8,12 +8,6 @@ use Rattle.rt_base.specs.declared.numbers.Offset.{Offset}
 use Rattle.rt_base.specs.declared.numbers.Partition.{Partition}
 use Rattle.rt_base.specs.declared.numbers.Sequence.{Sequence}
 use Rattle.rt_base.specs.declared.range.Range.{Range}
-use Rattle.rt_consumer.specs.Consumer.{state_at, state_of}
-use Rattle.rt_consumer.specs.declared.consumer.Consumer.{Consumer}
-use Rattle.rt_consumer.specs.declared.phase.Phase.{Phase}
-use Rattle.rt_consumer.specs.declared.phase.Phase.TheVariants as phase
-use Rattle.rt_consumer.specs.declared.stage.Stage.{Stage}
-use Rattle.rt_consumer.specs.declared.stage.Stage.TheVariants.{Building, CatchingUp, ConsumingToOnline, Ending, Holding, InitialConsuming, Retaining, Starting, Uploading}
 use Rattle.rt_controller.proofs.StartsAlone.{starts_at_machine}
 use Rattle.rt_controller.specs.Controller.{Controlling}
 use Rattle.rt_controller.specs.Steps.{Handles}
@@ -27,16 +21,17 @@ use Rattle.rt_events.specs.declared.event.Event.TheVariants as event
 use Rattle.rt_events.specs.declared.outcome.Outcome.{Outcome}
 use Rattle.rt_events.specs.declared.outcome.Outcome.TheVariants as came
 use Rattle.rt_events.specs.declared.refusal.Refusal.TheVariants.{NoSuchNode}
-use Rattle.rt_lists.proofs.Members.{Has-append_cases, Has-filter, Has-front, Has-map, slice_get-push}
+use Rattle.rt_lists.proofs.Members.{Has-append_cases, Has-filter, Has-front, Has-map}
 use Rattle.rt_lists.specs.Members.{Has}
 use Rattle.rt_model.proofs.Histories.{value_of-last}
 use Rattle.rt_model.proofs.Kept.{last_write-Has}
 use Rattle.rt_model.specs.History.{value_of}
 use Rattle.rt_model.specs.Messages.{asked_of}
-use Rattle.rt_model.specs.Metadata.{IsDone, IsDoneStatus, IsFinal, IsFinalStatus, listed_write, node_key}
+use Rattle.rt_model.specs.Metadata.{IsDone, IsDoneStatus, IsFinal, IsFinalStatus, node_key}
 use Rattle.rt_model.specs.declared.node.Node.{Node}
 use Rattle.rt_model.specs.declared.node.Node.TheVariants as node
 use Rattle.rt_model.specs.declared.node.Seen.{Seen}
+use Rattle.rt_model.specs.declared.replica_state.ReplicaState.{ReplicaState}
 use Rattle.rt_model.specs.declared.reply.Reply.{Reply}
 use Rattle.rt_model.specs.declared.reply.ReplyStatus.{ReplyStatus}
 use Rattle.rt_model.specs.declared.reply.ReplyStatus.TheVariants as status
@@ -44,48 +39,34 @@ use Rattle.rt_model.specs.declared.request.Request.{Request}
 use Rattle.rt_model.specs.declared.request.RequestKind.{RequestKind}
 use Rattle.rt_model.specs.declared.request.RequestKind.TheVariants as kind
 use Rattle.rt_model.specs.declared.seg_meta.SeenMeta.{SeenMeta}
-use Rattle.rt_model.specs.declared.sent.Sent.TheVariants as sent
 use Rattle.rt_model.specs.declared.setup.Setup.{Setup}
 use Rattle.rt_model.specs.declared.status.Status.{Status}
 use Rattle.rt_model.specs.declared.status.Status.TheVariants.{Abandoned, Done, InProgress}
-use Rattle.rt_nodes.specs.Messages.{node_took, took}
-use Rattle.rt_nodes.specs.Requests.{NodeAsks}
 use Rattle.rt_nodes.specs.declared.controller_node.ControllerNode.{ControllerNode}
-use Rattle.rt_nodes.specs.declared.server_node.ServerNode.{ServerNode}
-use Rattle.rt_past.specs.Segments.{WasDone}
-use Rattle.rt_play.proofs.JobLines.{IsDoneTo, OwnStep, goes_on, own_step, sets_done, succeeds}
+use Rattle.rt_play.proofs.JobLines.{IsDoneTo, goes_on, sets_done, succeeds}
+use Rattle.rt_play.proofs.Known.{IsKnown, known_committed, taken_knows}
 use Rattle.rt_play.proofs.Noted.{Holds, IsAtWork, IsPosted, WasCommitted, committed_stays, job_stays, posted_stays, stays_and_more, stays_but_jobs, stays_with_jobs, still_works}
 use Rattle.rt_play.proofs.Ranged.{AreRanged}
 use Rattle.rt_play.proofs.ShownStays.{node_of, stays_or_gone}
-use Rattle.rt_play.proofs.StartedJobs.{commit_started}
 use Rattle.rt_play.specs.Ledger.{IsDoneOver, Notes, Posted, Ranges, SaysDone, Segment, ShowsDone, TellsSo, Working, event_noted, is_commit_end, is_done_node, is_done_status, is_done_step, is_job, is_success, is_success_status, knows_commit, left_open, opens, segments_of, sent_noted, shows_done, shown_noted, started_noted, stepped_noted, tells_commit, took_noted}
 use Rattle.rt_safety.proofs.CommitOpens.{commit_opens}
-use Rattle.rt_replica.specs.Lasting.{HasUploaded, ToldAt, ToldIn}
-use Rattle.rt_safety.proofs.JobsOn.{own_slot}
 use Rattle.rt_safety.proofs.Runs.{leads_safe}
 use Rattle.rt_safety.specs.CommitRun.{IsOpen}
 use Rattle.rt_safety.specs.GoesOn.{GoesOn}
 use Rattle.rt_safety.specs.Runs.{happens}
-use Rattle.rt_script.specs.declared.line.Line.TheVariants as line
-use Rattle.rt_segment.specs.Segment.{SealedSegment}
-use Rattle.rt_server.proofs.LastingPuts.{replica_held}
-use Rattle.rt_server.proofs.LastingTold.{asks_right}
-use Rattle.rt_state.proofs.Bounds.{few_sent}
 use Rattle.rt_state.proofs.Possible.{only_passed}
-use Rattle.rt_server.specs.Calls.{replied_in}
-use Rattle.rt_server.specs.Table.{replica_of}
 use Rattle.rt_state.specs.Applying.{Next}
-use Rattle.rt_state.specs.Finding.{has_partition, reply_at, request_at, request_in}
-use Rattle.rt_state.specs.IsSafe.{past_of}
+use Rattle.rt_state.specs.Finding.{has_partition, request_at}
 use Rattle.rt_state.specs.IsSafeWorld.{IsSafeWorld}
-use Rattle.rt_state.specs.Messages.{DeliversAt, RepliesAt, after_step, handed}
-use Rattle.rt_state.specs.Nodes.{ServerDoesAt}
-use Rattle.rt_state.specs.Requests.{SendsAt}
+use Rattle.rt_state.specs.Messages.{DeliversAt, after_step, handed}
 use Rattle.rt_state.specs.Room.{no_cost, priced}
 use Rattle.rt_state.specs.declared.state.State.{State}
 use Rattle.rt_store.specs.Contents.{starting_of}
 use Rattle.rt_store.specs.Meaning.{Told}
 use Rattle.rt_store.specs.Memory.{means}
+use Rattle.rt_unrefused.proofs.JobSteps.{OwnStep, own_step}
+use Rattle.rt_unrefused.proofs.Requested.{IsRequested, requested}
+use Rattle.rt_unrefused.proofs.StartedJobs.{commit_started}
 use Rattle.rt_world.proofs.KeepsMessages.{request_sent}
 use Rattle.rt_world.specs.Step.{Steps}
 use Rattle.rt_znodes.specs.Znodes.{end_by, end_in}
@@ -170,26 +151,6 @@ commit_end : (q : RequestKind) → is_commit_end q ≡ true → (path : List ℕ
 commit_end (kind.CommitEnd path) e = (path, refl)
 commit_end other e = absurd (false≢true e)
 
--- a replica that knows of its segment's commit was told the metadata that says so
-knows_at : (h : List Seen) (p : Partition) (q : Sequence) (Up : Offset → SealedSegment → List ℕ → Type 0) (x : Offset) (stage : Stage) → knows_commit (state_at stage) ≡ true
-    → ToldAt (WasDone h p q) Up x stage → (done : SeenMeta) × WasDone h p q done
-knows_at h p q Up x (ConsumingToOnline end done) e told = (done, told)
-knows_at h p q Up x (Retaining done) e told = (done, told)
-knows_at h p q Up x InitialConsuming e told = absurd (false≢true e)
-knows_at h p q Up x (CatchingUp target reason) e told = absurd (false≢true e)
-knows_at h p q Up x (Holding reason) e told = absurd (false≢true e)
-knows_at h p q Up x (Building reason) e told = absurd (false≢true e)
-knows_at h p q Up x (Starting reason built) e told = absurd (false≢true e)
-knows_at h p q Up x (Uploading reason built) e told = absurd (false≢true e)
-knows_at h p q Up x (Ending reason built path) e told = absurd (false≢true e)
-
-knows_of : (h : List Seen) (p : Partition) (q : Sequence) (Up : Offset → SealedSegment → List ℕ → Type 0) (ph : Phase) → knows_commit (state_of ph) ≡ true
-    → ToldIn (WasDone h p q) Up ph → (done : SeenMeta) × WasDone h p q done
-knows_of h p q Up (phase.Unsealed o) e told = knows_at h p q Up o.rows.end o.stage e told
-knows_of h p q Up (phase.Retained kept) e told = (kept.done, told)
-knows_of h p q Up (phase.Committed kept) e told = (kept.done, told)
-knows_of h p q Up (phase.Discarded d) e told = absurd (false≢true e)
-
 module _ (ranges : Ranges) (w v : State) (notes : Notes) (safe : IsSafeWorld w) (goes : GoesOn w v) (ranged : AreRanged (starting_of v.setup) v.store.writes ranges)
     (k : Holds ranges w notes) where
   -- a Done write of a segment of the cluster
@@ -202,45 +163,36 @@ module _ (ranges : Ranges) (w v : State) (notes : Notes) (safe : IsSafeWorld w) 
 
   report_noted : (i : Instance) (p : Partition) (q : Sequence) (o : Outcome) → Steps w (event.Report i p q) v (Ok o)
       → ((x : Working) → Has notes.jobs x → IsAtWork v x) → Holds ranges v (sent_noted p q o notes)
-  report_noted i p q o (cost, due, h) jobs = by_server (slice_get w.servers i.0) refl h
+  report_noted i p q o steps jobs =
+      let its = requested w v i p q o safe steps in
+      subst (λ (x : Outcome). Holds ranges v (sent_noted p q x notes)) (sym its.told)
+      (record {
+        requests = by_kind its (is_commit_end its.request.kind) refl;
+        jobs = jobs;
+        committed = λ s has. committed_stays ranges w v s goes (k.committed s has);
+      })
     where
       -- what was noted before
       old_posted : (x : Posted) → Has notes.requests x → IsPosted v x
       old_posted x has = posted_stays w v x goes (k.requests x has)
 
-      by_kind : (request : Request) → v.sent ≡ w.sent ++ sent.Request request ∷ [] → (request.partition ≡ p) × (request.sequence ≡ q) → (b : Bool)
-          → is_commit_end request.kind ≡ b → (x : Posted)
-          → Has (cond b (record { message = length w.sent; segment = record { partition = p; sequence = q }; end = request.offset } ∷ notes.requests) notes.requests) x
+      by_kind : (its : IsRequested w v i p q o) (b : Bool) → is_commit_end its.request.kind ≡ b → (x : Posted)
+          → Has (cond b (record { message = length w.sent; segment = record { partition = p; sequence = q }; end = its.request.offset } ∷ notes.requests) notes.requests) x
           → IsPosted v x
-      by_kind request same at false e x has = old_posted x has
-      by_kind request same at true e x (inr has) = old_posted x has
-      by_kind request same at true e x (inl is) =
-          let named = commit_end request.kind e in
-          let one : Partition → Segment = λ t. record { partition = t; sequence = request.sequence } in
+      by_kind its false e x has = old_posted x has
+      by_kind its true e x (inr has) = old_posted x has
+      by_kind its true e x (inl is) =
+          let named = commit_end its.request.kind e in
+          let one : Partition → Segment = λ t. record { partition = t; sequence = its.request.sequence } in
           let other : Sequence → Segment = λ t. record { partition = p; sequence = t } in
           subst (IsPosted v) is
           (record {
-            request = request;
-            there =
-                ap (λ l. request_in (slice_get l (length w.sent))) same ∙ ap request_in (slice_get-push w.sent (sent.Request request));
+            request = its.request;
+            there = its.there;
             path = named.0;
             names = named.1;
-            segment = ap one at.0 ∙ ap other at.1;
+            segment = ap one its.segment.0 ∙ ap other its.segment.1;
             end = refl;
-          })
-
-      by_server : (n : Option ServerNode) → slice_get w.servers i.0 ≡ n → SendsAt n w i (NodeAsks p q) cost (v, o) → Holds ranges v (sent_noted p q o notes)
-      by_server None found h = absurd h
-      by_server (Some old) found (new, request, does, is) =
-          let told : o ≡ came.Sent (length w.sent) request = ap (λ (x : Next). x.1) is in
-          let same : v.sent ≡ w.sent ++ sent.Request request ∷ [] = ap (λ (x : Next). x.0.sent) is in
-          let right = asks_right w.setup (past_of w) old.server new.server p q request safe.safe.past (safe.safe.servers i.0 old found).over
-          (safe.safe.drawn i.0 old found) (few_sent w safe) does.1 does.0 in
-          subst (λ (x : Outcome). Holds ranges v (sent_noted p q x notes)) (sym told)
-          (record {
-            requests = by_kind request same right.asked.segment (is_commit_end request.kind) refl;
-            jobs = jobs;
-            committed = λ s has. committed_stays ranges w v s goes (k.committed s has);
           })
 
   -- ---- a delivery
@@ -265,9 +217,6 @@ module _ (ranges : Ranges) (w v : State) (notes : Notes) (safe : IsSafeWorld w) 
 
   same_started : (i j : ℕ) → came.Started i ≡ came.Started j → i ≡ j
   same_started i j e = cc
-
-  same_job : (i j : ℕ) → handled.Job i ≡ handled.Job j → i ≡ j
-  same_job i j e = cc
 
   -- the job that is started is open, for the request
   starts_work : (m : ℕ) (c : ControllerId) (j : ℕ) (q : Request) (path : List ℕ) → request_at w m ≡ Some q → q.kind ≡ kind.CommitEnd path
@@ -390,65 +339,34 @@ module _ (ranges : Ranges) (w v : State) (notes : Notes) (safe : IsSafeWorld w) 
         by_test true e holds = stays_and_more ranges v now (segments_of c j notes.jobs) holds (λ s has. all_commit s has e)
         by_test false e holds = holds
 
-    job_tells : TellsSo w.setup ranges notes (Some (line.Event (event.Job c j))) o
+    job_tells : TellsSo ranges notes (event.Job c j) o
     unfolding done_to commits did committed_by
     job_tells =
-        subst (λ (x : Outcome). TellsSo w.setup ranges notes (Some (line.Event (event.Job c j))) x) (sym did.told.1)
+        subst (λ (x : Outcome). TellsSo ranges notes (event.Job c j) x) (sym did.told.1)
         (λ x tells has e.
         let d = done_to x has e tells in
         range_ends (ranges x.segment.partition x.segment.sequence) d.write.node (commits x has e tells).done ∙ d.ends)
 
   -- ---- a replica that takes a reply
 
-  -- a replica of the world behind it that knows of its segment's commit
-  told_done : (n : ServerNode) (i : Instance) (p : Partition) (q : Sequence) (r : Consumer) → IsSafeWorld v → slice_get v.servers i.0 ≡ Some n
-      → replica_of n.server.table p q ≡ Some r → knows_commit (state_of r.phase) ≡ true → WasCommitted ranges v (record { partition = p; sequence = q })
-  told_done n i p q r later at found knows =
-      let held = replica_held v.setup (past_of v) n.server (later.safe.servers i.0 n at).over p q r found in
-      let done = knows_of v.store.writes r.partition r.sequence (HasUploaded v.setup (past_of v) n.server.numbers.instance n.server.numbers.incarnation r.partition r.sequence r.start)
-      r.phase knows held.2.told in
-      let one : (Partition × Sequence) → Segment = λ s. record { partition = s.0; sequence = s.1 } in
-      subst (WasCommitted ranges v) (ap one held.0)
-      (committed_by (record { partition = r.partition; sequence = r.sequence }) (listed_write r.partition (record { sequence = r.sequence; seen = done.0 })) held.2.partition
-      done.1.0 refl done.1.1)
-
   reply_noted : (m : ℕ) (o : Outcome) → IsSafeWorld v → Steps w (event.Reply m) v (Ok o) → ((x : Working) → Has notes.jobs x → IsAtWork v x)
       → Holds ranges v (took_noted o notes)
-  reply_noted m o later (cost, due, h) jobs = by_reply (reply_at w m) h
+  reply_noted m o later steps jobs = by_told o (λ i p q stands is. taken_knows w v m o i p q stands later steps is)
     where
       stays : Holds ranges v notes
       stays = stays_but_jobs ranges w v notes notes.jobs goes k jobs
 
-      by_stand : (b : Bool) (p : Partition) (q : Sequence) → (b ≡ true → WasCommitted ranges v (record { partition = p; sequence = q }))
+      by_stand : (b : Bool) (p : Partition) (q : Sequence) → (b ≡ true → IsKnown v p q)
           → Holds ranges v (record notes { committed = cond b (record { partition = p; sequence = q } ∷ notes.committed) notes.committed })
-      by_stand false p q committed = stays
-      by_stand true p q committed =
+      by_stand false p q known = stays
+      by_stand true p q known =
           stays_and_more ranges v notes (record { partition = p; sequence = q } ∷ []) stays
-          (λ s has. ⊎_elim (λ same. subst (WasCommitted ranges v) same (committed refl)) (λ none. absurd none) has)
+          (λ s has. ⊎_elim (λ same. subst (WasCommitted ranges v) same (known_committed ranges v p q ranged (known refl))) (λ none. absurd none) has)
 
-      by_taken : (b : Bool) (reply : Reply) (n : ServerNode) → slice_get v.servers reply.number.instance.0 ≡ Some n → (r : Option Consumer)
-          → replica_of n.server.table reply.partition reply.sequence ≡ r → Holds ranges v (took_noted (took b reply r) notes)
-      by_taken false reply n at r found = stays
-      by_taken true reply n at None found = stays
-      by_taken true reply n at (Some r) found =
-          by_stand (knows_commit (state_of r.phase)) reply.partition reply.sequence (λ knows. told_done n reply.number.instance reply.partition reply.sequence r later at found knows)
-
-      by_server : (reply : Reply) (n : Option ServerNode) → slice_get w.servers reply.number.instance.0 ≡ n
-          → ServerDoesAt n w reply.number.instance (λ old new outcome. (outcome, new) ≡ node_took old reply) cost (v, o) → Holds ranges v (took_noted o notes)
-      by_server reply None at h = absurd h
-      by_server reply (Some old) at (new, step, is) =
-          let there : slice_get v.servers reply.number.instance.0 ≡ Some new =
-          ap (λ (z : State). slice_get z.servers reply.number.instance.0) is ∙ own_slot w.servers reply.number.instance.0 old new at in
-          let x = replied_in old.server.table reply in
-          let table : new.server.table ≡ x.1 = ap (λ (z : Outcome × ServerNode). z.1.server.table) step in
-          let found : replica_of new.server.table reply.partition reply.sequence ≡ replica_of x.1 reply.partition reply.sequence =
-          ap (λ t. replica_of t reply.partition reply.sequence) table in
-          subst (λ (z : Outcome). Holds ranges v (took_noted z notes)) (sym (ap (λ (z : Outcome × ServerNode). z.0) step))
-          (by_taken x.0 reply new there (replica_of x.1 reply.partition reply.sequence) found)
-
-      by_reply : (r : Option Reply) → RepliesAt r w cost (v, o) → Holds ranges v (took_noted o notes)
-      by_reply None h = absurd h
-      by_reply (Some reply) h = by_server reply (slice_get w.servers reply.number.instance.0) refl h
+      by_told : (x : Outcome) → ((i : Instance) (p : Partition) (q : Sequence) (stands : ReplicaState) → x ≡ came.Took i p q stands → knows_commit stands ≡ true → IsKnown v p q)
+          → Holds ranges v (took_noted x notes)
+      by_told (came.Took i p q stands) knows = by_stand (knows_commit stands) p q (knows i p q stands refl)
+      by_told other knows = stays
 
   -- ---- a node that is shown
 
@@ -493,9 +411,9 @@ module _ (ranges : Ranges) (w v : State) (notes : Notes) (safe : IsSafeWorld w) 
     in_cluster : p.0 < w.setup.partitions
     in_cluster = ltb-true p.0 w.setup.partitions (only_passed (has_partition w p) NoSuchNode (priced w no_cost) steps.0 steps.1).0
 
-    show_tells : TellsSo w.setup ranges notes (Some (line.Event (event.ShowMeta p q))) o
+    show_tells : TellsSo ranges notes (event.ShowMeta p q) o
     show_tells =
-        subst (λ (x : Outcome). TellsSo w.setup ranges notes (Some (line.Event (event.ShowMeta p q))) x) (sym shown)
+        subst (λ (x : Outcome). TellsSo ranges notes (event.ShowMeta p q) x) (sym shown)
         (λ has. shows_committed p q (k.committed (record { partition = p; sequence = q }) has), shows_itself p q (node_of w p q) in_cluster refl)
 
     show_noted : ((x : Working) → Has notes.jobs x → IsAtWork v x) → Holds ranges v (shown_noted p q o notes)
@@ -538,7 +456,7 @@ module _ (ranges : Ranges) (w v : State) (notes : Notes) (safe : IsSafeWorld w) 
   noted e o fits steps =
       stays_with_jobs ranges w v notes goes (λ x has at. job_stays w v x e o safe goes fits steps refl (λ f. cc) at) k
 
-  pub tells : (e : Event) (o : Outcome) → Fits w.setup.schema e → Steps w e v (Ok o) → TellsSo w.setup ranges notes (Some (line.Event e)) o
+  pub tells : (e : Event) (o : Outcome) → Fits w.setup.schema e → Steps w e v (Ok o) → TellsSo ranges notes e o
   tells (event.Job c j) o fits steps = job_tells c j fits o steps
   tells (event.ShowMeta p q) o fits steps = show_tells p q o steps
   tells e o fits steps = tt

@@ -8,6 +8,7 @@ pub mod Commits
 pub mod Completes
 pub mod Covered
 pub mod EventNotes
+pub mod ExchangeLines
 pub mod Gathered
 pub mod Generated
 pub mod GeneratedLimits
@@ -18,6 +19,7 @@ pub mod HybridTables
 pub mod InputLimits
 pub mod JobLines
 pub mod Keeping
+pub mod Known
 pub mod Laid
 pub mod Leading
 pub mod LineReads
@@ -35,7 +37,6 @@ pub mod Readings
 pub mod Rights
 pub mod ScriptRuns
 pub mod ShownStays
-pub mod StartedJobs
 pub mod Tellings
 pub mod TextLines
 pub mod Turned

@@ -11,7 +11,7 @@ use Rattle.rt_events.specs.declared.event.Event.{Event}
 use Rattle.rt_events.specs.declared.event.Event.TheVariants as event
 use Rattle.rt_events.specs.declared.event.Event.TheVariants.{Consume, CrashController, Deliver, Job, Report, ShowMeta}
 use Rattle.rt_events.specs.declared.outcome.Outcome.{Outcome}
-use Rattle.rt_events.specs.declared.outcome.Outcome.TheVariants.{Answered, Sent, Shown, Started, Stepped, Took}
+use Rattle.rt_events.specs.declared.outcome.Outcome.TheVariants.{Sent, Shown, Started, Stepped, Took}
 use Rattle.rt_lines.specs.Header.{NumberedLine}
 use Rattle.rt_lists.specs.Members.{Has}
 use Rattle.rt_model.specs.declared.answer.Answer.{Answer}
@@ -35,21 +35,12 @@ use Rattle.rt_model.specs.declared.status.Status.{Status}
 use Rattle.rt_model.specs.declared.status.Status.TheVariants.{Abandoned, Done, InProgress}
 use Rattle.rt_play.specs.Named.{Each, Spares, ranges_at, span}
 use Rattle.rt_report.specs.BrokerTexts.{answer_line}
+use Rattle.rt_report.specs.MacroTexts.{exchanged_text}
 use Rattle.rt_report.specs.Outcome.{outcome_text}
 use Rattle.rt_script.specs.Line.{line_in}
 use Rattle.rt_script.specs.declared.line.Line.{Line}
 use Rattle.rt_script.specs.declared.line.Line.TheVariants as line
 use Rattle.rt_script.specs.declared.line.Macro.TheVariants as macro
-
--- ---- what is read of a text
-
--- the text of an event is that of an outcome, and the text of a `query` line that of an answer. A `consume` may be held, and no more is read
--- of its text, nor of that of another line
-abbrev pub IsTold : Option Line → List ℕ → Outcome → Type 0
-IsTold (Some (line.Event (Consume instance partition sequence max))) text outcome = Unit {0}
-IsTold (Some (line.Event event)) text outcome = text ≡ outcome_text event outcome
-IsTold (Some (line.Macro (macro.Query query))) text outcome = (answer : Answer) × (outcome ≡ Answered answer) × (text ≡ answer_line answer)
-IsTold other text outcome = Unit {0}
 
 -- ---- what is noted of the lines above
 
@@ -200,12 +191,17 @@ event_noted (CrashController controller) outcome notes =
 event_noted (ShowMeta partition sequence) outcome notes = shown_noted partition sequence outcome notes
 event_noted event outcome notes = notes
 
--- behind another line, which may make steps of jobs that it doesn't tell, no job is known to go on
-abbrev pub noted_behind : Option Line → Outcome → Notes → Notes
-noted_behind (Some (line.Event event)) outcome notes = event_noted event outcome notes
-noted_behind (Some (line.Macro (macro.Fill partition count))) outcome notes = notes
-noted_behind (Some (line.Macro (macro.Query query))) outcome notes = notes
-noted_behind other outcome notes = record notes { jobs = [] }
+-- an exchange may make steps of jobs that it doesn't tell, so that behind it no job is known to go on. It tells of a commit of its segment by
+-- the reply, a COMMIT_SUCCESS, or by where the replica then stands
+abbrev pub exchange_noted : Partition → Sequence → ReplyStatus → ReplicaState → Notes → Notes
+exchange_noted partition sequence status stands notes =
+    record notes {
+      jobs = [];
+      committed =
+          if is_success_status status || knows_commit stands
+          then record { partition = partition; sequence = sequence } ∷ notes.committed
+          else notes.committed;
+    }
 
 -- ---- what a line tells, by the ranges of the segments
 
@@ -265,31 +261,54 @@ pub record NamesSo (setup : Setup) (ranges : Ranges) (notes : Notes) (answer : A
   pub whole : (s : Segment) → Has notes.committed s → Each (Spares (ranges s.partition s.sequence)) (ranges_at s.partition answer.ranges)
   pub through : (p : Partition) → p.0 < setup.partitions → MissesNothing answer p → GoesThrough setup ranges notes p (ranges_at p answer.ranges)
 
-abbrev pub AnswersSo : Setup → Ranges → Notes → Outcome → Type 0
-AnswersSo setup ranges notes (Answered answer) = NamesSo setup ranges notes answer
-AnswersSo setup ranges notes other = Unit {0}
-
-abbrev pub TellsSo : Setup → Ranges → Notes → Option Line → Outcome → Type 0
-TellsSo setup ranges notes (Some (line.Event (ShowMeta p q))) outcome = ShowsSo ranges notes p q outcome
-TellsSo setup ranges notes (Some (line.Event (Job c j))) outcome = StepsSo ranges notes c j outcome
-TellsSo setup ranges notes (Some (line.Macro (macro.Query query))) outcome = AnswersSo setup ranges notes outcome
-TellsSo setup ranges notes other outcome = Unit {0}
+-- what an event tells
+abbrev pub TellsSo : Ranges → Notes → Event → Outcome → Type 0
+TellsSo ranges notes (ShowMeta p q) outcome = ShowsSo ranges notes p q outcome
+TellsSo ranges notes (Job c j) outcome = StepsSo ranges notes c j outcome
+TellsSo ranges notes event outcome = Unit {0}
 
 -- ---- a report
 
--- a line tells so, and the lines behind it do with what is then noted
-pub record TellsFirst (setup : Setup) (ranges : Ranges) (notes : Notes) (said : Option Line) (text : List ℕ) (later : Notes → Type 0) : Type 0 where
+-- the text of an event is that of its outcome; but a `consume` may be held, and no more is read of its text
+abbrev pub IsTold : Event → List ℕ → Outcome → Type 0
+IsTold (Consume instance partition sequence max) text outcome = Unit {0}
+IsTold event text outcome = text ≡ outcome_text event outcome
+
+-- an event tells so, and the lines behind it do with what is then noted
+pub record EventTells (ranges : Ranges) (notes : Notes) (event : Event) (text : List ℕ) (later : Notes → Type 0) : Type 0 where
   pub outcome : Outcome
-  pub told : IsTold said text outcome
-  pub so : TellsSo setup ranges notes said outcome
-  pub behind : later (noted_behind said outcome notes)
+  pub told : IsTold event text outcome
+  pub so : TellsSo ranges notes event outcome
+  pub behind : later (event_noted event outcome notes)
+
+pub record QueryTells (setup : Setup) (ranges : Ranges) (notes : Notes) (text : List ℕ) (later : Notes → Type 0) : Type 0 where
+  pub answer : Answer
+  pub told : text ≡ answer_line answer
+  pub so : NamesSo setup ranges notes answer
+  pub behind : later notes
+
+pub record ExchangeTells (notes : Notes) (p : Partition) (q : Sequence) (text : List ℕ) (later : Notes → Type 0) : Type 0 where
+  pub request : ℕ
+  pub reply : ℕ
+  pub status : ReplyStatus
+  pub stands : ReplicaState
+  pub told : text ≡ exchanged_text request reply status stands
+  pub behind : later (exchange_noted p q status stands notes)
+
+-- a `settle` makes steps of jobs that no text tells, so that behind it no job is known to go on, nor behind any other line
+abbrev pub LineTells : Setup → Ranges → Notes → Option Line → List ℕ → (Notes → Type 0) → Type 0
+LineTells setup ranges notes (Some (line.Event event)) text later = EventTells ranges notes event text later
+LineTells setup ranges notes (Some (line.Macro (macro.Query query))) text later = QueryTells setup ranges notes text later
+LineTells setup ranges notes (Some (line.Macro (macro.Fill partition count))) text later = later notes
+LineTells setup ranges notes (Some (line.Macro (macro.Exchange instance p q controller))) text later = ExchangeTells notes p q text later
+LineTells setup ranges notes other text later = later (record notes { jobs = [] })
 
 -- so it is of each line that has a text
 abbrev pub AllTellSo : Setup → Ranges → Notes → List NumberedLine → List (List ℕ) → Type 0
 AllTellSo setup ranges notes lines [] = Unit {0}
 AllTellSo setup ranges notes [] (text ∷ texts) = ⊥
 AllTellSo setup ranges notes (line ∷ lines) (text ∷ texts) =
-    TellsFirst setup ranges notes (line_in setup line.1) text (λ more. AllTellSo setup ranges more lines texts)
+    LineTells setup ranges notes (line_in setup line.1) text (λ more. AllTellSo setup ranges more lines texts)
 
 -- each segment has one range, as far as it was committed, with which all lines agree
 pub record CommitsStay (setup : Setup) (lines : List NumberedLine) (texts : List (List ℕ)) : Type 0 where

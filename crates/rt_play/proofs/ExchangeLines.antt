@@ -1,0 +1,204 @@
+-- What an `exchange` line tells of a commit is of its own segment.
+use Rattle.std.proofs.Common.{◌≡◌, ◌∷◌, [], ℕ, zero, suc, true, List, length, Option, Some, None, Ok, Err, refl, sym, ◌∙◌, ap, subst}
+use Rattle.std.proofs.lemmas.Option.{none-some, same_Some}
+use Rattle.rt_base.specs.declared.numbers.ControllerId.{ControllerId}
+use Rattle.rt_base.specs.declared.numbers.Instance.{Instance}
+use Rattle.rt_base.specs.declared.numbers.Partition.{Partition}
+use Rattle.rt_base.specs.declared.numbers.Sequence.{Sequence}
+use Rattle.rt_events.specs.Fits.{Fits}
+use Rattle.rt_events.specs.declared.event.Event.{Event}
+use Rattle.rt_events.specs.declared.event.Event.TheVariants as event
+use Rattle.rt_events.specs.declared.outcome.Outcome.{Outcome}
+use Rattle.rt_events.specs.declared.outcome.Outcome.TheVariants as came
+use Rattle.rt_macros.specs.Doing.{Gives, Happens, Reached}
+use Rattle.rt_macros.specs.Exchanging.{AfterDelivery, AfterReply, AfterReport, AfterStep, EndsJob, ExchangeTold, Exchanges, Handles as HandlesRequest, IfDue, MakesStep, ReportsAndFinishes, TakesAnswer, exchange_due, exchange_text}
+use Rattle.rt_macros.specs.Outcomes.{delivered_in, ended_in, state_in}
+use Rattle.rt_macros.specs.declared.exchanging.Exchanged.{Exchanged}
+use Rattle.rt_macros.specs.declared.outcomes.Delivered.{Delivered}
+use Rattle.rt_macros.specs.declared.outcomes.Delivered.TheVariants as delivered
+use Rattle.rt_macros.specs.declared.outcomes.Replied.{Replied}
+use Rattle.rt_model.specs.Messages.{asked_of}
+use Rattle.rt_model.specs.declared.asked.Asked.{Asked}
+use Rattle.rt_model.specs.declared.replica_state.ReplicaState.{ReplicaState}
+use Rattle.rt_model.specs.declared.reply.Reply.{Reply}
+use Rattle.rt_model.specs.declared.request.Request.{Request}
+use Rattle.rt_play.proofs.Known.{IsKnown, known_stays, reply_knows, taken}
+use Rattle.rt_play.proofs.LineReads.{same_told, told_or, was_then}
+use Rattle.rt_play.specs.Ledger.{is_success_status, knows_commit}
+use Rattle.rt_safety.proofs.Later.{leads_on}
+use Rattle.rt_safety.proofs.Runs.{leads_safe}
+use Rattle.rt_safety.specs.Runs.{happens}
+use Rattle.rt_state.specs.Finding.{request_at}
+use Rattle.rt_state.specs.IsSafeWorld.{IsSafeWorld}
+use Rattle.rt_state.specs.Room.{Found}
+use Rattle.rt_state.specs.declared.state.State.{State}
+use Rattle.rt_unrefused.proofs.Answered.{Behind, Delivers, IsAnswer, IsFor, delivers, job_steps}
+use Rattle.rt_unrefused.proofs.Requested.{requested}
+use Rattle.rt_world.proofs.KeepsMessages.{reply_sent}
+use Rattle.rt_world.specs.Reading.{events_left_in}
+use Rattle.rt_world.specs.Step.{Steps}
+
+abbrev world_of : Reached → State
+world_of v = v.world
+
+happened_safe : (w v : State) (e : Event) (o : Outcome) → IsSafeWorld w → Fits w.setup.schema e → Steps w e v (Ok o) → IsSafeWorld v
+happened_safe w v e o safe fits steps = leads_safe w (happens e o ∷ []) v safe (v, (fits, steps), refl)
+
+-- ---- a reply
+
+-- the request is answered, in a safe world
+record Answers (v : State) (a : Asked) (r : Replied) : Type 0 where
+  safe : IsSafeWorld v
+  answer : IsAnswer v a r
+
+-- what is given as it was
+gives_it : (u : State) (x : Reached) (a : Asked) (r y : Replied) → IsSafeWorld u → IsAnswer u a y → Gives y u x (Ok r) → Answers x.world a r
+gives_it u x a r y safe is h =
+    subst (λ (z : State). Answers z a r) (sym (ap world_of h.0)) (subst (Answers u a) (sym (same_told r y h.1)) (record { safe = safe; answer = is }))
+
+-- ---- a job
+
+makes_step : (c : ControllerId) (j : ℕ) (a : Asked) (w : State) (v : Reached) (o : Option Replied) → IsSafeWorld w → IsFor w c j a → MakesStep c j w v (Ok o)
+    → IsSafeWorld v.world × Behind v.world c j a o
+makes_step c j a w v o safe is h =
+    let t = was_then (Happens (event.Job c j)) (λ outcome. Gives (ended_in outcome)) w v o h in
+    let same : v.world ≡ t.between.world = ap world_of t.whole ∙ ap world_of t.further.0 in
+    let steps : Steps w (event.Job c j) v.world (Ok t.told) = subst (λ (x : State). Steps w (event.Job c j) x (Ok t.told)) (sym same) t.came.by.0 in (
+      happened_safe w v.world (event.Job c j) t.told safe tt steps,
+      subst (Behind v.world c j a) (sym (same_told o (ended_in t.told) t.further.1)) (job_steps w v.world c j a t.told safe is steps),
+    )
+
+-- what is left of it, as further steps have it end
+abbrev Ends : ControllerId → ℕ → Asked → ℕ → Replied → Type 0
+Ends c j a left r = (w : State) (v : Reached) → IsSafeWorld w → IsFor w c j a → EndsJob c j left w v (Ok r) → Answers v.world a r
+
+steps_end : (c : ControllerId) (j : ℕ) (a : Asked) (left : ℕ) (r : Replied) → Ends c j a left r → (o : Option Replied) (u : State) (x : Reached) → IsSafeWorld u
+    → Behind u c j a o → AfterStep (EndsJob c j left) o u x (Ok r) → Answers x.world a r
+steps_end c j a left r further None u x safe is h = further u x safe is h
+steps_end c j a left r further (Some y) u x safe is h = gives_it u x a r y safe is h
+
+ends_job : (c : ControllerId) (j : ℕ) (a : Asked) (left : ℕ) (r : Replied) → Ends c j a left r
+ends_job c j a zero r w v safe is h = absurd (told_or r _ h.1)
+ends_job c j a (suc left) r w v safe is h =
+    let t = was_then (MakesStep c j) (AfterStep (EndsJob c j left)) w v r h in
+    let s = makes_step c j a w t.between t.told safe is t.came in
+    subst (λ (x : State). Answers x a r) (sym (ap world_of t.whole))
+    (steps_end c j a left r (ends_job c j a left r) t.told t.between.world t.last s.0 s.1 t.further)
+
+-- ---- a delivery
+
+by_delivered : (c : ControllerId) (q : Request) (r : Replied) (d : Delivered) (u : State) (x : Reached) → IsSafeWorld u → Delivers u c q d
+    → AfterDelivery c d u x (Ok r) → Answers x.world (asked_of q) r
+by_delivered c q r (delivered.Replied y) u x safe is h = gives_it u x (asked_of q) r y safe is h
+by_delivered c q r (delivered.Started j) u x safe is h = ends_job c j (asked_of q) (events_left_in u) r u x safe is h
+by_delivered c q r delivered.Neither u x safe is h = absurd is
+
+handles_request : (c : ControllerId) (m : ℕ) (q : Request) (w : State) (v : Reached) (r : Replied) → IsSafeWorld w → request_at w m ≡ Some q
+    → HandlesRequest c m w v (Ok r) → Answers v.world (asked_of q) r
+handles_request c m q w v r safe asks h =
+    let t = was_then (Happens (event.Deliver m c)) (λ outcome. AfterDelivery c (delivered_in outcome)) w v r h in
+    let u = t.between.world in
+    subst (λ (x : State). Answers x (asked_of q) r) (sym (ap world_of t.whole))
+    (by_delivered c q r (delivered_in t.told) u t.last (happened_safe w u (event.Deliver m c) t.told safe tt t.came.by.0)
+    (delivers w u m c q t.told safe asks t.came.by.0) t.further)
+
+-- ---- the answer is taken
+
+-- what is told of the exchange tells of a commit
+pub record IsExchanged (v : State) (p : Partition) (q : Sequence) (x : Exchanged) : Type 0 where
+  pub success : is_success_status x.status ≡ true → IsKnown v p q
+  pub knows : knows_commit x.state ≡ true → IsKnown v p q
+
+-- a reply was taken
+record Took (o : Outcome) (stands : ReplicaState) : Type 0 where
+  instance : Instance
+  partition : Partition
+  sequence : Sequence
+  told : o ≡ came.Took instance partition sequence stands
+
+took_so : (o : Outcome) (stands : ReplicaState) → state_in o ≡ Some stands → Took o stands
+took_so (came.Took i p q state) stands e = record { instance = i; partition = p; sequence = q; told = ap (came.Took i p q) (same_Some state stands e) }
+took_so other stands e = absurd (none-some stands e)
+
+abbrev told_of : ℕ → Replied → ReplicaState → Exchanged
+told_of request y stands = record { request = request; reply = y.message; status = y.status; state = stands }
+
+takes_answer : (request : ℕ) (p : Partition) (q : Sequence) (a : Asked) (y : Replied) (w : State) (v : Reached) (x : Exchanged)
+    → (a.partition ≡ p) × (a.sequence ≡ q) → Answers w a y → TakesAnswer request y w v (Ok x) → IsExchanged v.world p q x
+takes_answer request p q a y w v x own k h =
+    let t = was_then (Happens (event.Reply y.message)) (λ outcome. AfterReply request y (state_in outcome)) w v x h in
+    subst (λ (z : State). IsExchanged z p q x) (sym (ap world_of t.whole)) (by_state t.between.world t.last t.told (state_in t.told) t.came.by.0 refl t.further)
+  where
+    of_segment : (v : State) → IsKnown v k.answer.reply.partition k.answer.reply.sequence → IsKnown v p q
+    of_segment v known =
+        subst (IsKnown v p) (k.answer.sequence ∙ own.1) (subst (λ (s : Partition). IsKnown v s k.answer.reply.sequence) (k.answer.partition ∙ own.0) known)
+
+    in_world : (u : State) (o : Outcome) (stands : ReplicaState) → Steps w (event.Reply y.message) u (Ok o) → state_in o ≡ Some stands → IsExchanged u p q (told_of request y stands)
+    in_world u o stands steps e =
+        let took = took_so o stands e in
+        let its = taken w u y.message o took.instance took.partition took.sequence stands steps took.told in
+        let same : its.reply ≡ k.answer.reply = same_Some its.reply k.answer.reply (sym its.there ∙ k.answer.there) in
+        let goes = leads_on w (happens (event.Reply y.message) o ∷ []) u k.safe (u, (tt, steps), refl) in
+        let next = happened_safe w u (event.Reply y.message) o k.safe tt steps in
+        record {
+          success =
+              λ success.
+              known_stays w u p q goes
+              (of_segment w
+              (reply_knows w k.answer.reply k.safe (reply_sent w y.message k.answer.reply k.answer.there)
+              (ap is_success_status (sym k.answer.status) ∙ success)));
+          knows =
+              λ knows.
+              of_segment u
+              (subst (λ (r : Reply). IsKnown u r.partition r.sequence) same
+              (subst (IsKnown u its.reply.partition) (sym its.sequence)
+              (subst (λ (s : Partition). IsKnown u s took.sequence) (sym its.partition) (its.knows next knows))));
+        }
+
+    by_state : (u : State) (z : Reached) (o : Outcome) (s : Option ReplicaState) → Steps w (event.Reply y.message) u (Ok o) → state_in o ≡ s
+        → AfterReply request y s u z (Ok x) → IsExchanged z.world p q x
+    by_state u z o None steps e g = absurd (told_or x _ g.1)
+    by_state u z o (Some stands) steps e g =
+        subst (λ (s : State). IsExchanged s p q x) (sym (ap world_of g.0))
+        (subst (IsExchanged u p q) (sym (same_told x (told_of request y stands) g.1)) (in_world u o stands steps e))
+
+-- ---- an exchange
+
+exchanges : (i : Instance) (p : Partition) (q : Sequence) (c : ControllerId) (w : State) (v : Reached) (x : Exchanged) → IsSafeWorld w
+    → ReportsAndFinishes (event.Report i p q) c w v (Ok x) → IsExchanged v.world p q x
+exchanges i p q c w v x safe h =
+    let report = event.Report i p q in
+    let t = was_then (Happens report) (AfterReport c) w v x h in
+    let u = t.between.world in
+    let its = requested w u i p q t.told safe t.came.by.0 in
+    let m = length w.sent in
+    let sends = subst (λ (o : Outcome). AfterReport c o u t.last (Ok x)) its.told t.further in
+    let s = was_then (HandlesRequest c m) (TakesAnswer m) u t.last x sends in
+    let answers = handles_request c m its.request u s.between s.told (happened_safe w u report t.told safe tt t.came.by.0) its.there s.came in
+    subst (λ (z : State). IsExchanged z p q x) (sym (ap world_of t.whole ∙ ap world_of s.whole))
+    (takes_answer m p q (asked_of its.request) s.told s.between.world s.last x its.segment answers s.further)
+
+if_due : (f : Found) (report : Event) (c : ControllerId) (w : State) (v : Reached) (x : Exchanged) → IfDue f (ReportsAndFinishes report c) w v (Ok x)
+    → ReportsAndFinishes report c w v (Ok x)
+if_due (Ok u) report c w v x h = h
+if_due (Err refusal) report c w v x h = absurd (told_or x refusal h.1)
+
+-- what the text of the line tells
+pub record TellsExchange (v : State) (p : Partition) (q : Sequence) (text : List ℕ) : Type 0 where
+  pub exchanged : Exchanged
+  pub told : text ≡ exchange_text exchanged
+  pub is : IsExchanged v p q exchanged
+
+pub exchange_told : (i : Instance) (p : Partition) (q : Sequence) (c : ControllerId) (w : State) (v : Reached) (text : List ℕ) → IsSafeWorld w
+    → ExchangeTold i p q c w v (Ok text) → TellsExchange v.world p q text
+exchange_told i p q c w v text safe h =
+    let t = was_then (Exchanges i p q c) (λ x. Gives (exchange_text x)) w v text h in
+    let same : v.world ≡ t.between.world = ap world_of t.whole ∙ ap world_of t.further.0 in
+    let report = event.Report i p q in
+    record {
+      exchanged = t.told;
+      told = same_told text (exchange_text t.told) t.further.1;
+      is =
+          subst (λ (z : State). IsExchanged z p q t.told) (sym same)
+          (exchanges i p q c w t.between t.told safe (if_due (exchange_due w report c) report c w t.between t.told t.came));
+    }
