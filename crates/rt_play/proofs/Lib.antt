@@ -11,7 +11,9 @@ pub mod EventNotes
 pub mod ExchangeLines
 pub mod Gathered
 pub mod Generated
+pub mod GeneratedHeader
 pub mod GeneratedLimits
+pub mod GeneratedRefusals
 pub mod GeneratedRuns
 pub mod HeaderLimits
 pub mod Headlines

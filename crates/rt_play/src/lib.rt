@@ -31,6 +31,6 @@ pub use reader::{
     what_is_shown_to_have_ended_stays, what_was_committed_stays,
 };
 pub use settled::a_settle_leaves_no_server_out;
-pub use some_report::a_script_has_a_report;
+pub use some_report::{a_generated_run_is_never_refused, a_script_has_a_report};
 pub use texts::the_parts_of_a_text_are_the_text;
 pub use views::no_row_of_a_view_is_left_out;
