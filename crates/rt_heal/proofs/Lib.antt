@@ -10,6 +10,7 @@ pub mod LessWorld
 pub mod Listed
 pub mod Mended
 pub mod Missing
+pub mod Moving
 pub mod Nothing
 pub mod Noting
 pub mod Online

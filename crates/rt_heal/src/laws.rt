@@ -1,12 +1,12 @@
 //! What is whole once there is nothing left to do. Each law stands on a function that does nothing: its clause is the law.
-ghost use Rattle.std.specs.Prelude.{◌≡◌, ◌<◌, ◌≤◌, ◌⊎◌, ℕ, Bool, List, [], Some, Ok, length, true, false};
+ghost use Rattle.std.specs.Prelude.{◌≡◌, ◌<◌, ◌≤◌, ◌⊎◌, ℕ, Bool, List, [], Some, Ok, length, slice_get, true, false};
 ghost use Rattle.rt_base.specs.declared.numbers.Instance.{Instance};
 ghost use Rattle.rt_base.specs.declared.numbers.Moment.{Moment};
 ghost use Rattle.rt_base.specs.declared.numbers.Offset.{Offset};
 ghost use Rattle.rt_base.specs.declared.numbers.Partition.{Partition};
 ghost use Rattle.rt_base.specs.declared.numbers.Sequence.{Sequence};
 ghost use Rattle.rt_broker.specs.Asking.{Asking};
-ghost use Rattle.rt_events.specs.declared.event.Event.TheVariants.{Build, Consume};
+ghost use Rattle.rt_events.specs.declared.event.Event.TheVariants.{Build, Consume, Transit};
 ghost use Rattle.rt_events.specs.declared.outcome.Outcome.{Outcome};
 ghost use Rattle.rt_lists.specs.Members.{Has};
 ghost use Rattle.rt_macros.specs.Doing.{Reached};
@@ -37,6 +37,9 @@ ghost use Rattle.rt_state.specs.IsSafeWorld.{IsSafeWorld};
 ghost use Rattle.rt_state.specs.Queries.{IsAnswerOf};
 ghost use Rattle.rt_safety.specs.Runs.{Turn, Leads, Runs};
 ghost use Rattle.rt_state.specs.declared.state.State.{State};
+ghost use Rattle.rt_nodes.specs.declared.server_node.ServerNode.{ServerNode};
+ghost use Rattle.rt_server.specs.Calls.{targets_of};
+ghost use Rattle.rt_server.specs.Transition.{transit_due};
 ghost use Rattle.rt_stream.specs.Log.{messages_of};
 ghost use Rattle.rt_world.specs.Reading.{is_ready_at};
 ghost use Rattle.rt_world.specs.Step.{Steps};
@@ -99,6 +102,15 @@ pub fn committed_segments_are_turned_online()
 pub fn what_is_to_be_consumed_can_be()
     ensures { (setup : Setup) (turns : List Turn) (w : State) (e : IdealEntry) → IsSetup setup → Runs setup turns w
         → Has (entries_of w.store.writes) e → e.mode ≡ Consuming → IsConsumable w.store.writes e.partition e.sequence }
+{}
+
+/// A transition that was made isn't due any more: in each world of each run, where the server has seen the present ideal state and no
+/// fault of the store is planned.
+pub fn a_transition_is_made_once()
+    ensures { (setup : Setup) (turns : List Turn) (w y : State) (i : Instance) (n m : ServerNode) (p : Partition) (q : Sequence)
+        (o : Outcome) → IsSetup setup → Runs setup turns w → w.store.faults.plan ≡ [] → slice_get w.servers i.0 ≡ Some n
+        → n.server.table.targets ≡ targets_of n.server.numbers.instance (entries_of w.store.writes) → Steps w (Transit i p q) y (Ok o)
+        → slice_get y.servers i.0 ≡ Some m → transit_due m.server.table p q ≡ false }
 {}
 
 /// A replica has dropped its rows only where its segment has ended, by a commit or given up, or where its instance has nothing of it
