@@ -194,12 +194,18 @@ pub fn each_replica_can_come_to_its_target()
 /// Each round of `settle` in which anything happens and no replica asks a controller leaves less to do, whether the run is paused or
 /// not; so `settle` answers `settled` as soon as it has more rounds than there are messages and steps left, unless a replica asks. So
 /// it does in any case where no controller is up. All servers are up and have nothing to move, no fault of the store is planned, and
-/// no more messages lie past the start of a replica's segment than a segment has rows at most.
+/// each replica that is sent to a target can come to it: so it is in a run where no more messages lie past the start of a replica's
+/// segment than a segment has rows at most (`run_rounds`, `run_settles`).
 pub fn settle_ends_where_no_replica_asks()
-    ensures rounds { (setup : Setup) (turns : List Turn) (paused : Bool) (w : State) (v : Reached) → IsSetup setup
+    ensures rounds { (paused : Bool) (w : State) (v : Reached) → IsSafeWorld w → AreUp w → w.store.faults.plan ≡ [] → AreAllCalm w
+        → CanAllFollow w → Round paused w v (Ok true) → Asks w v ⊎ (left_in_world v.world < left_in_world w) }
+    ensures settles { (paused : Bool) (rounds : ℕ) (w : State) (v : Reached) (settled : Bool) → IsSafeWorld w → AreUp w
+        → w.store.faults.plan ≡ [] → AreAllCalm w → CanAllFollow w → left_in_world w < rounds
+        → Settles paused rounds w v (Ok settled) → Asks w v ⊎ (settled ≡ true) }
+    ensures run_rounds { (setup : Setup) (turns : List Turn) (paused : Bool) (w : State) (v : Reached) → IsSetup setup
         → Runs setup turns w → AreUp w → w.store.faults.plan ≡ [] → AreAllCalm w → AreAllShort w → Round paused w v (Ok true)
         → Asks w v ⊎ (left_in_world v.world < left_in_world w) }
-    ensures settles { (setup : Setup) (turns : List Turn) (paused : Bool) (rounds : ℕ) (w : State) (v : Reached) (settled : Bool)
+    ensures run_settles { (setup : Setup) (turns : List Turn) (paused : Bool) (rounds : ℕ) (w : State) (v : Reached) (settled : Bool)
         → IsSetup setup → Runs setup turns w → AreUp w → w.store.faults.plan ≡ [] → AreAllCalm w → AreAllShort w
         → left_in_world w < rounds → Settles paused rounds w v (Ok settled) → Asks w v ⊎ (settled ≡ true) }
 {}
