@@ -1,5 +1,5 @@
 -- Keys of which no two are the same.
-use Rattle.std.proofs.Common.{◌≡◌, ℕ, zero, suc, ◌+◌, ◌<◌, ◌≤◌, Bool, true, false, ◌||◌, List, [], ◌∷◌, ◌++◌, length, take, get_or, slice_get, Some, None, Option, refl, sym, ap, ◌∙◌, subst, true≢false, arith}
+use Rattle.std.proofs.Common.{◌≡◌, ℕ, zero, suc, Bool, true, false, ◌||◌, List, [], ◌∷◌, ◌++◌, take, slice_get, Some, None, Option, refl, sym, ap, ◌∙◌, subst, true≢false, arith}
 use Rattle.std.specs.Prelude.{if◌then◌else◌, is_some, unwrap_or, Result, Ok, Err, IfNone, OnErr, OnOk}
 use Rattle.std.specs.List.{AllByRecursion, Contains, IsDistinct, list_any}
 use Rattle.std.specs.Map.{lookup, keys_of}
@@ -65,6 +65,10 @@ none_weaker (Some x) P Q f p = tt
 pub on_err_always : {T E P : Type 0} (result : Result T E) → P → OnErr result P
 on_err_always (Ok x) p = tt
 on_err_always (Err e) p = p
+
+pub on_ok_weaker : {T E : Type 0} (result : Result T E) (P Q : Type 0) → (P → Q) → OnOk result P → OnOk result Q
+on_ok_weaker (Ok x) P Q f p = f p
+on_ok_weaker (Err e) P Q f p = tt
 
 -- ---- a key and the entry that it has
 

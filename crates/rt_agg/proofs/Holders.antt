@@ -1,5 +1,5 @@
 -- What holders have of a group after it is started, after one more row, and after it is merged with others.
-use Rattle.std.proofs.Common.{◌≡◌, ◌≢◌, ℕ, zero, suc, ◌<◌, ◌≤◌, List, [], ◌∷◌, ◌++◌, length, map, take, drop, get_or, Some, refl, sym, ap, ◌∙◌, subst, arith, slice_get}
+use Rattle.std.proofs.Common.{◌≡◌, ◌≢◌, ℕ, zero, suc, ◌<◌, ◌≤◌, List, [], ◌∷◌, ◌++◌, length, map, take, drop, get_or, Some, refl, sym, ap, ◌∙◌, subst, inl, inr, arith, slice_get}
 use Rattle.std.specs.Prelude.{None, slice_set, unwrap_or}
 use Rattle.std.specs.List.{AllByRecursion}
 use Rattle.std.proofs.lemmas.List.{get_or-set_same, get_or-set_other, length-set}
@@ -9,7 +9,7 @@ use Rattle.rt_schema.specs.declared.value.Value.{Value}
 use Rattle.rt_model.specs.declared.query_parts.ColumnAt.{ColumnAt}
 use Rattle.rt_agg.specs.Accumulator.{Count, Sum, Min, Max}
 use Rattle.rt_agg.specs.Accumulators.{all_merged, greatest_with, known_of, least_with, merged, with_row}
-use Rattle.rt_agg.specs.GroupTable.{all_merged_in}
+use Rattle.rt_agg.specs.GroupTable.{MayStart, StartsFront, StartsSome, all_merged_in}
 use Rattle.rt_agg.specs.ResultHolder.{HasStarted, held_of, item_of, join_at, merged_in, no_rows, put_at, started_in, with_other, with_row_in}
 use Rattle.rt_agg.specs.declared.result_holder.ResultHolder.{ResultHolder}
 use Rattle.rt_agg.specs.declared.result_holder.ResultHolder.TheVariants.{Key, Counts, Sums, Least, Greatest}
@@ -269,24 +269,55 @@ module _ (group : ℕ) where
   starts_started [] s = tt
   starts_started (h ∷ hs) s = (start_started group h s.0, starts_started hs s.1)
 
-  abbrev some_started : ℕ → List ResultHolder → List ResultHolder
-  some_started count hs = map (started_in group) (take count hs) ++ drop count hs
+  may_before : (columns : List ColumnAt) (key : List Value) (j : ℕ) (h n : ResultHolder) → j < group → HasStarted group h → MayStart group h n → held_of columns key j n ≡ held_of columns key j h
+  may_before columns key j h n lt s m = elim m [
+    | inl same ↦ ap (held_of columns key j) same
+    | inr started ↦ ap (held_of columns key j) started ∙ start_before columns key group j h s lt
+  ]
 
-  pub some_before : (count j : ℕ) → j < group → (columns : List ColumnAt) (key : List Value) (hs : List ResultHolder) → Started group hs
-      → map (held_of columns key j) (some_started count hs) ≡ map (held_of columns key j) hs
-  some_before zero j lt columns key hs s = refl
-  some_before (suc count) j lt columns key [] s = refl
-  some_before (suc count) j lt columns key (h ∷ hs) s = λ i. start_before columns key group j h s.0 lt i ∷ some_before count j lt columns key hs s.1 i
+  may_item : (h n : ResultHolder) → MayStart group h n → item_of n ≡ item_of h
+  may_item h n m = elim m [
+    | inl same ↦ ap item_of same
+    | inr started ↦ ap item_of started ∙ start_item group h
+  ]
 
-  pub some_items : (count : ℕ) (hs : List ResultHolder) → map item_of (some_started count hs) ≡ map item_of hs
-  some_items zero hs = refl
-  some_items (suc count) [] = refl
-  some_items (suc count) (h ∷ hs) = λ j. start_item group h j ∷ some_items count hs j
+  may_kept : (h n : ResultHolder) → HasStarted group h → MayStart group h n → HasStarted group n
+  may_kept h n s m = elim m [
+    | inl same ↦ subst (HasStarted group) (sym same) s
+    | inr started ↦ subst (HasStarted group) (sym started) (fewer_started (suc group) group (started_in group h) (omega arith) (start_started group h s))
+  ]
 
-  pub some_kept : (count : ℕ) (hs : List ResultHolder) → Started group hs → Started group (some_started count hs)
-  some_kept zero hs s = s
-  some_kept (suc count) [] s = tt
-  some_kept (suc count) (h ∷ hs) s = (fewer_started (suc group) group (started_in group h) (omega arith) (start_started group h s.0), some_kept count hs s.1)
+  pub some_before : (j : ℕ) → j < group → (columns : List ColumnAt) (key : List Value) (hs ns : List ResultHolder) → Started group hs → StartsSome group hs ns
+      → map (held_of columns key j) ns ≡ map (held_of columns key j) hs
+  some_before j lt columns key [] [] s m = refl
+  some_before j lt columns key [] (n ∷ ns) s m = absurd m
+  some_before j lt columns key (h ∷ hs) [] s m = absurd m
+  some_before j lt columns key (h ∷ hs) (n ∷ ns) s m = λ i. may_before columns key j h n lt s.0 m.0 i ∷ some_before j lt columns key hs ns s.1 m.1 i
+
+  pub some_items : (hs ns : List ResultHolder) → StartsSome group hs ns → map item_of ns ≡ map item_of hs
+  some_items [] [] m = refl
+  some_items [] (n ∷ ns) m = absurd m
+  some_items (h ∷ hs) [] m = absurd m
+  some_items (h ∷ hs) (n ∷ ns) m = λ j. may_item h n m.0 j ∷ some_items hs ns m.1 j
+
+  pub some_kept : (hs ns : List ResultHolder) → Started group hs → StartsSome group hs ns → Started group ns
+  some_kept [] [] s m = tt
+  some_kept [] (n ∷ ns) s m = absurd m
+  some_kept (h ∷ hs) [] s m = absurd m
+  some_kept (h ∷ hs) (n ∷ ns) s m = (may_kept h n s.0 m.0, some_kept hs ns s.1 m.1)
+
+  -- where the first have started it, some have
+  none_new : (hs : List ResultHolder) → StartsSome group hs hs
+  none_new [] = tt
+  none_new (h ∷ hs) = (inl refl, none_new hs)
+
+  front_some : (count : ℕ) (hs : List ResultHolder) → StartsSome group hs (map (started_in group) (take count hs) ++ drop count hs)
+  front_some zero hs = none_new hs
+  front_some (suc count) [] = tt
+  front_some (suc count) (h ∷ hs) = (inr refl, front_some count hs)
+
+  pub some_front : (hs ns : List ResultHolder) → StartsFront group hs ns → StartsSome group hs ns
+  some_front hs ns front = subst (StartsSome group hs) (sym front.1) (front_some front.0 hs)
 
 -- ---- a holder that hasn't started the group yet, among those that have
 
@@ -301,24 +332,12 @@ none_started (h ∷ hs) = (by h, none_started hs)
     by (Least column scalars) = omega arith
     by (Greatest column scalars) = omega arith
 
-pub later_started : (group i : ℕ) (hs : List ResultHolder) (h : ResultHolder) → Started group hs → slice_get (map (started_in group) (take i hs) ++ drop i hs) i ≡ Some h → HasStarted group h
-later_started group zero [] h s at = absurd (omega (arith, slice_get_within {A = ResultHolder} [] 0 h at))
-later_started group (suc i) [] h s at = absurd (omega (arith, slice_get_within {A = ResultHolder} [] (suc i) h at))
-later_started group zero (x ∷ hs) h s at = subst (HasStarted group) (ap (λ o. unwrap_or o h) at) s.0
-later_started group (suc i) (x ∷ hs) h s at = later_started group i hs h s.1 at
-
 pub start_step : (group i : ℕ) (hs : List ResultHolder) (h : ResultHolder) → slice_get (map (started_in group) (take i hs) ++ drop i hs) i ≡ Some h
     → slice_set (map (started_in group) (take i hs) ++ drop i hs) i (started_in group h) ≡ map (started_in group) (take (suc i) hs) ++ drop (suc i) hs
 start_step group zero [] h at = absurd (omega (arith, slice_get_within {A = ResultHolder} [] 0 h at))
 start_step group (suc i) [] h at = absurd (omega (arith, slice_get_within {A = ResultHolder} [] (suc i) h at))
 start_step group zero (x ∷ hs) h at = ap (λ o. started_in group (unwrap_or o h) ∷ hs) (sym at)
 start_step group (suc i) (x ∷ hs) h at = ap (λ t. started_in group x ∷ t) (start_step group i hs h at)
-
-pub all_started : (group i : ℕ) (hs : List ResultHolder) → length hs ≤ i → map (started_in group) (take i hs) ++ drop i hs ≡ map (started_in group) hs
-all_started group zero [] le = refl
-all_started group (suc i) [] le = refl
-all_started group zero (h ∷ hs) le = absurd (omega (arith, le))
-all_started group (suc i) (h ∷ hs) le = ap (λ t. started_in group h ∷ t) (all_started group i hs (omega (arith, le)))
 
 pub set_read : {X : Type 0} (xs : List X) (i : ℕ) (x : X) → slice_get xs i ≡ Some x → slice_set xs i x ≡ xs
 set_read {X} [] i x at = absurd (omega (arith, slice_get_within {A = X} [] i x at))

@@ -13,6 +13,7 @@ pub mod Results
 mod Showing
 mod Slots
 mod Sorting
+mod Spreading
 mod Tables
 mod Tabling
 mod Walks

@@ -55,15 +55,14 @@ module _ (columns : List ColumnAt) (hs : List ResultHolder) (ks : Keys) where
   module _ (t : IsTable hs ks) (now : List ResultHolder) where
     pub some_view : StartsSome (length ks) hs now → table_of columns now ks ≡ table_of columns hs ks
     some_view some =
-        subst (λ l. table_of columns l ks ≡ table_of columns hs ks) (sym some.1)
-        (λ j. record {
+        λ j. record {
           columns = columns;
-          items = some_items (length ks) some.0 hs j;
-          entries = entries_same columns hs _ 0 ks (λ i le lt key. some_before (length ks) some.0 i (omega (arith, lt)) columns key hs t.started) j;
-        })
+          items = some_items (length ks) hs now some j;
+          entries = entries_same columns hs now 0 ks (λ i le lt key. some_before (length ks) i (omega (arith, lt)) columns key hs now t.started some) j;
+        }
 
     pub some_table : StartsSome (length ks) hs now → IsTable now ks
-    some_table some = subst (λ l. IsTable l ks) (sym some.1) (record { apart = t.apart; started = some_kept (length ks) some.0 hs t.started })
+    some_table some = record { apart = t.apart; started = some_kept (length ks) hs now t.started some }
 
     module _ (some : StartsSome (length ks) hs now) (all : now ≡ map (started_in (length ks)) hs) (k : List Value) where
       pub more_entries : entries_from columns now 0 (ks ++ k ∷ []) ≡ entries_from columns hs 0 ks ++ (k, map (known_of columns k []) (map item_of hs)) ∷ []

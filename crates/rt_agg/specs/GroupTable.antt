@@ -1,5 +1,5 @@
 -- Groups by their numbers.
-use Rattle.std.specs.Prelude.{◌≡◌, ℕ, suc, List, [], ◌∷◌, ◌++◌, length, map, take, drop}
+use Rattle.std.specs.Prelude.{◌≡◌, ◌⊎◌, ℕ, suc, List, [], ◌∷◌, ◌++◌, length, map, take, drop}
 use Rattle.std.specs.List.{AllByRecursion, IsDistinct}
 use Rattle.rt_schema.specs.declared.value.Value.{Value}
 use Rattle.rt_model.specs.declared.query_parts.ColumnAt.{ColumnAt}
@@ -26,9 +26,19 @@ pub record IsTable (holders : List ResultHolder) (keys : List (List Value)) : Ty
   pub apart : IsDistinct same_key keys
   pub started : AllByRecursion (HasStarted (length keys)) holders
 
--- some of the first holders have started a group
+-- the first holders have started a group, so many
+abbrev pub StartsFront : ℕ → List ResultHolder → List ResultHolder → Type 0
+StartsFront group old new = (count : ℕ) × (new ≡ map (started_in group) (take count old) ++ drop count old)
+
+-- some holders have started a group
+abbrev pub MayStart : ℕ → ResultHolder → ResultHolder → Type 0
+MayStart group old new = (new ≡ old) ⊎ (new ≡ started_in group old)
+
 abbrev pub StartsSome : ℕ → List ResultHolder → List ResultHolder → Type 0
-StartsSome group old new = (count : ℕ) × (new ≡ map (started_in group) (take count old) ++ drop count old)
+StartsSome group [] [] = Unit {0}
+StartsSome group [] (n ∷ ns) = ⊥
+StartsSome group (o ∷ os) [] = ⊥
+StartsSome group (o ∷ os) (n ∷ ns) = MayStart group o n × StartsSome group os ns
 
 -- each holder after the rows of a group of the others were taken into a group
 abbrev pub all_merged_in : ℕ → ℕ → List ResultHolder → List ResultHolder → List ResultHolder

@@ -7,5 +7,6 @@ pub mod Merging
 pub mod Ranking
 pub mod Reading
 pub mod ResultHolder
+pub mod Sharing
 pub mod Summed
 pub mod Totals

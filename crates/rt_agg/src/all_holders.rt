@@ -1,61 +1,19 @@
-//! All holders of a table.
-ghost use Rattle.std.specs.Prelude.{◌≡◌, ◌++◌, map, IfOk, OnOk};
+//! Steps of all holders of a list.
+ghost use Rattle.std.specs.Prelude.{◌≡◌, map, OnOk};
 ghost use Rattle.std.specs.List.{AllByRecursion};
-ghost use Rattle.rt_agg.specs.Accumulators.{ordering_items};
-ghost use Rattle.rt_agg.specs.ResultHolder.{HasStarted, item_of, started_in, with_row_in};
-ghost use Rattle.rt_agg.specs.GroupTable.{StartsSome, all_merged_in};
+ghost use Rattle.rt_agg.specs.ResultHolder.{HasStarted, started_in, with_row_in};
+ghost use Rattle.rt_agg.specs.GroupTable.{StartsFront, all_merged_in};
 
 use crate::ReadRow;
 use crate::result_holder::ResultHolder;
 use rt_lists::Items;
-use rt_model::{Item, OrderKey};
-use std::alloc::{AllocError, Global};
+use std::alloc::AllocError;
 
-/// Holders for items and then for the keys of ORDER BY, which hold no group yet.
-pub(crate) fn make_all(
-    alloc: Global,
-    items: &[Item],
-    order: &[OrderKey],
-) -> Result<Items<ResultHolder>, AllocError>
-    ensures { IfOk result (λ all. map item_of all ≡ items.now ++ ordering_items order.now) }
-{
-    let mut all = Items::new(alloc);
-    make_items(alloc, items, &mut all)?;
-    make_order(alloc, order, &mut all)?;
-    Ok(all)
-}
-
-fn make_items(
-    alloc: Global,
-    items: &[Item],
-    all: &mut Items<ResultHolder>,
-) -> Result<(), AllocError>
-    ensures { OnOk result (map item_of all.new ≡ map item_of all.old ++ items.now) }
-{
-    for item in items {
-        all.push(ResultHolder::make(alloc, item)?)?;
-    }
-    Ok(())
-}
-
-fn make_order(
-    alloc: Global,
-    order: &[OrderKey],
-    all: &mut Items<ResultHolder>,
-) -> Result<(), AllocError>
-    ensures { OnOk result (map item_of all.new ≡ map item_of all.old ++ ordering_items order.now) }
-{
-    for key in order {
-        all.push(ResultHolder::make(alloc, &key.item)?)?;
-    }
-    Ok(())
-}
-
-/// Starts a group in each holder. Where memory runs out, some have started it.
+/// Starts a group in each holder. Where memory runs out, the first have started it.
 pub(crate) fn start_all(holders: &mut Items<ResultHolder>, group: usize) -> Result<(), AllocError>
     requires { AllByRecursion (HasStarted group) holders.old }
     ensures started { OnOk result (holders.new ≡ map (started_in group) holders.old) }
-    ensures some { StartsSome group holders.old holders.new }
+    ensures some { StartsFront group holders.old holders.new }
 {
     for i in 0..holders.len() {
         holders.at_mut(i).start(group)?;

@@ -1,10 +1,11 @@
-//! What holders show of groups, and how groups stand by it.
-ghost use Rattle.std.specs.Prelude.{◌≡◌, drop, map, slice_index_or, take, IfOk};
+//! What holders at places show of groups, and how groups stand by it.
+ghost use Rattle.std.specs.Prelude.{◌≡◌, ◌<◌, All, drop, length, slice_index_or, take, IfOk};
 ghost use Rattle.std.specs.Ordering.{ordering_then};
 ghost use Rattle.rt_model.specs.Aggregate.{directed_cmp, order_cmp};
 ghost use Rattle.rt_model.specs.declared.answer.Cell.TheVariants.{Null};
 ghost use Rattle.rt_model.specs.Values.{key_cmp};
 ghost use Rattle.rt_agg.specs.ResultHolder.{cell_held};
+ghost use Rattle.rt_agg.specs.Sharing.{cells_at};
 
 use crate::compare::compare_keys;
 use crate::group_ref::GroupRef;
@@ -14,23 +15,23 @@ use rt_model::{Cell, ColumnAt, OrderKey};
 use std::alloc::{AllocError, Global};
 use std::cmp::Ordering;
 
-/// The holders before a place: those of the items that are shown.
-pub(crate) fn before(holders: &[ResultHolder], width: usize) -> &[ResultHolder]
-    ensures { result.now ≡ take width holders.now }
+/// The first places, so many: those of the items that are shown.
+pub(crate) fn before(places: &[usize], width: usize) -> &[usize]
+    ensures { result.now ≡ take width places.now }
 {
-    if width <= holders.len() {
-        &holders[..width]
+    if width <= places.len() {
+        &places[..width]
     } else {
-        holders
+        places
     }
 }
 
-/// The holders from a place on: those of the keys of ORDER BY.
-pub(crate) fn behind(holders: &[ResultHolder], width: usize) -> &[ResultHolder]
-    ensures { result.now ≡ drop width holders.now }
+/// The places behind so many: those of the keys of ORDER BY.
+pub(crate) fn behind(places: &[usize], width: usize) -> &[usize]
+    ensures { result.now ≡ drop width places.now }
 {
-    if width <= holders.len() {
-        &holders[width..]
+    if width <= places.len() {
+        &places[width..]
     } else {
         &[]
     }
@@ -40,14 +41,16 @@ pub(crate) fn behind(holders: &[ResultHolder], width: usize) -> &[ResultHolder]
 pub(crate) fn cells_of(
     alloc: Global,
     columns: &[ColumnAt],
-    holders: &[ResultHolder],
+    held: &[ResultHolder],
+    places: &[usize],
     group: &GroupRef<'_>,
 ) -> Result<Items<Cell>, AllocError>
-    ensures { IfOk result (λ cells. cells ≡ map (cell_held columns.now group.now.key.now group.now.number) holders.now) }
+    requires { All (λ p. p < length held.now) places.now }
+    ensures { IfOk result (λ cells. cells ≡ cells_at columns.now group.now.key.now group.now.number held.now places.now) }
 {
-    let mut cells = Vec::with_capacity(alloc, holders.len())?;
-    for holder in holders {
-        cells.push(holder.cell(alloc, columns, group)?)?;
+    let mut cells = Vec::with_capacity(alloc, places.len())?;
+    for place in places {
+        cells.push(held[*place].cell(alloc, columns, group)?)?;
     }
     Ok(Items::of(cells))
 }
@@ -56,13 +59,15 @@ pub(crate) fn cells_of(
 pub(crate) fn compare_groups(
     order: &[OrderKey],
     columns: &[ColumnAt],
-    holders: &[ResultHolder],
+    held: &[ResultHolder],
+    places: &[usize],
     one: &GroupRef<'_>,
     other: &GroupRef<'_>,
 ) -> Ordering
-    ensures { result ≡ ordering_then (order_cmp order.now (map (cell_held columns.now one.now.key.now one.now.number) holders.now) (map (cell_held columns.now other.now.key.now other.now.number) holders.now)) (key_cmp one.now.key.now other.now.key.now) }
+    requires { All (λ p. p < length held.now) places.now }
+    ensures { result ≡ ordering_then (order_cmp order.now (cells_at columns.now one.now.key.now one.now.number held.now places.now) (cells_at columns.now other.now.key.now other.now.number held.now places.now)) (key_cmp one.now.key.now other.now.key.now) }
 {
-    match compare_orders(order, columns, holders, one, other) {
+    match compare_orders(order, columns, held, places, one, other) {
         Ordering::Equal => compare_keys(one.key, other.key),
         unequal => unequal,
     }
@@ -72,14 +77,16 @@ pub(crate) fn compare_groups(
 fn compare_orders(
     order: &[OrderKey],
     columns: &[ColumnAt],
-    holders: &[ResultHolder],
+    held: &[ResultHolder],
+    places: &[usize],
     one: &GroupRef<'_>,
     other: &GroupRef<'_>,
 ) -> Ordering
-    ensures { result ≡ order_cmp order.now (map (cell_held columns.now one.now.key.now one.now.number) holders.now) (map (cell_held columns.now other.now.key.now other.now.number) holders.now) }
+    requires { All (λ p. p < length held.now) places.now }
+    ensures { result ≡ order_cmp order.now (cells_at columns.now one.now.key.now one.now.number held.now places.now) (cells_at columns.now other.now.key.now other.now.number held.now places.now) }
 {
     for (i, key) in order.iter().enumerate() {
-        match compare_at(key.descending, columns, holders, i, one, other) {
+        match compare_at(key.descending, columns, held, places, i, one, other) {
             Ordering::Equal => (),
             unequal => return unequal,
         }
@@ -90,16 +97,20 @@ fn compare_orders(
 fn compare_at(
     descending: bool,
     columns: &[ColumnAt],
-    holders: &[ResultHolder],
+    held: &[ResultHolder],
+    places: &[usize],
     i: usize,
     one: &GroupRef<'_>,
     other: &GroupRef<'_>,
 ) -> Ordering
-    ensures { result ≡ directed_cmp descending (slice_index_or (map (cell_held columns.now one.now.key.now one.now.number) holders.now) i Null) (slice_index_or (map (cell_held columns.now other.now.key.now other.now.number) holders.now) i Null) }
+    requires { All (λ p. p < length held.now) places.now }
+    ensures { result ≡ directed_cmp descending (slice_index_or (cells_at columns.now one.now.key.now one.now.number held.now places.now) i Null) (slice_index_or (cells_at columns.now other.now.key.now other.now.number held.now places.now) i Null) }
 {
-    match holders.get(i) {
-        None => Ordering::Equal,
-        Some(holder) => compare_directed(descending, columns, holder, one, other),
+    if i < places.len() {
+        let holder = &held[places[i]];
+        compare_directed(descending, columns, holder, one, other)
+    } else {
+        Ordering::Equal
     }
 }
 

@@ -10,12 +10,10 @@ ghost use Rattle.rt_agg.specs.Ranking.{ranked_at, shown};
 ghost use Rattle.rt_model.specs.Aggregate.{result_cmp};
 
 use crate::ReadRow;
-use crate::all_holders::{add_to_all, make_all, merge_all, start_all};
-use crate::group_cells::{before, behind, cells_of, compare_groups};
 use crate::group_keys::GroupKeys;
 use crate::group_ref::GroupRef;
 use crate::result::Ranked;
-use crate::result_holder::ResultHolder;
+use crate::shared_holders::SharedHolders;
 use rt_lists::{Copied, Items};
 use rt_model::{ColumnAt, Item, OrderKey, ResultRow};
 use rt_schema::Value;
@@ -29,7 +27,7 @@ use std::marker::Model;
 pub(crate) struct GroupTable {
     columns: Items<ColumnAt>,
     keys: GroupKeys,
-    holders: Items<ResultHolder>,
+    holders: SharedHolders,
 }
 
 impl Model for GroupTable {
@@ -57,7 +55,7 @@ impl GroupTable {
         ensures none { IfOk result (λ t. t.entries ≡ []) }
     {
         let columns = columns.copied(alloc)?;
-        let holders = make_all(alloc, items, order)?;
+        let holders = SharedHolders::make(alloc, items, order)?;
         Ok(GroupTable {
             columns,
             keys: GroupKeys::new(alloc),
@@ -114,7 +112,7 @@ impl GroupTable {
         ensures err { OnErr result (self.new ≡ self.old) }
     {
         let next = self.keys.len();
-        start_all(&mut self.holders, next)?;
+        self.holders.start(next)?;
         self.keys.push(key)?;
         Ok(next)
     }
@@ -127,17 +125,17 @@ impl GroupTable {
         ensures same { IsOfSame self.old self.new }
         ensures apart { IsDistinct same_key (keys_of self.new.entries) }
     {
-        add_to_all(&mut self.holders, group, row);
+        self.holders.add(group, row);
     }
 
-    /// Takes all rows of a group of another table into a group. It takes no memory.
+    /// Takes all rows of a group of another table for the same items into a group. It takes no memory.
     pub(crate) fn merge(&mut self, group: usize, other: &GroupTable, from: usize)
-        ensures known { (k : List AnyValue) (known : List Accumulator) → slice_get self.old.entries group ≡ Some (k, known) → (o : List AnyValue) (others : List Accumulator) → slice_get other.now.entries from ≡ Some (o, others) → (q : List AnyValue) → lookup (same_key q) self.new.entries ≡ cond (same_key k q) (Some (all_merged known others)) (lookup (same_key q) self.old.entries) }
+        ensures known { self.old.items ≡ other.now.items → (k : List AnyValue) (known : List Accumulator) → slice_get self.old.entries group ≡ Some (k, known) → (o : List AnyValue) (others : List Accumulator) → slice_get other.now.entries from ≡ Some (o, others) → (q : List AnyValue) → lookup (same_key q) self.new.entries ≡ cond (same_key k q) (Some (all_merged known others)) (lookup (same_key q) self.old.entries) }
         ensures keys { keys_of self.new.entries ≡ keys_of self.old.entries }
         ensures same { IsOfSame self.old self.new }
         ensures apart { IsDistinct same_key (keys_of self.new.entries) }
     {
-        merge_all(&mut self.holders, group, &other.holders, from);
+        self.holders.merge(group, &other.holders, from);
     }
 
     /// How two groups stand by ORDER BY, and where that ties by their keys. The items are so many that are shown, and then
@@ -153,15 +151,11 @@ impl GroupTable {
         requires other { other < length self.now.entries }
         ensures { result ≡ result_cmp order.now (ranked_at width self.now.entries one) (ranked_at width self.now.entries other) }
     {
-        let holders = behind(self.holders.as_slice(), width);
         let columns = self.columns.as_slice();
-        compare_groups(
-            order,
-            columns,
-            holders,
-            &self.group(one),
-            &self.group(other),
-        )
+        let one = self.group(one);
+        let other = self.group(other);
+        self.holders
+            .compare_behind(order, columns, width, &one, &other)
     }
 
     /// The result row of a group, of so many items.
@@ -174,8 +168,9 @@ impl GroupTable {
         requires { group < length self.now.entries }
         ensures { IfOk result (λ row. row ≡ (ranked_at width self.now.entries group).row) }
     {
-        let holders = before(self.holders.as_slice(), width);
-        let cells = cells_of(alloc, self.columns.as_slice(), holders, &self.group(group))?;
+        let columns = self.columns.as_slice();
+        let group = self.group(group);
+        let cells = self.holders.cells_before(alloc, columns, width, &group)?;
         Ok(ResultRow { cells })
     }
 
@@ -189,9 +184,11 @@ impl GroupTable {
         requires { group < length self.now.entries }
         ensures { IfOk result (λ r. shown r ≡ ranked_at width self.now.entries group) }
     {
-        let holders = behind(self.holders.as_slice(), width);
+        let columns = self.columns.as_slice();
         let key = self.key(group).copied(alloc)?;
-        let order = cells_of(alloc, self.columns.as_slice(), holders, &self.group(group))?;
+        let order = self
+            .holders
+            .cells_behind(alloc, columns, width, &self.group(group))?;
         let row = self.row(alloc, width, group)?;
         Ok(Ranked { key, order, row })
     }

@@ -25,6 +25,8 @@ mod result;
 mod result_holder;
 mod scalar;
 mod served;
+mod shared_holders;
+mod sharing;
 mod total;
 mod totalling;
 

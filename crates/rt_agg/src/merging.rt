@@ -50,10 +50,10 @@ pub(crate) fn start_missing(
     Ok(places)
 }
 
-/// Takes what is known of each group into the group with its key, which is at its place.
+/// Takes what is known of each group of a table for the same items into the group with its key, which is at its place.
 pub(crate) fn merge_each(table: &mut GroupTable, others: &GroupTable, places: &[usize])
     requires { AreAt (keys_of table.old.entries) places.now (keys_of others.now.entries) }
-    ensures known { (q : List AnyValue) → lookup (same_key q) table.new.entries ≡ merged_at (lookup (same_key q) table.old.entries) (lookup (same_key q) others.now.entries) }
+    ensures known { table.old.items ≡ others.now.items → (q : List AnyValue) → lookup (same_key q) table.new.entries ≡ merged_at (lookup (same_key q) table.old.entries) (lookup (same_key q) others.now.entries) }
     ensures keys { keys_of table.new.entries ≡ keys_of table.old.entries }
     ensures same { IsOfSame table.old table.new }
     ensures apart { IsDistinct same_key (keys_of table.new.entries) }

@@ -3,7 +3,6 @@ use Rattle.std.specs.List.{IsDistinct}
 use Rattle.std.specs.Map.{keys_of}
 use Rattle.rt_agg.specs.Grouped.{same_key}
 use Rattle.rt_agg.proofs.Apart.{Entries, none_apart}
-use Rattle.rt_agg.proofs.Holding.{first_some}
 use Rattle.rt_agg.proofs.groups.first_table.Goals as goal
 
 pub returns-else-is_empty-clause-apart : goal.returns-else-is_empty-clause-apart

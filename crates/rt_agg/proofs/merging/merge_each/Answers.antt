@@ -12,7 +12,7 @@ use Rattle.rt_agg.proofs.merging.merge_each.Goals as goal
 
 pub loop-i-init : goal.loop-i-init
 loop-i-init c = record {
-  known = λ q. merged_first (lookup (same_key q) c.args.table.now.entries);
+  known = λ alike q. merged_first (lookup (same_key q) c.args.table.now.entries);
   keys = refl;
   long = places_long (keys_of c.args.table.now.entries) c.args.places.now (keys_of c.args.others.now.entries) c.requires ∙ keys_long c.args.others.now.entries;
   same = (refl, refl);
@@ -36,8 +36,8 @@ loop-i-preserved c =
     let held = entry_of_key entries place key here in
     let apart = subst (IsDistinct same_key) c.merge.ensures.keys c.merge.ensures.apart in
     record {
-      known = λ q. merged_step q others i key known _ _ _ c.len-i-end.ensures.apart at wanted (c.loop-i.invariant.known q)
-          (merged_found entries q key held.0 known _ (known_of_entry entries place key held.0 apart held.1) (c.merge.ensures.known key held.0 held.1 key known at q));
+      known = λ alike q. merged_step q others i key known _ _ _ c.len-i-end.ensures.apart at wanted (c.loop-i.invariant.known alike q)
+          (merged_found entries q key held.0 known _ (known_of_entry entries place key held.0 apart held.1) (c.merge.ensures.known (c.loop-i.invariant.same.1 ∙ alike) key held.0 held.1 key known at q));
       keys = c.merge.ensures.keys ∙ c.loop-i.invariant.keys;
       long = c.loop-i.invariant.long;
       same = (c.merge.ensures.same.0 ∙ c.loop-i.invariant.same.0, c.merge.ensures.same.1 ∙ c.loop-i.invariant.same.1);

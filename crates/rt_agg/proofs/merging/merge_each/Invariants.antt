@@ -8,7 +8,7 @@ use Rattle.rt_agg.proofs.merging.merge_each.Given as goal
 
 abbrev pub invariant-loop-i : goal.invariant-loop-i
 invariant-loop-i l = record {
-  known : (q : List Value) → lookup (same_key q) l.table.entries ≡ merged_at (lookup (same_key q) l.initial.table.entries) (lookup (same_key q) (take l.i l.others.entries));
+  known : l.initial.table.items ≡ l.others.items → (q : List Value) → lookup (same_key q) l.table.entries ≡ merged_at (lookup (same_key q) l.initial.table.entries) (lookup (same_key q) (take l.i l.others.entries));
   keys : keys_of l.table.entries ≡ keys_of l.initial.table.entries;
   long : length l.places ≡ length l.others.entries;
   same : IsOfSame l.initial.table l.table;

@@ -1,9 +1,9 @@
-use Rattle.std.proofs.Common.{◌≡◌, ◌++◌, ◌∷◌, [], None, ◌∙◌, ap, map, Some, slice_get}
+use Rattle.std.proofs.Common.{◌++◌, ◌∷◌, [], ◌∙◌, ap, map, Some, slice_get}
 use Rattle.std.specs.Map.{keys_of, lookup}
 use Rattle.rt_agg.specs.Accumulators.{known_of}
 use Rattle.rt_agg.specs.Grouped.{same_key}
 use Rattle.rt_agg.proofs.Holding.{entry_of_key, key_last, known_of_entry}
-use Rattle.rt_agg.proofs.Merges.{front_kept, started_found, started_new}
+use Rattle.rt_agg.proofs.Merges.{started_found, started_new}
 use Rattle.rt_agg.proofs.merging.start_one.Goals as goal
 
 pub returns-in-Some-clause-known : goal.returns-in-Some-clause-known

@@ -1,4 +1,4 @@
-use Rattle.std.proofs.Common.{◌≡◌, List, false, ap, subst, sym}
+use Rattle.std.proofs.Common.{◌≡◌, List, false, subst, sym}
 use Rattle.std.specs.List.{list_any}
 use Rattle.rt_schema.specs.declared.value.Value.{Value}
 use Rattle.rt_agg.specs.Grouped.{same_key}

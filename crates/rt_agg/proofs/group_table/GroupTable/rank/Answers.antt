@@ -10,7 +10,6 @@ returns c =
     let key = c.group.result.key.now in
     let given = ranked_by held.columns c.args.width c.args.group key held.holders held.keys c.args.self.now c.self.view_is c.group.ensures.key in
     let copy : c.in_ok-key.key ≡ key = c.in_ok-key.ensures ∙ ap (λ o. unwrap_or o key) (sym c.key.ensures ∙ c.group.ensures.key) in
-    let holders = c.behind-holders.ensures ∙ ap (drop c.args.width) c.as_slice.ensures in
-    let order = c.in_ok-order.ensures ∙ (λ j. map (cell_held (c.as_slice-2.ensures j) key (c.group.ensures.number j)) (holders j)) in
+    let order = c.in_ok-order.ensures ∙ (λ j. map (cell_held (c.as_slice-columns.ensures j) key (c.group.ensures.number j)) (drop c.args.width held.holders)) in
     let row = c.in_ok-row.ensures ∙ ap (λ r. r.row) given in
     (λ j. record { key = copy j; order = order j; row = row j }) ∙ sym given

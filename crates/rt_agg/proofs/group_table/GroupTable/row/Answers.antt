@@ -6,8 +6,7 @@ use Rattle.rt_agg.proofs.group_table.GroupTable.row.Goals as goal
 pub returns : goal.returns
 returns c =
     let held = c.self.inside in
-    let key = c.group.result.key.now in
-    let given = ranked_by held.columns c.args.width c.args.group key held.holders held.keys c.args.self.now c.self.view_is c.group.ensures.key in
-    let holders = c.before-holders.ensures ∙ ap (take c.args.width) c.as_slice.ensures in
-    let cells = c.in_ok-cells.ensures ∙ (λ j. map (cell_held (c.as_slice-2.ensures j) key (c.group.ensures.number j)) (holders j)) in
+    let key = c.group-group.result.key.now in
+    let given = ranked_by held.columns c.args.width c.args.group key held.holders held.keys c.args.self.now c.self.view_is c.group-group.ensures.key in
+    let cells = c.in_ok-cells.ensures ∙ (λ j. map (cell_held (c.as_slice-columns.ensures j) key (c.group-group.ensures.number j)) (take c.args.width held.holders)) in
     (λ j. record { cells = cells j }) ∙ sym (ap (λ r. r.row) given)

@@ -1,6 +1,6 @@
-use Rattle.std.proofs.Common.{◌≡◌, ◌∷◌, ◌∙◌, ◌++◌, [], List, Some, None, false, ap, length, map, sym, subst}
+use Rattle.std.proofs.Common.{◌≡◌, ◌∷◌, ◌∙◌, ◌++◌, [], List, false, ap, length, map, sym, subst}
 use Rattle.std.specs.List.{IsDistinct, list_any}
-use Rattle.std.specs.Map.{keys_of, lookup}
+use Rattle.std.specs.Map.{lookup}
 use Rattle.rt_schema.specs.declared.value.Value.{Value}
 use Rattle.rt_agg.specs.Accumulators.{known_of}
 use Rattle.rt_agg.specs.Grouped.{same_key}
@@ -21,40 +21,40 @@ push-requires c =
 pub invariant_of-self : goal.invariant_of-self
 invariant_of-self c =
     let held = c.self.inside in
-    some_table held.columns held.holders held.keys c.self.invariant c.start_all.new.holders
-    (subst (λ n. StartsSome n held.holders c.start_all.new.holders) c.len-next.ensures.len c.start_all.ensures.some)
+    some_table held.columns held.holders held.keys c.self.invariant c.start.new.self
+    (subst (λ n. StartsSome n held.holders c.start.new.self) c.len-next.ensures.len c.start.ensures.some)
 
-pub returns-in_err-start_all-clause-err : goal.returns-in_err-start_all-clause-err
-returns-in_err-start_all-clause-err c =
+pub returns-in_err-start-clause-err : goal.returns-in_err-start-clause-err
+returns-in_err-start-clause-err c =
     let held = c.self.inside in
     on_err_always _
-    (some_view held.columns held.holders held.keys c.self.invariant c.start_all.new.holders
-    (subst (λ n. StartsSome n held.holders c.start_all.new.holders) c.len-next.ensures.len c.start_all.ensures.some)
+    (some_view held.columns held.holders held.keys c.self.invariant c.start.new.self
+    (subst (λ n. StartsSome n held.holders c.start.new.self) c.len-next.ensures.len c.start.ensures.some)
     ∙ c.self.view_is)
 
 pub invariant_of-self-in_err-push : goal.invariant_of-self-in_err-push
 invariant_of-self-in_err-push c =
     let held = c.self.inside in
-    subst (λ (ks : List (List Value)). IsTable c.start_all.new.holders ks) (sym c.in_err-push.ensures.err)
-    (some_table held.columns held.holders held.keys c.self.invariant c.start_all.new.holders
-    (subst (λ n. StartsSome n held.holders c.start_all.new.holders) c.len-next.ensures.len c.start_all.ensures.some))
+    subst (λ (ks : List (List Value)). IsTable c.start.new.self ks) (sym c.in_err-push.ensures.err)
+    (some_table held.columns held.holders held.keys c.self.invariant c.start.new.self
+    (subst (λ n. StartsSome n held.holders c.start.new.self) c.len-next.ensures.len c.start.ensures.some))
 
 pub returns-in_err-push-clause-err : goal.returns-in_err-push-clause-err
 returns-in_err-push-clause-err c =
     let held = c.self.inside in
     on_err_always _
-    (ap (table_of held.columns c.start_all.new.holders) c.in_err-push.ensures.err
-    ∙ some_view held.columns held.holders held.keys c.self.invariant c.start_all.new.holders
-    (subst (λ n. StartsSome n held.holders c.start_all.new.holders) c.len-next.ensures.len c.start_all.ensures.some)
+    (ap (table_of held.columns c.start.new.self) c.in_err-push.ensures.err
+    ∙ some_view held.columns held.holders held.keys c.self.invariant c.start.new.self
+    (subst (λ n. StartsSome n held.holders c.start.new.self) c.len-next.ensures.len c.start.ensures.some)
     ∙ c.self.view_is)
 
 pub invariant_of-self-2 : goal.invariant_of-self-2
 invariant_of-self-2 c =
     let held = c.self.inside in
-    subst (λ (ks : List (List Value)). IsTable c.start_all.new.holders ks) (sym c.in_ok-push.ensures.keys)
-    (more_table held.columns held.holders held.keys c.self.invariant c.start_all.new.holders
-    (subst (λ n. StartsSome n held.holders c.start_all.new.holders) c.len-next.ensures.len c.start_all.ensures.some)
-    (subst (λ n. c.start_all.new.holders ≡ map (started_in n) held.holders) c.len-next.ensures.len c.in_ok-start_all.ensures.started)
+    subst (λ (ks : List (List Value)). IsTable c.start.new.self ks) (sym c.in_ok-push.ensures.keys)
+    (more_table held.columns held.holders held.keys c.self.invariant c.start.new.self
+    (subst (λ n. StartsSome n held.holders c.start.new.self) c.len-next.ensures.len c.start.ensures.some)
+    (subst (λ n. c.start.new.self ≡ map (started_in n) held.holders) c.len-next.ensures.len c.in_ok-start.ensures.started)
     c.args.key (subst (IsDistinct same_key) c.in_ok-push.ensures.keys c.push.ensures.apart))
 
 pub returns-clause-group : goal.returns-clause-group
@@ -65,22 +65,22 @@ returns-clause-group c =
 pub returns-clause-entries : goal.returns-clause-entries
 returns-clause-entries c =
     let held = c.self.inside in
-    ap (entries_from held.columns c.start_all.new.holders 0) c.in_ok-push.ensures.keys
-    ∙ more_entries held.columns held.holders held.keys c.self.invariant c.start_all.new.holders
-    (subst (λ n. StartsSome n held.holders c.start_all.new.holders) c.len-next.ensures.len c.start_all.ensures.some)
-    (subst (λ n. c.start_all.new.holders ≡ map (started_in n) held.holders) c.len-next.ensures.len c.in_ok-start_all.ensures.started)
+    ap (entries_from held.columns c.start.new.self 0) c.in_ok-push.ensures.keys
+    ∙ more_entries held.columns held.holders held.keys c.self.invariant c.start.new.self
+    (subst (λ n. StartsSome n held.holders c.start.new.self) c.len-next.ensures.len c.start.ensures.some)
+    (subst (λ n. c.start.new.self ≡ map (started_in n) held.holders) c.len-next.ensures.len c.in_ok-start.ensures.started)
     c.args.key
     ∙ ap (λ (s : Tabled). s.entries ++ (c.args.key, map (known_of s.columns c.args.key []) s.items) ∷ []) c.self.view_is
 
 pub returns-clause-same : goal.returns-clause-same
 returns-clause-same c =
     let held = c.self.inside in
-    let view = some_view held.columns held.holders held.keys c.self.invariant c.start_all.new.holders
-    (subst (λ n. StartsSome n held.holders c.start_all.new.holders) c.len-next.ensures.len c.start_all.ensures.some) in (
+    let view = some_view held.columns held.holders held.keys c.self.invariant c.start.new.self
+    (subst (λ n. StartsSome n held.holders c.start.new.self) c.len-next.ensures.len c.start.ensures.some) in (
       ap (λ (s : Tabled). s.columns) c.self.view_is,
       ap (λ (s : Tabled). s.items) view ∙ ap (λ (s : Tabled). s.items) c.self.view_is,
     )
 
 pub returns-clause-apart : goal.returns-clause-apart
 returns-clause-apart c =
-    subst (IsDistinct same_key) (sym (keys_are c.self.inside.columns c.start_all.new.holders 0 c.push.new.self)) c.push.ensures.apart
+    subst (IsDistinct same_key) (sym (keys_are c.self.inside.columns c.start.new.self 0 c.push.new.self)) c.push.ensures.apart

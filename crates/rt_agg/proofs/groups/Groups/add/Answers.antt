@@ -1,7 +1,6 @@
 use Rattle.std.proofs.Common.{◌≡◌, List, Some, ap, refl, sym, ◌∙◌, subst, slice_get}
-use Rattle.std.specs.List.{IsDistinct}
 use Rattle.rt_schema.specs.declared.value.Value.{Value}
-use Rattle.rt_agg.specs.Grouped.{Grouped, AddsUnder, keys_in_order, same_key}
+use Rattle.rt_agg.specs.Grouped.{Grouped, AddsUnder, keys_in_order}
 use Rattle.rt_agg.specs.GroupTable.{Tabled}
 use Rattle.rt_agg.proofs.Apart.{absent, stays_before}
 use Rattle.rt_agg.proofs.Holding.{adds_known, entry_of_key, known_of_entry}

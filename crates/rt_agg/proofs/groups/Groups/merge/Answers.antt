@@ -1,7 +1,7 @@
-use Rattle.std.proofs.Common.{[], ap, map, refl, ◌∙◌, subst}
+use Rattle.std.proofs.Common.{◌≡◌, ◌++◌, [], ap, map, refl, sym, ◌∙◌, subst}
 use Rattle.std.specs.Prelude.{is_some}
 use Rattle.std.specs.Map.{lookup}
-use Rattle.rt_agg.specs.Accumulators.{known_of}
+use Rattle.rt_agg.specs.Accumulators.{known_of, ordering_items}
 use Rattle.rt_agg.specs.Grouped.{Grouped, Merges, same_key}
 use Rattle.rt_agg.specs.GroupTable.{Tabled}
 use Rattle.rt_agg.specs.Merging.{merged_at, started_at}
@@ -18,8 +18,13 @@ returns-in-Ok-clause-merges c =
     let other : Grouped = record { columns = others.columns; items = c.other.inside.items; order = c.other.inside.order; limit = c.other.inside.limit; groups = others.entries } in
     subst (λ s. Merges s c.args.other.now new) (ap of c.index.ensures ∙ c.self.view_is)
     (subst (λ o. Merges old o new) c.other.view_is
-    (merges_from old other new (c.merge_each.ensures.same.0 ∙ c.start_missing.ensures.same.0) refl refl refl c.merge_each.ensures.apart
-    (λ q. c.merge_each.ensures.known q
+    (λ query rows more held beside few.
+    let items : table.items ≡ query.items ++ ordering_items query.order =
+    ap (λ (t : Tabled). t.items) c.index.ensures ∙ c.self.invariant ∙ (λ j. held.items j ++ ordering_items (held.order j)) in
+    let alike = c.start_missing.ensures.same.1 ∙ items ∙ sym (c.other.invariant ∙ (λ j. beside.items j ++ ordering_items (beside.order j))) in
+    merges_from old other new (c.merge_each.ensures.same.0 ∙ c.start_missing.ensures.same.0) refl refl refl c.merge_each.ensures.apart
+    (λ q. c.merge_each.ensures.known alike q
     ∙ ap (λ a. merged_at a (lookup (same_key q) others.entries))
     (c.in-Ok.ensures.known q
-    ∙ (λ j. started_at (map (known_of table.columns q []) ((ap (λ (t : Tabled). t.items) c.index.ensures ∙ c.self.invariant) j)) (lookup (same_key q) table.entries) (is_some (lookup (same_key q) others.entries)))))))
+    ∙ (λ j. started_at (map (known_of table.columns q []) ((ap (λ (t : Tabled). t.items) c.index.ensures ∙ c.self.invariant) j)) (lookup (same_key q) table.entries) (is_some (lookup (same_key q) others.entries)))))
+    query rows more held beside few))
