@@ -162,10 +162,6 @@ started_new start es now q key none added = by (same_key q key) refl
         ∙ sym (λ j. started_at (start q) (lookup (same_key q) es) (e j))
 
 -- entries before one more
-pub front_whole : (es : Entries) → take (length es) es ≡ es
-front_whole [] = refl
-front_whole (e ∷ es) = ap (λ t. e ∷ t) (front_whole es)
-
 pub front_kept : (es others : Entries) → take (length es) (es ++ others) ≡ es
 front_kept [] [] = refl
 front_kept [] (e ∷ others) = refl

@@ -34,11 +34,6 @@ none_past (x ∷ xs) zero past = absurd (omega (arith, past))
 none_past (x ∷ xs) (suc i) past = none_past xs i (omega (arith, past))
 
 -- with that of others
-pub join_both : {X : Type 0} (join : X → X → X) (none : X) (group : ℕ) (xs : List X) (from : ℕ) (ys : List X) (x y v : X) → slice_get xs group ≡ Some x → slice_get ys from ≡ Some y → v ≡ join x y
-    → slice_set xs group v ≡ join_at join none group xs from ys
-join_both join none group xs from ys x y v here there is =
-    ap (slice_set xs group) (is ∙ (λ j. join (sym (get_or_from_slice_get xs group x none here) j) y) ∙ ap (with_other join (slice_index_or xs group none)) (sym there))
-
 pub join_none : {X : Type 0} (join : X → X → X) (none : X) (group : ℕ) (xs : List X) (from : ℕ) (ys : List X) → length ys ≤ from → xs ≡ join_at join none group xs from ys
 join_none join none group xs from ys past =
     sym (ap (λ o. slice_set xs group (with_other join (slice_index_or xs group none) o)) (none_past ys from past) ∙ set_same xs group none)

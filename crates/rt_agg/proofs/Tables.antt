@@ -1,7 +1,7 @@
 -- Keys in a set: they are compared as the orders of values say.
-use Rattle.std.proofs.Common.{◌≡◌, Bool, true, false, cond, List, [], ◌∷◌, ◌++◌, Some, refl, sym, ap, ◌∙◌, subst, true≢false}
+use Rattle.std.proofs.Common.{◌≡◌, Bool, true, false, cond, List, [], ◌∷◌, ◌++◌, Some, refl, sym, ap, ◌∙◌, true≢false}
 use Rattle.std.specs.Cmp.Lexicographic.{lists_ties, pointwise}
-use Rattle.std.specs.List.{IsDistinct, find, list_any}
+use Rattle.std.specs.List.{find, list_any}
 use Rattle.std.specs.Prelude.{unwrap_or, is_some, if◌then◌else◌}
 use Rattle.std.specs.Ordering.{is_eq}
 use Rattle.std.proofs.lemmas.Map.Text.{is_eq-slice_cmp}
@@ -53,9 +53,6 @@ eq_keys = pointwise same_value
 
 pub eq_same : (k l : List Value) → eq_keys k l ≡ same_key k l
 eq_same = lists_ties value_cmp value_ties
-
-pub unique_same : (ks : List (List Value)) → IsDistinct eq_keys ks → IsDistinct same_key ks
-unique_same ks u = subst (λ e. IsDistinct e ks) (λ i k l. eq_same k l i) u
 
 found_test : {X : Type 0} (test : X → Bool) (xs : List X) (x : X) → find test xs ≡ Some x → test x ≡ true
 found_test test [] x e = absurd (true≢false (sym (ap is_some e)))
