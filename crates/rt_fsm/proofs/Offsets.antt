@@ -26,12 +26,12 @@ use Rattle.rt_fsm.proofs.Committer.{Settled, settled, before_or_after, not_both}
 use Rattle.rt_fsm.proofs.Notes.{instances, noted_instances, left_out_instances, noted_some, winner_largest}
 use Rattle.rt_fsm.proofs.Pick.{fresh_instances}
 
-abbrev NoteHas : (Offset → Type 0) → Option Offset → Type 0
+abbrev pub NoteHas : (Offset → Type 0) → Option Offset → Type 0
 NoteHas P None = Unit {0}
 NoteHas P (Some x) = P x
 
 -- each note has P, and the committer's offset; the segment and the replicas stay
-record Keeps (P : Offset → Type 0) (seen : SeenMeta) (is : List Instance) (m : Completion) : Type 0 where
+pub record Keeps (P : Offset → Type 0) (seen : SeenMeta) (is : List Instance) (m : Completion) : Type 0 where
   notes : All (λ r. NoteHas P r.note) m.reporters
   offset : IsAfterPick m.state → P m.offset
   segment : m.seen ≡ seen
@@ -70,7 +70,7 @@ deciding P seen is n i x a p e f =
     (λ _. record { notes = a; offset = λ _. p; segment = e; replicas = f })
     (λ _. record { notes = a; offset = λ _. p; segment = e; replicas = f }))
 
-kept : (P : Offset → Type 0) (seen : SeenMeta) (is : List Instance) (m : Completion) (i : Instance) (ask : Ask) (now : Moment)
+pub kept : (P : Offset → Type 0) (seen : SeenMeta) (is : List Instance) (m : Completion) (i : Instance) (ask : Ask) (now : Moment)
     → ((x : Offset) (r : Reason) → ask ≡ Consumed x r → seen.meta.start.0 < x.0 → P x)
     → Contains is i → Keeps P seen is m → Keeps P seen is (react m i ask now).1
 kept P seen is m i ask now reports c k =
@@ -126,7 +126,7 @@ keeps_after P seen is m (message ∷ messages) reports c k =
 none_noted : (P : Offset → Type 0) (is : List Instance) → All (λ r. NoteHas P r.note) (map fresh is)
 none_noted P is = All-map (λ r. NoteHas P r.note) fresh is (λ k d l. tt)
 
-keeps_first : (P : Offset → Type 0) (seen : SeenMeta) (is : List Instance) (state : MachineState) (made : Moment) → IsBeforePick state → Keeps P seen is (first seen is state made)
+pub keeps_first : (P : Offset → Type 0) (seen : SeenMeta) (is : List Instance) (state : MachineState) (made : Moment) → IsBeforePick state → Keeps P seen is (first seen is state made)
 keeps_first P seen is state made p = record {
   notes = none_noted P is;
   offset = λ q. absurd (not_both state p q);

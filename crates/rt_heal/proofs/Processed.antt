@@ -20,11 +20,11 @@ use Rattle.rt_commit.specs.declared.job.JobStage.TheVariants as stage
 use Rattle.rt_commit.specs.declared.stepped.Stepped.{Stepped}
 use Rattle.rt_commit.specs.declared.work.Work.{Work}
 use Rattle.rt_commit.specs.declared.work.Work.TheVariants as work
-use Rattle.rt_controller.specs.Controller.{reply_to, Controlling}
+use Rattle.rt_controller.specs.Controller.{Controlling}
 use Rattle.rt_controller.specs.Lasting.{IsControllerOver}
 use Rattle.rt_controller.specs.Right.{job_at, job_of}
 use Rattle.rt_controller.specs.Steps.{Works}
-use Rattle.rt_controller.specs.Working.{settled, with_stage, work_call, work_call_at, work_call_on, Working}
+use Rattle.rt_controller.specs.Working.{with_stage, work_call, work_call_at, work_call_on, Working}
 use Rattle.rt_controller.proofs.Telling.{told_work}
 use Rattle.rt_deep.specs.Memory.{means as deep_means}
 use Rattle.rt_lists.specs.Members.{Has}
@@ -47,7 +47,7 @@ use Rattle.rt_model.specs.declared.reply.ReplyStatus.TheVariants as status
 use Rattle.rt_model.specs.declared.setup.Setup.{Setup}
 use Rattle.rt_model.proofs.Histories.{last_write-more, value_of-last}
 use Rattle.rt_past.specs.Past.{Past}
-use Rattle.rt_safety.proofs.SuccessEnds.{step_of}
+use Rattle.rt_safety.proofs.SuccessEnds.{step_of, settled_reply}
 use Rattle.rt_store.specs.Answers.{after_call, answer_of, reading}
 use Rattle.rt_store.specs.Calls.{answer_on, told_on}
 use Rattle.rt_store.specs.Meaning.{Told}
@@ -156,11 +156,6 @@ module _ (t : Told) (q : Asked) (x : Stepping) (processed : x.did.status ≡ Som
   stage_processed d a now stage.Ended at own made = absurd at
 
 -- ---- a controller's job
-
-settled_reply : (c : Controlling) (place : ℕ) (a : Asked) (commit : Bool) (did : Stepped) (o : Option ReplyStatus) (reply : Reply)
-    → (settled c place a commit did o).step.reply ≡ Some reply → o ≡ Some reply.status
-settled_reply c place a commit did None reply e = absurd (none-some reply e)
-settled_reply c place a commit did (Some s) reply e = ap (λ (r : Reply). Some r.status) (same_Some (reply_to a s) reply e)
 
 pub stop_processed : (setup : Setup) (past : Past) (t u : Told) (d e : ToldDeep) (c new : Controlling) (j : ℕ) (job : Job) (now : Moment) (did : JobStep) (r : Reply)
     → past.history ≡ t.writes → IsControllerOver setup past c → Works (means t) (means u) (deep_means d) (deep_means e) c j now new (Ok did)

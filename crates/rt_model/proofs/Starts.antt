@@ -187,7 +187,7 @@ metas_apart Q s never (suc n) w has is =
     at_case (inl h) further = further h
     at_case (inr e) further = never w.node (subst IsOpen (ap (λ (x : Seen). x.node) e) tt) is
 
-start_apart :
+pub start_apart :
     (Q : Node → Type 0) (s : Starting) → (Q node.Boot → ⊥) → ((n : Node) → IsOpen n → Q n → ⊥)
     → ((i : IdealState) → Q (node.Ideal i) → ⊥)
     → (w : Seen) → Has (starting_contents s) w → Q w.node → ⊥

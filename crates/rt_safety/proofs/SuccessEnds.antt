@@ -116,7 +116,7 @@ step_of c n now answer w e = by_place (job_place c.jobs n) refl e
     by_place None found f = absurd (none-some w f)
     by_place (Some place) found f = by_job place found (slice_get c.jobs place) refl f
 
-settled_reply : (c : Controlling) (place : ℕ) (a : Asked) (commit : Bool) (did : Stepped) (o : Option ReplyStatus) (reply : Reply)
+pub settled_reply : (c : Controlling) (place : ℕ) (a : Asked) (commit : Bool) (did : Stepped) (o : Option ReplyStatus) (reply : Reply)
     → (settled c place a commit did o).step.reply ≡ Some reply → o ≡ Some reply.status
 settled_reply c place a commit did None reply e = absurd (none-some reply e)
 settled_reply c place a commit did (Some s) reply e = ap (λ (r : Reply). Some r.status) (same_Some (reply_to a s) reply e)

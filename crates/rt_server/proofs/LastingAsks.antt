@@ -110,7 +110,7 @@ given q = Ok q
 abbrev refuse : ServerRefused → Result Request ServerRefused
 refuse e = Err e
 
-same_answer : (a b : Request) → answered a ≡ answered b → a ≡ b
+pub same_answer : (a b : Request) → answered a ≡ answered b → a ≡ b
 same_answer a b e = cc
 
 pub no_answer : (e : ServerRefused) (q : Request) → answered q ≡ refuse e → ⊥
