@@ -11,10 +11,11 @@ use rt_live_producer::ProducerSeat;
 use rt_live_server::ServerSeat;
 use std::alloc::Global;
 use std::sync::{Mutex, Wait};
-use std::thread::{Threads, for_each_mut, join};
+use std::thread::{Threads, scope, scope_env};
 
 /// Runs the nodes of a cluster, each in a thread of its own, until all queries are answered or memory runs out, and all
-/// that was posted was taken. Each turn begins at the gate.
+/// that was posted was taken. Each turn begins at the gate. Where no thread can be made for a node, the run ends as one
+/// does whose memory runs out.
 ///
 /// Afterwards each node is what its type keeps, and nothing else is known of it: not which server stands at which
 /// place, nor that a node did anything. What it did stands in its own diary, which its type keeps.
@@ -66,11 +67,12 @@ fn run_nodes<
     repairer: &mut RepairerSeat<R, J, K>,
     broker: &mut BrokerSeat<R, J, K>,
     controllers: &mut [ControllerSeat<R, J, K>],
-    numbers: &mut [u32],
+    numbers: &[u32],
 ) {
     let count = numbers.len() as u64 + controllers.len() as u64 + 3;
-    join(
+    beside(
         rt,
+        ends,
         || run_producer(
             rt, alloc, clock, gate, ends, servers, count, producer, repairer,
         ),
@@ -109,8 +111,9 @@ fn run_producer<
     producer: &mut ProducerSeat<R, J, K>,
     repairer: &mut RepairerSeat<R, J, K>,
 ) {
-    join(
+    beside(
         rt,
+        ends,
         || run(rt, alloc, clock, gate, ends, servers, count, producer),
         || run(rt, alloc, clock, gate, ends, servers, count, repairer),
     );
@@ -133,10 +136,11 @@ fn run_broker<
     count: u64,
     broker: &mut BrokerSeat<R, J, K>,
     controllers: &mut [ControllerSeat<R, J, K>],
-    numbers: &mut [u32],
+    numbers: &[u32],
 ) {
-    join(
+    beside(
         rt,
+        ends,
         || run_others(
             rt,
             alloc,
@@ -168,10 +172,11 @@ fn run_others<
     servers: &[Mutex<ServerSeat<R, J, K>>],
     count: u64,
     controllers: &mut [ControllerSeat<R, J, K>],
-    numbers: &mut [u32],
+    numbers: &[u32],
 ) {
-    join(
+    beside(
         rt,
+        ends,
         || run_servers(rt, alloc, clock, gate, ends, servers, count, numbers),
         || run_controllers(rt, alloc, clock, gate, ends, servers, count, controllers),
     );
@@ -192,15 +197,19 @@ fn run_servers<
     ends: &Ends,
     servers: &[Mutex<ServerSeat<R, J, K>>],
     count: u64,
-    numbers: &mut [u32],
+    numbers: &[u32],
 ) {
-    let threads = numbers.len().max(1);
-    for_each_mut(
-        rt,
-        numbers,
-        threads,
-        &|_, number| { run_server(rt, alloc, clock, gate, ends, servers, count, *number) },
-    );
+    scope(scope_env(), rt, |threads| {
+        for number in numbers.iter() {
+            let number = *number;
+            let begun = threads.spawn(move || {
+                run_server(rt, alloc, clock, gate, ends, servers, count, number)
+            });
+            if begun.is_err() {
+                ends.refuse();
+            }
+        }
+    });
 }
 
 // The controllers run beside each other.
@@ -220,13 +229,16 @@ fn run_controllers<
     count: u64,
     controllers: &mut [ControllerSeat<R, J, K>],
 ) {
-    let threads = controllers.len().max(1);
-    for_each_mut(
-        rt,
-        controllers,
-        threads,
-        &|_, seat| { run(rt, alloc, clock, gate, ends, servers, count, seat) },
-    );
+    scope(scope_env(), rt, |threads| {
+        for seat in controllers.iter_mut() {
+            let begun = threads.spawn(move || {
+                run(rt, alloc, clock, gate, ends, servers, count, seat)
+            });
+            if begun.is_err() {
+                ends.refuse();
+            }
+        }
+    });
 }
 
 // One server runs.
@@ -242,4 +254,29 @@ fn run_server<R: Wait + Copy, J: Naming, K: Cluster, C: Clock, G: Gate>(
 ) {
     let mut server = ServerTurns { number };
     run(rt, alloc, clock, gate, ends, servers, count, &mut server);
+}
+
+// Runs `others` in a thread of their own, and `own` in this one, until both have returned. Where no thread can be made
+// memory ran out, and `own` alone is run, up to the end that it then comes to.
+fn beside<R: Threads + Wait, A: FnOnce() + Send + Drop, B: FnOnce() + Drop>(
+    rt: &R,
+    ends: &Ends,
+    others: A,
+    own: B,
+)
+    requires others { A.pre others }
+    requires own { B.pre own }
+{
+    scope(
+        scope_env(),
+        rt,
+        move |threads|
+            requires { A.pre others × B.pre own }
+        {
+            if threads.spawn(others).is_err() {
+                ends.refuse();
+            }
+            own();
+        },
+    );
 }
