@@ -29,10 +29,10 @@ def bound():
     resource.setrlimit(resource.RLIMIT_CPU, (PROCESSOR, PROCESSOR))
 
 
-def ended(program, data, **variables):
-    """How a run of an input ended, with these variables of the environment; with no status where it didn't."""
+def ended(program, data, limits=bound, **variables):
+    """How a run of an input ended, within these limits and with these variables of the environment; with no status where it didn't."""
     try:
-        ran = subprocess.run([program], input=data, capture_output=True, env={**os.environ, **variables}, timeout=CLOCK, preexec_fn=bound,
+        ran = subprocess.run([program], input=data, capture_output=True, env={**os.environ, **variables}, timeout=CLOCK, preexec_fn=limits,
                              check=False)
     except subprocess.TimeoutExpired:
         return running.Ended(None, b"", b"")

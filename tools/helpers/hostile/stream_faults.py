@@ -1,4 +1,4 @@
-"""Standard input and output that fail at each call, or give and take little at a time, over stored scripts.
+"""Standard input and output that fail at each call, or give and take little at a time, over stored scripts and inputs of a running cluster.
 
 A run whose input comes and whose output goes byte by byte must be the run itself. Where calls give and take at most PIECE bytes, so
 that there are several of each, every one of them fails in turn, alone and with all that follow: a read ends the run with status 4
@@ -7,6 +7,7 @@ before anything is written, and a write with status 5 behind a front of the repo
 import itertools
 import tempfile
 
+import live_inputs
 import refusing
 import running
 import scripts
@@ -19,18 +20,21 @@ LITTLE = {"SHORT_READS": "1", "SHORT_WRITES": "1"}
 PIECES = {"SHORT_READS": str(PIECE), "SHORT_WRITES": str(PIECE)}
 KINDS = {"REFUSED_READ": (4, b"read failed\n"), "REFUSED_WRITE": (5, b"write failed\n"), "EMPTY_WRITE": (5, b"write failed\n")}
 HOW = {"alone": {}, "and all that follow": {"FROM_THEN_ON": "1"}}
-# Every fortieth script is tried in a quick run.
+# Every fortieth script is tried in a quick run, and every fortieth input.
 QUICK = 40
 
 
-def names(given):
-    """The scripts of so few lines; a device in the place of a file is no script's."""
-    found = []
-    for name in scripts.names():
-        path = scripts.input_of(name)
-        if path.is_file() and path.read_bytes().count(b"\n") < MOST_LINES and not path.with_suffix(".args").exists():
-            found.append(name)
-    return found[::QUICK] if given.quick else found
+def short(paths):
+    """Those of so few lines, that are read with no word; a device in the place of a file is none of them."""
+    return [path for path in paths if path.is_file() and path.read_bytes().count(b"\n") < MOST_LINES
+            and not path.with_suffix(".args").exists()]
+
+
+def listed(given):
+    """Each script and each input that is tried, with its program."""
+    by_program = ((given.program, map(scripts.input_of, scripts.names())),
+                  (given.live, (live_inputs.path_of(name, "in") for name in live_inputs.names() if not live_inputs.is_outside(name))))
+    return [(program, path) for program, paths in by_program for path in short(paths)[::QUICK if given.quick else 1]]
 
 
 def wrong(kind, ended, whole, fails):
@@ -78,10 +82,10 @@ def cases(program, library, script):
 
 
 def run(given):
-    count, listed = running.Count("streams"), names(given)
+    count, tried = running.Count("streams"), listed(given)
     with tempfile.TemporaryDirectory() as folder:
         library = refusing.compiled(folder)
-        for name in listed:
-            for case, found in cases(given.program, library, scripts.input_of(name).read_bytes()):
-                count.case(f"{name}, {case}", found)
-    return count.tell(f", {len(listed)} scripts")
+        for program, path in tried:
+            for case, found in cases(program, library, path.read_bytes()):
+                count.case(f"{path.parent.name}/{path.stem}, {case}", found)
+    return count.tell(f", {len(tried)} scripts and inputs")
