@@ -1,26 +1,24 @@
--- What goes with what a request is answered at once: an offset within the log with CATCH_UP, and a segment that has ended with DISCARD,
--- and with PROCESSED to a stop.
+-- What goes with what a request is answered at once: an offset that a replica can come to with CATCH_UP, and a segment that has ended
+-- with DISCARD, and with PROCESSED to a stop.
 use Rattle.std.proofs.Common.{◌≡◌, ℕ, ◌⊎◌, inl, inr, Bool, true, false, cond, List, Option, Some, None, Result, Ok, Err, refl, sym, ◌∙◌, ap, subst, slice_get}
-use Rattle.std.specs.Prelude.{◌==◌}
+use Rattle.std.specs.Prelude.{◌==◌, All}
 use Rattle.std.proofs.lemmas.Option.{same_Some}
 use Rattle.rt_base.specs.declared.numbers.Instance.{Instance}
 use Rattle.rt_base.specs.declared.numbers.Moment.{Moment}
 use Rattle.rt_base.specs.declared.numbers.Offset.{Offset}
 use Rattle.rt_base.specs.declared.numbers.Partition.{Partition}
-use Rattle.rt_commit.specs.Assignment.{replicas_in}
+use Rattle.rt_base.specs.declared.numbers.Sequence.{Sequence}
+use Rattle.rt_commit.specs.Assignment.{assigned_by, replicas_in}
 use Rattle.rt_commit.specs.Told.{answer_to, ToldDeep}
 use Rattle.rt_commit.specs.declared.job.JobStage.{JobStage}
-use Rattle.rt_controller.specs.Answers.{after_put, ask_in, follows_by, leads_to, named_file, status_of, Handling}
-use Rattle.rt_controller.specs.Controller.{machine_place, Controlling}
-use Rattle.rt_controller.specs.Lasting.{IsControllerOver}
+use Rattle.rt_controller.specs.Answers.{after_put, ask_in, follows_by, leads_to, named_file, replies, status_of, Handling}
+use Rattle.rt_controller.specs.Controller.{added, machine_place, replaced, with_machine, Controlling}
 use Rattle.rt_controller.specs.Requests.{Turn as Rule, not_leading, uploads, not_assigned, past_last, has_machine, has_none, after_read, at_machine, by_node, by_status, call_of, first_state, handled_at, turn_of}
 use Rattle.rt_controller.specs.declared.handled.Handled.{Handled}
 use Rattle.rt_controller.specs.declared.handled.Handled.TheVariants as handled
 use Rattle.rt_controller.specs.declared.segment_machine.SegmentMachine.{SegmentMachine}
 use Rattle.rt_controller.specs.declared.starting.NamedFile.{NamedFile}
-use Rattle.rt_controller.proofs.KeepsRequests.{its_machine, made}
-use Rattle.rt_controller.proofs.LastsMachines.{first_lasts, MachineLasts, reacts_lasts}
-use Rattle.rt_controller.proofs.LastsParts.{Lasts, parts_of}
+use Rattle.rt_controller.proofs.KeepsRequests.{its_machine, made, All-added, All-replaced}
 use Rattle.rt_controller.proofs.Turns.{told_turn, Tells}
 use Rattle.rt_deep.specs.declared.refused.DeepRefused.{DeepRefused}
 use Rattle.rt_deep.specs.declared.refused.DeepRefused.TheVariants as deep
@@ -61,7 +59,9 @@ use Rattle.rt_store.specs.Meaning.{Told}
 use Rattle.rt_store.specs.declared.refused.StoreRefused.{StoreRefused}
 use Rattle.rt_store.specs.declared.refused.StoreRefused.TheVariants.{NoNode, Exists, VersionChanged, Failed, Memory}
 use Rattle.rt_store.proofs.Told.{read_on}
-use Rattle.rt_heal.specs.Dropped.{GoesWith, IsReached}
+use Rattle.rt_heal.specs.Dropped.{GoesWith}
+use Rattle.rt_heal.specs.Reachable.{ComesTo}
+use Rattle.rt_heal.proofs.Machines.{first_reaches, reacts_reach, MachineReaches}
 
 -- ---- by a status
 
@@ -203,17 +203,27 @@ module _ (setup : Setup) (past : Past) (r : Request) (q : IsRequest setup past r
   abbrev HasEnded : Type 0
   HasEnded = BecameFinal past.history r.partition r.sequence.0
 
+  abbrev Comes : Offset → Type 0
+  Comes = ComesTo setup past r.partition r.sequence
+
   abbrev pub IsAnswered : ReplyStatus → Type 0
-  IsAnswered s = GoesWith (IsReached past r.partition) HasEnded (r.kind ≡ kind.Stopped → HasEnded) s
+  IsAnswered s = GoesWith Comes HasEnded (r.kind ≡ kind.Stopped → HasEnded) s
 
   -- so is what is handed out for the request
   abbrev pub IsHandedOut : Handled → Type 0
   IsHandedOut (handled.Reply y) = (y.number ≡ r.number) × IsAnswered y.status
   IsHandedOut (handled.Job number) = Unit {0}
 
+  -- and a replica can come to what the machines keep
+  abbrev AllReach : List SegmentMachine → Type 0
+  AllReach ms = All (MachineReaches setup past) ms
+
+  abbrev IsRight : Handling → Type 0
+  IsRight x = IsHandedOut x.handled × AllReach x.controller.machines
+
   ended_by : HasEnded → (s : ReplyStatus) → ((x : Offset) → s ≡ status.CatchUp x → ⊥) → IsAnswered s
   ended_by ended s never =
-      goes_with (IsReached past r.partition) HasEnded (r.kind ≡ kind.Stopped → HasEnded) s (λ x e. absurd (never x e)) (λ e. ended) (λ e k. ended)
+      goes_with Comes HasEnded (r.kind ≡ kind.Stopped → HasEnded) s (λ x e. absurd (never x e)) (λ e. ended) (λ e k. ended)
 
   -- ---- what a machine's reaction leads to
 
@@ -221,7 +231,7 @@ module _ (setup : Setup) (past : Past) (r : Request) (q : IsRequest setup past r
   IsLed (Ok s) = Unit {0}
   IsLed (Err s) = IsAnswered s
 
-  said_answers : (what : Said) → ((x : Offset) → what ≡ said.CatchUp x → IsReached past r.partition x) → (what ≡ said.Processed → r.kind ≡ kind.Stopped → ⊥)
+  said_answers : (what : Said) → ((x : Offset) → what ≡ said.CatchUp x → Comes x) → (what ≡ said.Processed → r.kind ≡ kind.Stopped → ⊥)
       → IsAnswered (status_of what)
   said_answers (said.CatchUp x) catches never = catches x refl
   said_answers said.Processed catches never = λ k. absurd (never refl k)
@@ -230,7 +240,7 @@ module _ (setup : Setup) (past : Past) (r : Request) (q : IsRequest setup past r
   said_answers said.CommitContinue catches never = tt
   said_answers (said.Failed because) catches never = tt
 
-  led_answers : (file : Option NamedFile) (x : Reaction) → ((o : Offset) → x ≡ catching o → IsReached past r.partition o)
+  led_answers : (file : Option NamedFile) (x : Reaction) → ((o : Offset) → x ≡ catching o → Comes o)
       → (x ≡ processing → r.kind ≡ kind.Stopped → ⊥) → IsLed (leads_to file x)
   led_answers file (reaction.Answer what) catches never =
       said_answers what (λ o e. catches o (ap (λ (s : Said). reaction.Answer s) e)) (λ e. never (ap (λ (s : Said). reaction.Answer s) e))
@@ -238,91 +248,102 @@ module _ (setup : Setup) (past : Past) (r : Request) (q : IsRequest setup past r
   led_answers (Some file) (reaction.StartCommit end) catches never = tt
   led_answers file reaction.StartOffline catches never = tt
 
-  follow_answers : (c : Controlling) (o : Result JobStage ReplyStatus) → IsLed o → IsHandedOut (follows_by c r o).handled
-  follow_answers c (Ok s) is = tt
-  follow_answers c (Err s) is = (refl, is)
+  follow_answers : (c : Controlling) (o : Result JobStage ReplyStatus) → AllReach c.machines → IsLed o → IsRight (follows_by c r o)
+  follow_answers c (Ok s) all is = (tt, all)
+  follow_answers c (Err s) all is = ((refl, is), all)
 
   -- what was handled so
-  answered_so : (y x : Handling) → handling y ≡ handling x → IsHandedOut y.handled → IsHandedOut x.handled
-  answered_so y x e own = subst (λ (z : Handling). IsHandedOut z.handled) (same_handling y x e) own
+  answered_so : (y x : Handling) → handling y ≡ handling x → IsRight y → IsRight x
+  answered_so y x e own = subst IsRight (same_handling y x e) own
 
-  module _ (what : Ask) (asks : ask_in r.offset r.kind ≡ Some what) (now : Moment) where
-    -- a stop asks as one
-    stops : r.kind ≡ kind.Stopped → what ≡ ask.Stopped
-    stops k = sym (same_Some ask.Stopped what (sym (ap (ask_in r.offset) k) ∙ asks))
+  -- an answer that is given at once
+  replies_so : (c : Controlling) (s : ReplyStatus) (x : Handling) → handling (replies c r s) ≡ handling x → AllReach c.machines → IsAnswered s → IsRight x
+  replies_so c s x is all so = answered_so (replies c r s) x is ((refl, so), all)
 
-    -- a machine of the segment reacts
-    reacts_answers : (c : Controlling) (m : SegmentMachine) (seen : SeenMeta) → m.partition ≡ r.partition → MachineLasts setup past m
-        → IsHandedOut (follows_by c r (leads_to (named_file r seen) (react m.machine r.number.instance what now).0)).handled
-    reacts_answers c m seen own lasts =
-        let y = react m.machine r.number.instance what now in
-        let k = reacts_lasts setup past r q what now asks m own lasts in
-        follow_answers c (leads_to (named_file r seen) y.0)
-        (led_answers (named_file r seen) y.0
-        (λ o e.
-        let named = react_catches m.machine r.number.instance what now o e in
-        subst (λ (p : Partition). IsReached past p o) own
-        (subst (λ (x : Offset). IsReached past m.partition x) (sym named.0) (k.offsets.offset named.1).1))
-        (λ e stop.
-        react_unprocessed m.machine r.number.instance now
-        (ap (λ (a : Ask). (react m.machine r.number.instance a now).0) (sym (stops stop)) ∙ e)))
+  module _ (comes : Comes r.offset) (c : Controlling) (assigned : c.assigned ≡ assigned_by setup) (all : AllReach c.machines) (now : Moment) where
+    module _ (what : Ask) (asks : ask_in r.offset r.kind ≡ Some what) where
+      -- a stop asks as one
+      stops : r.kind ≡ kind.Stopped → what ≡ ask.Stopped
+      stops k = sym (same_Some ask.Stopped what (sym (ap (ask_in r.offset) k) ∙ asks))
 
-    machine_answers : (c : Controlling) (place : ℕ) (o : Option SegmentMachine) (x : Handling) → Lasts setup past c
-        → machine_place c.machines r.partition r.sequence ≡ Some place → slice_get c.machines place ≡ o → at_machine c r now place what o ≡ Some x
-        → IsHandedOut x.handled
-    machine_answers c place None x k found at is = absurd (no_handling x (sym is))
-    machine_answers c place (Some m) x k found at is =
-        answered_so _ x is
-        (reacts_answers _ m m.machine.seen (its_machine c.machines r.partition r.sequence place m found at).0
-        (All-found (MachineLasts setup past) c.machines place m k.machines at))
+      -- a machine of the segment reacts
+      reacts_answers : (d : Controlling) (m : SegmentMachine) (seen : SeenMeta) → m.partition ≡ r.partition → m.sequence ≡ r.sequence
+          → MachineReaches setup past (with_machine m (react m.machine r.number.instance what now).1) → AllReach d.machines
+          → IsRight (follows_by d r (leads_to (named_file r seen) (react m.machine r.number.instance what now).0))
+      reacts_answers d m seen at_p at_q k left =
+          let y = react m.machine r.number.instance what now in
+          follow_answers d (leads_to (named_file r seen) y.0) left
+          (led_answers (named_file r seen) y.0
+          (λ o e.
+          let named = react_catches m.machine r.number.instance what now o e in
+          subst (λ (p : Partition). ComesTo setup past p r.sequence o) at_p
+          (subst (λ (s : Sequence). ComesTo setup past m.partition s o) at_q
+          (subst (λ (x : Offset). ComesTo setup past m.partition m.sequence x) (sym named.0) (k.offset named.1))))
+          (λ e stop.
+          react_unprocessed m.machine r.number.instance now
+          (ap (λ (a : Ask). (react m.machine r.number.instance a now).0) (sym (stops stop)) ∙ e)))
 
-    -- a segment without a machine is in progress, or has ended
-    status_answers : (c : Controlling) (m : SeenMeta) (st : Status) → Lasts setup past c → (IsFinalStatus st → HasEnded)
-        → IsHandedOut (by_status c r now what m st).handled
-    status_answers c m InProgress k ended =
-        reacts_answers _ (made r (first m (replicas_in c.assigned r.partition) (first_state what) now)) m refl
-        (first_lasts setup past r q what now asks c.assigned m k.assigned)
-    status_answers c m (Done commit) k ended = (refl, ended_by (ended tt) (committed_row m commit.end what) (λ x. row_not m commit.end x what))
-    status_answers c m Abandoned k ended = (refl, ended_by (ended tt) (abandoned_row what) (λ x. abandoned_not x what))
+      machine_answers : (place : ℕ) (o : Option SegmentMachine) (x : Handling) → machine_place c.machines r.partition r.sequence ≡ Some place
+          → slice_get c.machines place ≡ o → at_machine c r now place what o ≡ Some x → IsRight x
+      machine_answers place None x found at is = absurd (no_handling x (sym is))
+      machine_answers place (Some m) x found at is =
+          let its = its_machine c.machines r.partition r.sequence place m found at in
+          let n = with_machine m (react m.machine r.number.instance what now).1 in
+          let k = reacts_reach setup past r q comes what now asks m its.0 its.1
+          (All-found (MachineReaches setup past) c.machines place m all at) in
+          answered_so _ x is
+          (reacts_answers (record c { machines = replaced c.machines place n }) m m.machine.seen its.0 its.1 k
+          (All-replaced (MachineReaches setup past) c.machines place n all k))
 
-    node_answers : (c : Controlling) (version : ℕ) (n : Node) → Lasts setup past c → (IsFinal n → HasEnded) → IsHandedOut (by_node c r now what version n).handled
-    node_answers c version (node.Meta meta) k ended = status_answers c (record { version = version; meta = meta }) meta.status k ended
-    node_answers c version (node.Ideal i) k ended = (refl, tt)
-    node_answers c version node.Boot k ended = (refl, tt)
-    node_answers c version node.Gone k ended = (refl, tt)
+      -- a segment without a machine is in progress, or has ended
+      status_answers : (m : SeenMeta) (st : Status) → (IsFinalStatus st → HasEnded) → IsRight (by_status c r now what m st)
+      status_answers m InProgress ended =
+          let n = made r (first m (replicas_in c.assigned r.partition) (first_state what) now) in
+          let y = with_machine n (react n.machine r.number.instance what now).1 in
+          let k = reacts_reach setup past r q comes what now asks n refl refl (first_reaches setup past r q comes what now asks c.assigned m assigned) in
+          reacts_answers (record c { machines = added c.machines y }) n m refl refl k (All-added (MachineReaches setup past) c.machines y all k)
+      status_answers m (Done commit) ended =
+          ((refl, ended_by (ended tt) (committed_row m commit.end what) (λ x. row_not m commit.end x what)), all)
+      status_answers m Abandoned ended = ((refl, ended_by (ended tt) (abandoned_row what) (λ x. abandoned_not x what)), all)
 
-    read_answers : (t : Told) (c : Controlling) (answer : Result Seen StoreRefused) (x : Handling) → t.writes ≡ past.history → Lasts setup past c
-        → answer_on t (reading (key.Meta r.partition r.sequence)) ≡ answer → after_read c r now what answer ≡ Some x → IsHandedOut x.handled
-    read_answers t c (Ok w) x same k given is =
-        let found = read_on t (key.Meta r.partition r.sequence) w given in
-        answered_so _ x is
-        (node_answers c w.version w.node k (λ final. (w, subst (λ (h : List Seen). Has h w) same found.0, found.1, final)))
-    read_answers t c (Err NoNode) x same k given is = answered_so _ x is (refl, tt)
-    read_answers t c (Err (Exists version)) x same k given is = answered_so _ x is (refl, tt)
-    read_answers t c (Err (VersionChanged expected version)) x same k given is = answered_so _ x is (refl, tt)
-    read_answers t c (Err Failed) x same k given is = answered_so _ x is (refl, tt)
-    read_answers t c (Err Memory) x same k given is = absurd (no_handling x (sym is))
+      node_answers : (version : ℕ) (n : Node) → (IsFinal n → HasEnded) → IsRight (by_node c r now what version n)
+      node_answers version (node.Meta meta) ended = status_answers (record { version = version; meta = meta }) meta.status ended
+      node_answers version (node.Ideal i) ended = ((refl, tt), all)
+      node_answers version node.Boot ended = ((refl, tt), all)
+      node_answers version node.Gone ended = ((refl, tt), all)
 
-  put_answers : (c : Controlling) (path : List ℕ) (answer : Result (Unit {0}) DeepRefused) (x : Handling) → after_put c r path answer ≡ Some x → IsHandedOut x.handled
-  put_answers c path (Ok u) x is = answered_so _ x is (refl, tt)
-  put_answers c path (Err deep.Absent) x is = answered_so _ x is (refl, tt)
-  put_answers c path (Err (deep.OtherBytes kept offered)) x is = answered_so _ x is (refl, tt)
-  put_answers c path (Err deep.Failed) x is = answered_so _ x is (refl, tt)
-  put_answers c path (Err deep.Memory) x is = absurd (no_handling x (sym is))
+      read_answers : (t : Told) (answer : Result Seen StoreRefused) (x : Handling) → t.writes ≡ past.history
+          → answer_on t (reading (key.Meta r.partition r.sequence)) ≡ answer → after_read c r now what answer ≡ Some x → IsRight x
+      read_answers t (Ok w) x same given is =
+          let found = read_on t (key.Meta r.partition r.sequence) w given in
+          answered_so _ x is
+          (node_answers w.version w.node (λ final. (w, subst (λ (h : List Seen). Has h w) same found.0, found.1, final)))
+      read_answers t (Err NoNode) x same given is = replies_so c _ x is all tt
+      read_answers t (Err (Exists version)) x same given is = replies_so c _ x is all tt
+      read_answers t (Err (VersionChanged expected version)) x same given is = replies_so c _ x is all tt
+      read_answers t (Err Failed) x same given is = replies_so c _ x is all tt
+      read_answers t (Err Memory) x same given is = absurd (no_handling x (sym is))
 
-  -- ---- the rule that applies to it
+    put_answers : (path : List ℕ) (answer : Result (Unit {0}) DeepRefused) (x : Handling) → after_put c r path answer ≡ Some x → IsRight x
+    put_answers path (Ok u) x is = replies_so c _ x is all tt
+    put_answers path (Err deep.Absent) x is = replies_so c _ x is all tt
+    put_answers path (Err (deep.OtherBytes kept offered)) x is = replies_so c _ x is all tt
+    put_answers path (Err deep.Failed) x is = replies_so c _ x is all tt
+    put_answers path (Err deep.Memory) x is = absurd (no_handling x (sym is))
 
-  rule_answers : (t : Told) (d : ToldDeep) (c : Controlling) (now : Moment) (rule : Rule) (x : Handling) → t.writes ≡ past.history → Lasts setup past c
-      → Tells c r rule → handled_at c r now rule (answer_to t d (call_of r rule)) ≡ Some x → IsHandedOut x.handled
-  rule_answers t d c now not_leading x same k told is = answered_so _ x is (refl, tt)
-  rule_answers t d c now (uploads path bytes) x same k told is = put_answers c path _ x is
-  rule_answers t d c now not_assigned x same k told is = answered_so _ x is (refl, tt)
-  rule_answers t d c now past_last x same k told is = answered_so _ x is (refl, tt)
-  rule_answers t d c now (has_machine place what) x same k told is =
-      machine_answers what told.2 now c place (slice_get c.machines place) x k told.1 refl is
-  rule_answers t d c now (has_none what) x same k told is =
-      read_answers what told.2 now t c (answer_on t (reading (key.Meta r.partition r.sequence))) x same k refl is
+    -- ---- the rule that applies to it
 
-  pub request_answers : (t : Told) (d : ToldDeep) (c : Controlling) (now : Moment) (x : Handling) → t.writes ≡ past.history → IsControllerOver setup past c
-      → handled_at c r now (turn_of c r) (answer_to t d (call_of r (turn_of c r))) ≡ Some x → IsHandedOut x.handled
-  request_answers t d c now x same over is = rule_answers t d c now (turn_of c r) x same (parts_of setup past c over) (told_turn c r) is
+    rule_answers : (t : Told) (d : ToldDeep) (rule : Rule) (x : Handling) → t.writes ≡ past.history → Tells c r rule
+        → handled_at c r now rule (answer_to t d (call_of r rule)) ≡ Some x → IsRight x
+    rule_answers t d not_leading x same told is = replies_so c _ x is all tt
+    rule_answers t d (uploads path bytes) x same told is = put_answers path _ x is
+    rule_answers t d not_assigned x same told is = replies_so c _ x is all tt
+    rule_answers t d past_last x same told is = replies_so c _ x is all tt
+    rule_answers t d (has_machine place what) x same told is =
+        machine_answers what told.2 place (slice_get c.machines place) x told.1 refl is
+    rule_answers t d (has_none what) x same told is =
+        read_answers what told.2 t (answer_on t (reading (key.Meta r.partition r.sequence))) x same refl is
+
+    pub request_answers : (t : Told) (d : ToldDeep) (x : Handling) → t.writes ≡ past.history
+        → handled_at c r now (turn_of c r) (answer_to t d (call_of r (turn_of c r))) ≡ Some x → IsRight x
+    request_answers t d x same is = rule_answers t d (turn_of c r) x same (told_turn c r) is

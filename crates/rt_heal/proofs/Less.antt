@@ -19,11 +19,14 @@ use Rattle.rt_entry.specs.Transition.{is_open}
 use Rattle.rt_consumer.proofs.Filling.{filled_full, filled_more}
 use Rattle.rt_model.specs.declared.request.Reason.TheVariants.{RowLimit, TimeLimit}
 use Rattle.rt_mutable.specs.Consuming.{after_message, Consuming}
+use Rattle.rt_replica.specs.Held.{HoldsIn, HoldsRows, IsHeld}
 use Rattle.rt_schema.specs.Row.{row_of}
 use Rattle.rt_schema.specs.declared.row.Row.{Row}
 use Rattle.rt_schema.specs.declared.schema.Schema.{Schema}
 use Rattle.rt_segment.specs.Segment.{SealedSegment}
 use Rattle.rt_stream.specs.Log.{end_of, messages_of, Log}
+use Rattle.rt_heal.specs.Reachable.{IsReachable}
+use Rattle.rt_heal.proofs.Reaching.{held_rows, message_end, rows_least}
 use Rattle.rt_heal.specs.Left.{left_at, left_in, left_of, CanFollow, CanFollowAt, CanFollowIn}
 
 -- ---- messages
@@ -34,10 +37,6 @@ taken_some [] x count some lt = absurd (omega (arith, lt))
 taken_some (m ∷ ms) zero zero some lt = absurd (omega (arith, some))
 taken_some (m ∷ ms) zero (suc count) some lt = omega arith
 taken_some (m ∷ ms) (suc x) count some lt = taken_some ms x count some (omega (arith, lt))
-
-message_end : (rows : Consuming) (row : Option Row) → (after_message rows row).end.0 ≡ rows.end.0 + 1
-message_end rows None = refl
-message_end rows (Some row) = refl
 
 -- a batch goes no way back
 filled_least : (schema : Schema) (limit : ℕ) (rows : Consuming) (ms : List (List ℕ)) → rows.end.0 ≤ (filled schema limit rows ms).end.0
@@ -76,6 +75,9 @@ module _ (r : Consumer) (log : Log) (now : Moment) (max : ℕ) (some : 0 < max) 
 
   abbrev size : ℕ
   size = length all
+
+  abbrev Reaches : Offset → Type 0
+  Reaches = IsReachable r.settings.schema all r.start
 
   abbrev batch : ℕ → Offset → List (List ℕ)
   batch count x = messages_from log r.partition x count
@@ -138,48 +140,50 @@ module _ (r : Consumer) (log : Log) (now : Moment) (max : ℕ) (some : 0 < max) 
               ∙ and_from (nat_le r.settings.millis (now.0 - r.started.0)) (nat_lt r.start.0 new.end.0) parts.0 (lt-ltb r.start.0 new.end.0 past)))
 
   -- one that is sent to a target takes a message
-  target_some : (rows : Consuming) (target : ℕ) → AreRows r.settings r.start rows → rows.end.0 < target → target ≤ size → target ≤ r.start.0 + MOST_ROWS
-      → rows.end.0 < (filled r.settings.schema MOST_ROWS rows (batch (min max (target - rows.end.0)) rows.end)).end.0
-  target_some rows target k ahead within near =
-      let start : rows.start.0 ≡ r.start.0 = ap (λ (x : Offset). x.0) k.first in
-      filled_some r.settings.schema MOST_ROWS rows (batch (min max (target - rows.end.0)) rows.end)
-      (omega (arith, k.few, start, ahead, near))
-      (taken_some all rows.end.0 (min max (target - rows.end.0)) (omega (arith, some, ahead)) (omega (arith, ahead, within)))
+  target_some : (rows : Consuming) (target : Offset) → HoldsRows r.settings.schema all r.start rows → rows.end.0 < target.0 → Reaches target
+      → rows.end.0 < (filled r.settings.schema MOST_ROWS rows (batch (min max (target.0 - rows.end.0)) rows.end)).end.0
+  target_some rows target h ahead k =
+      let few = rows_least r.settings.schema all r.start.0 rows.end.0 (target.0 - 1) (omega (arith, ahead)) in
+      filled_some r.settings.schema MOST_ROWS rows (batch (min max (target.0 - rows.end.0)) rows.end)
+      (omega (arith, held_rows r.settings.schema all r.start rows h, few, k.room))
+      (taken_some all rows.end.0 (min max (target.0 - rows.end.0)) (omega (arith, some, ahead)) (omega (arith, ahead, k.within)))
 
-  stage_less : (rows : Consuming) (stage : Stage) (new : Consumer) → AreRows r.settings r.start rows → IsStage r.settings r.partition r.sequence rows stage
+  stage_less : (rows : Consuming) (stage : Stage) (new : Consumer) → AreRows r.settings r.start rows → HoldsRows r.settings.schema all r.start rows
+      → IsStage r.settings r.partition r.sequence rows stage
       → takes_in (state_at stage) ≡ true
       → ((nat_lt rows.end.0 size && is_below_target_at rows.end stage) || is_timed_out r.settings.millis r.started now r.start rows.end) ≡ true
-      → CanFollowAt stage r.start.0 size → option_map (λ count. taken_in r (at rows stage) now (batch count rows.end)) (asked_at stage rows.end max) ≡ Some new
+      → CanFollowAt Reaches stage → option_map (λ count. taken_in r (at rows stage) now (batch count rows.end)) (asked_at stage rows.end max) ≡ Some new
       → left_in new.phase size < left_at stage rows.end.0 size
-  stage_less rows InitialConsuming new k is takes ready follows e =
+  stage_less rows InitialConsuming new k h is takes ready follows e =
       subst (λ (x : Consumer). left_in x.phase size < (size - rows.end.0) + 1) (same_Some _ new e) (initial_less rows k.first ready)
-  stage_less rows (CatchingUp target reason) new k is takes ready follows e =
+  stage_less rows (CatchingUp target reason) new k h is takes ready follows e =
       let on = filled_by rows (CatchingUp target reason) (min max (target.0 - rows.end.0)) in
-      let further = target_some rows target.0 k is.1 follows.0 follows.1 in
+      let further = target_some rows target h is.1 follows in
       subst (λ (x : Consumer). left_in x.phase size < target.0 - rows.end.0) (same_Some _ new e)
       (cond_both (nat_le target.0 on.end.0) (Holding reason) (CatchingUp target reason)
       (λ (stage : Stage). left_at stage on.end.0 size < target.0 - rows.end.0) (λ there. omega (arith, is.1)) (λ ahead. omega (arith, is.1, further)))
-  stage_less rows (ConsumingToOnline end done) new k is takes ready follows e =
+  stage_less rows (ConsumingToOnline end done) new k h is takes ready follows e =
       let on = filled_by rows (ConsumingToOnline end done) (min max (end.0 - rows.end.0)) in
-      let further = target_some rows end.0 k is.0 follows.0 follows.1 in
+      let further = target_some rows end h is.0 follows in
       subst (λ (x : Consumer). left_in x.phase size < (end.0 - rows.end.0) + 1) (same_Some _ new e)
       (cond_both (nat_le end.0 on.end.0) (Retaining done) (ConsumingToOnline end done)
       (λ (stage : Stage). left_at stage on.end.0 size < (end.0 - rows.end.0) + 1) (λ there. omega (arith, is.0)) (λ ahead. omega (arith, is.0, further)))
-  stage_less rows (Holding reason) new k is takes ready follows e = absurd (false≢true takes)
-  stage_less rows (Retaining done) new k is takes ready follows e = absurd (false≢true takes)
-  stage_less rows (Building reason) new k is takes ready follows e = absurd (false≢true takes)
-  stage_less rows (Starting reason built) new k is takes ready follows e = absurd (false≢true takes)
-  stage_less rows (Uploading reason built) new k is takes ready follows e = absurd (false≢true takes)
-  stage_less rows (Ending reason built path) new k is takes ready follows e = absurd (false≢true takes)
+  stage_less rows (Holding reason) new k h is takes ready follows e = absurd (false≢true takes)
+  stage_less rows (Retaining done) new k h is takes ready follows e = absurd (false≢true takes)
+  stage_less rows (Building reason) new k h is takes ready follows e = absurd (false≢true takes)
+  stage_less rows (Starting reason built) new k h is takes ready follows e = absurd (false≢true takes)
+  stage_less rows (Uploading reason built) new k h is takes ready follows e = absurd (false≢true takes)
+  stage_less rows (Ending reason built path) new k h is takes ready follows e = absurd (false≢true takes)
 
-  phase_less : (ph : Phase) (new : Consumer) → IsPhase r.settings r.partition r.sequence r.start ph → takes_in (state_of ph) ≡ true
+  phase_less : (ph : Phase) (new : Consumer) → IsPhase r.settings r.partition r.sequence r.start ph → HoldsIn r.settings.schema all r.start ph
+      → takes_in (state_of ph) ≡ true
       → ((nat_lt (cur_in ph).0 size && is_below_target ph) || is_timed_out r.settings.millis r.started now r.start (cur_in ph)) ≡ true
-      → CanFollowIn ph r.start.0 size → option_map (λ count. taken_in r ph now (batch count (cur_in ph))) (asked_in ph max) ≡ Some new
+      → CanFollowIn Reaches ph → option_map (λ count. taken_in r ph now (batch count (cur_in ph))) (asked_in ph max) ≡ Some new
       → left_in new.phase size < left_in ph size
-  phase_less (phase.Unsealed o) new k takes ready follows e = stage_less o.rows o.stage new k.0 k.1 takes ready follows e
-  phase_less (phase.Retained kept) new k takes ready follows e = absurd (false≢true takes)
-  phase_less (phase.Committed kept) new k takes ready follows e = absurd (false≢true takes)
-  phase_less (phase.Discarded d) new k takes ready follows e = absurd (false≢true takes)
+  phase_less (phase.Unsealed o) new k h takes ready follows e = stage_less o.rows o.stage new k.0 h k.1 takes ready follows e
+  phase_less (phase.Retained kept) new k h takes ready follows e = absurd (false≢true takes)
+  phase_less (phase.Committed kept) new k h takes ready follows e = absurd (false≢true takes)
+  phase_less (phase.Discarded d) new k h takes ready follows e = absurd (false≢true takes)
 
 -- the replica stays one of its partition
 taken_partition : (r : Consumer) (ph : Phase) (now : Moment) (ms : List (List ℕ)) → (taken_in r ph now ms).partition ≡ r.partition
@@ -194,37 +198,38 @@ consumed_partition r now log None new e = absurd (none-some new e)
 consumed_partition r now log (Some count) new e =
     ap (λ (x : Consumer). x.partition) (sym (same_Some _ new e)) ∙ taken_partition r r.phase now (messages_from log r.partition (cur_in r.phase) count)
 
-pub batch_less : (r new : Consumer) (log : Log) (now : Moment) (max : ℕ) → 0 < max → IsConsumer r → takes_in (state_of r.phase) ≡ true
+pub batch_less : (r new : Consumer) (log : Log) (now : Moment) (max : ℕ) → 0 < max → IsConsumer r → IsHeld log r → takes_in (state_of r.phase) ≡ true
     → is_ready r (end_of (messages_of log r.partition)) now ≡ true → CanFollow log r → consumed r max now log ≡ Some new → left_of log new < left_of log r
-batch_less r new log now max some k takes ready follows e =
+batch_less r new log now max some k held takes ready follows e =
     let same = consumed_partition r now log (asked_in r.phase max) new e in
     subst (λ p. left_in new.phase (length (messages_of log p)) < left_of log r) (sym same)
-    (phase_less r log now max some r.phase new k.phase takes ready follows e)
+    (phase_less r log now max some r.phase new k.phase held takes ready follows e)
 
 -- ---- targets stay
 
-follows_at : (r : Consumer) (began now : Moment) (rows : Consuming) (stage : Stage) (start count : ℕ) → CanFollowAt stage start count
-    → CanFollowAt (after_batch r.settings began now rows stage) start count
-follows_at r began now rows InitialConsuming start count k =
+follows_at : (r : Consumer) (began now : Moment) (rows : Consuming) (stage : Stage) (R : Offset → Type 0) → CanFollowAt R stage
+    → CanFollowAt R (after_batch r.settings began now rows stage)
+follows_at r began now rows InitialConsuming R k =
     cond_both (nat_le r.settings.rows (length rows.rows)) (Holding RowLimit)
-    (cond (is_timed_out r.settings.millis began now rows.start rows.end) (Holding TimeLimit) InitialConsuming) (λ st. CanFollowAt st start count) (λ b. tt)
+    (cond (is_timed_out r.settings.millis began now rows.start rows.end) (Holding TimeLimit) InitialConsuming) (λ st. CanFollowAt R st) (λ b. tt)
     (λ b.
-    cond_both (is_timed_out r.settings.millis began now rows.start rows.end) (Holding TimeLimit) InitialConsuming (λ st. CanFollowAt st start count) (λ c. tt) (λ c. tt))
-follows_at r began now rows (CatchingUp target reason) start count k =
-    cond_both (nat_le target.0 rows.end.0) (Holding reason) (CatchingUp target reason) (λ st. CanFollowAt st start count) (λ b. tt) (λ b. k)
-follows_at r began now rows (ConsumingToOnline end done) start count k =
-    cond_both (nat_le end.0 rows.end.0) (Retaining done) (ConsumingToOnline end done) (λ st. CanFollowAt st start count) (λ b. tt) (λ b. k)
-follows_at r began now rows (Holding reason) start count k = tt
-follows_at r began now rows (Retaining done) start count k = tt
-follows_at r began now rows (Building reason) start count k = tt
-follows_at r began now rows (Starting reason built) start count k = tt
-follows_at r began now rows (Uploading reason built) start count k = tt
-follows_at r began now rows (Ending reason built path) start count k = tt
+    cond_both (is_timed_out r.settings.millis began now rows.start rows.end) (Holding TimeLimit) InitialConsuming (λ st. CanFollowAt R st) (λ c. tt) (λ c. tt))
+follows_at r began now rows (CatchingUp target reason) R k =
+    cond_both (nat_le target.0 rows.end.0) (Holding reason) (CatchingUp target reason) (λ st. CanFollowAt R st) (λ b. tt) (λ b. k)
+follows_at r began now rows (ConsumingToOnline end done) R k =
+    cond_both (nat_le end.0 rows.end.0) (Retaining done) (ConsumingToOnline end done) (λ st. CanFollowAt R st) (λ b. tt) (λ b. k)
+follows_at r began now rows (Holding reason) R k = tt
+follows_at r began now rows (Retaining done) R k = tt
+follows_at r began now rows (Building reason) R k = tt
+follows_at r began now rows (Starting reason built) R k = tt
+follows_at r began now rows (Uploading reason built) R k = tt
+follows_at r began now rows (Ending reason built path) R k = tt
 
 follows_in : (r : Consumer) (ph : Phase) (now : Moment) (log : Log) (ms : List (List ℕ)) → r.phase ≡ ph → CanFollow log r → CanFollow log (taken_in r ph now ms)
 follows_in r (phase.Unsealed o) now log ms is k =
-    follows_at r r.started now (filled r.settings.schema (row_limit r.settings o.stage) o.rows ms) o.stage r.start.0 (length (messages_of log r.partition))
-    (subst (λ (x : Phase). CanFollowIn x r.start.0 (length (messages_of log r.partition))) is k)
+    follows_at r r.started now (filled r.settings.schema (row_limit r.settings o.stage) o.rows ms) o.stage
+    (IsReachable r.settings.schema (messages_of log r.partition) r.start)
+    (subst (λ (x : Phase). CanFollowIn (IsReachable r.settings.schema (messages_of log r.partition) r.start) x) is k)
 follows_in r (phase.Retained kept) now log ms is k = k
 follows_in r (phase.Committed kept) now log ms is k = k
 follows_in r (phase.Discarded d) now log ms is k = k
@@ -294,26 +299,26 @@ pub build_less : (r new : Consumer) (log : Log) → Builds r new (Ok tt) → lef
 build_less r new log (builds, (file, seals, is)) =
     subst (λ (x : Consumer). left_of log x < left_of log r) (sym is) (build_in r.phase file (length (messages_of log r.partition)) builds)
 
-built_at : (rows : Consuming) (stage : Stage) (file : SealedSegment) (start count : ℕ) → builds_at stage ≡ true → CanFollowIn (filed_at rows stage file) start count
-built_at rows (Retaining done) file start count builds = tt
-built_at rows (Building reason) file start count builds = tt
-built_at rows InitialConsuming file start count builds = absurd (false≢true builds)
-built_at rows (CatchingUp target reason) file start count builds = absurd (false≢true builds)
-built_at rows (Holding reason) file start count builds = absurd (false≢true builds)
-built_at rows (ConsumingToOnline end done) file start count builds = absurd (false≢true builds)
-built_at rows (Starting reason built) file start count builds = absurd (false≢true builds)
-built_at rows (Uploading reason built) file start count builds = absurd (false≢true builds)
-built_at rows (Ending reason built path) file start count builds = absurd (false≢true builds)
+built_at : (rows : Consuming) (stage : Stage) (file : SealedSegment) (R : Offset → Type 0) → builds_at stage ≡ true → CanFollowIn R (filed_at rows stage file)
+built_at rows (Retaining done) file R builds = tt
+built_at rows (Building reason) file R builds = tt
+built_at rows InitialConsuming file R builds = absurd (false≢true builds)
+built_at rows (CatchingUp target reason) file R builds = absurd (false≢true builds)
+built_at rows (Holding reason) file R builds = absurd (false≢true builds)
+built_at rows (ConsumingToOnline end done) file R builds = absurd (false≢true builds)
+built_at rows (Starting reason built) file R builds = absurd (false≢true builds)
+built_at rows (Uploading reason built) file R builds = absurd (false≢true builds)
+built_at rows (Ending reason built path) file R builds = absurd (false≢true builds)
 
-built_in : (ph : Phase) (file : SealedSegment) (start count : ℕ) → builds_in ph ≡ true → CanFollowIn (filed ph file) start count
-built_in (phase.Unsealed o) file start count builds = built_at o.rows o.stage file start count builds
-built_in (phase.Retained kept) file start count builds = tt
-built_in (phase.Committed kept) file start count builds = tt
-built_in (phase.Discarded d) file start count builds = tt
+built_in : (ph : Phase) (file : SealedSegment) (R : Offset → Type 0) → builds_in ph ≡ true → CanFollowIn R (filed ph file)
+built_in (phase.Unsealed o) file R builds = built_at o.rows o.stage file R builds
+built_in (phase.Retained kept) file R builds = tt
+built_in (phase.Committed kept) file R builds = tt
+built_in (phase.Discarded d) file R builds = tt
 
 pub build_follows : (r new : Consumer) (log : Log) → Builds r new (Ok tt) → CanFollow log new
 build_follows r new log (builds, (file, seals, is)) =
-    subst (CanFollow log) (sym is) (built_in r.phase file r.start.0 (length (messages_of log r.partition)) builds)
+    subst (CanFollow log) (sym is) (built_in r.phase file (IsReachable r.settings.schema (messages_of log r.partition) r.start) builds)
 
 built_shut_at : (rows : Consuming) (stage : Stage) (file : SealedSegment) → builds_at stage ≡ true → is_open (state_at stage) ≡ false
     → is_open (state_of (filed_at rows stage file)) ≡ false

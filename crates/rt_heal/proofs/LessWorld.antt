@@ -169,7 +169,7 @@ pub record LeavesLess (w y : State) : Type 0 where
   pub calm : AreAllCalm w → AreAllCalm y
 
 -- what another look-up finds when an entry is put: what it found, or the new one in place of the old one
-lookup_put : (f g : Segment → Bool) (es : List (Segment × Entry)) (old new : Entry) → lookup f es ≡ Some old
+pub lookup_put : (f g : Segment → Bool) (es : List (Segment × Entry)) (old new : Entry) → lookup f es ≡ Some old
     → (lookup g (set_value f es new) ≡ lookup g es) ⊎ ((lookup g (set_value f es new) ≡ Some new) × (lookup g es ≡ Some old))
 lookup_put f g [] old new found = absurd (none-some old found)
 lookup_put f g (e ∷ es) old new found = by_test (f e.0) found (lookup_put f g es old new)
@@ -315,7 +315,7 @@ module _ (w y : State) (i : Instance) (p : Partition) (q : Sequence) (o : Outcom
             servers = ap (λ (x : State). x.servers) is;
             log = ap (λ (x : State). x.log) is ∙ same;
             less =
-                batch_less r c.next w.log w.moment max some over.1 (consumed_takes r c.next max w.moment w.log takes) ready_now follows takes;
+                batch_less r c.next w.log w.moment max some over.1 over.2.held (consumed_takes r c.next max w.moment w.log takes) ready_now follows takes;
             follow = batch_follows r c.next w.log w.moment max follows takes;
             shut = batch_shut r c.next w.log w.moment max takes;
           }) (ap (λ (x : State). x.setup) is) (ap (λ (x : State). x.controllers) is) (ap (λ (x : State). x.store) is)

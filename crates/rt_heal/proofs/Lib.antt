@@ -1,5 +1,6 @@
 pub mod Answered
 pub mod Asked
+pub mod AskedRuns
 pub mod Asking
 pub mod Dropped
 pub mod Following
@@ -8,6 +9,8 @@ pub mod Less
 pub mod LessRounds
 pub mod LessWorld
 pub mod Listed
+pub mod MachineRuns
+pub mod Machines
 pub mod Mended
 pub mod Missing
 pub mod Moving
@@ -19,6 +22,7 @@ pub mod Planned
 pub mod Processed
 pub mod Quiet
 pub mod Ranges
+pub mod Reaching
 pub mod ReplicaRuns
 pub mod ReplicaSteps
 pub mod Seeing

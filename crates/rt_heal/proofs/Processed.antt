@@ -17,7 +17,6 @@ use Rattle.rt_commit.specs.Told.{answer_to, store_after, ToldDeep}
 use Rattle.rt_commit.specs.declared.job.Job.{Job}
 use Rattle.rt_commit.specs.declared.job.JobStage.{JobStage}
 use Rattle.rt_commit.specs.declared.job.JobStage.TheVariants as stage
-use Rattle.rt_commit.specs.declared.stepped.Stepped.{Stepped}
 use Rattle.rt_commit.specs.declared.work.Work.{Work}
 use Rattle.rt_commit.specs.declared.work.Work.TheVariants as work
 use Rattle.rt_controller.specs.Controller.{Controlling}

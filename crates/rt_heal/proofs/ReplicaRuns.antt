@@ -6,6 +6,7 @@ use Rattle.rt_base.specs.declared.numbers.Instance.{Instance}
 use Rattle.rt_base.specs.declared.numbers.Partition.{Partition}
 use Rattle.rt_base.specs.declared.numbers.Sequence.{Sequence}
 use Rattle.rt_broker.specs.Asking.{Asking, piece_at}
+use Rattle.rt_consumer.specs.Batch.{consumed}
 use Rattle.rt_controller.specs.declared.handled.Handled.{Handled}
 use Rattle.rt_controller.specs.declared.handled.Handled.TheVariants as handled
 use Rattle.rt_deep.specs.Meaning.{Told as ToldDeep}
@@ -17,6 +18,7 @@ use Rattle.rt_model.specs.declared.job_step.JobStep.{JobStep}
 use Rattle.rt_model.specs.declared.piece.Piece.{Piece}
 use Rattle.rt_model.specs.declared.reply.Reply.{Reply}
 use Rattle.rt_model.specs.declared.request.Request.{Request}
+use Rattle.rt_nodes.proofs.Looks.{takes_looks}
 use Rattle.rt_nodes.specs.declared.chore.Chore.{Chore}
 use Rattle.rt_nodes.specs.declared.controller_node.ControllerNode.{ControllerNode}
 use Rattle.rt_nodes.specs.declared.server_node.ServerNode.{ServerNode}
@@ -35,7 +37,6 @@ use Rattle.rt_state.specs.declared.cost.Cost.{Cost}
 use Rattle.rt_state.specs.declared.state.State.{State}
 use Rattle.rt_store.specs.Meaning.{Told}
 use Rattle.rt_store.specs.Memory.{means}
-use Rattle.rt_stream.specs.Feed.{log_meaning}
 use Rattle.rt_stream.specs.Log.{Log}
 use Rattle.rt_world.proofs.KeepsMessages.{reply_sent}
 use Rattle.rt_world.proofs.Places.{at_set}
@@ -46,7 +47,7 @@ use Rattle.rt_heal.proofs.ReplicaSteps.{all_stay, AllCame, asks, builds, consume
 pub record CameServer (w : State) (i : ℕ) (new : ServerNode) : Type 0 where
   pub old : ServerNode
   pub there : slice_get w.servers i ≡ Some old
-  pub came : AllCame w.sent old.server.table new.server.table
+  pub came : AllCame w.sent w.log old.server.table new.server.table
 
 module _ (w : State) where
   -- so it is of all servers
@@ -54,20 +55,20 @@ module _ (w : State) where
   ServersCame v = AreAt (CameServer w) v.servers
 
   untouched : AreAt (CameServer w) w.servers
-  untouched i n at = record { old = n; there = at; came = all_stay w.sent n.server.table }
+  untouched i n at = record { old = n; there = at; came = all_stay w.sent w.log n.server.table }
 
   same_servers : (v : State) → v.servers ≡ w.servers → ServersCame v
   same_servers v e = subst (AreAt (CameServer w)) (sym e) untouched
 
   one_came : (i : Instance) (old new : ServerNode) (v : State) → slice_get w.servers i.0 ≡ Some old → v.servers ≡ slice_set w.servers i.0 new
-      → AllCame w.sent old.server.table new.server.table → ServersCame v
+      → AllCame w.sent w.log old.server.table new.server.table → ServersCame v
   one_came i old new v at put came =
       subst (AreAt (CameServer w)) (sym put) (at_set (CameServer w) w.servers i.0 new (record { old = old; there = at; came = came }) untouched)
 
   -- ---- a server's step
 
   abbrev Comes : (ServerNode → ServerNode → Type 0) → Type 0
-  Comes step = (old new : ServerNode) → step old new → AllCame w.sent old.server.table new.server.table
+  Comes step = (old new : ServerNode) → step old new → AllCame w.sent w.log old.server.table new.server.table
 
   module _ (i : Instance) (cost : Cost) (x : Next) where
     does_came : (does : ServerStep) → Comes (λ old new. does old new x.1) → ServerDoes w i does cost x → ServersCame x.0
@@ -115,8 +116,8 @@ module _ (w : State) where
       by_found (Some y) at h =
           does_came y.number.instance cost x (λ old new outcome. (outcome, new) ≡ node_took old y)
           (λ old new step.
-          subst (λ (n : ServerNode). AllCame w.sent old.server.table n.server.table) (sym (ap (λ (z : Outcome × ServerNode). z.1) step))
-          (reply_came w.sent old.server.table y (reply_sent w m y at))) h
+          subst (λ (n : ServerNode). AllCame w.sent w.log old.server.table n.server.table) (sym (ap (λ (z : Outcome × ServerNode). z.1) step))
+          (reply_came w.sent w.log old.server.table y (reply_sent w m y at))) h
 
   -- ---- steps of others
 
@@ -194,37 +195,39 @@ module _ (w : State) where
   event_came (event.Consume i p q max) v o (cost, due, h) =
       looks_came i cost (v, o) _
       (λ log old new step.
-      through_came w.sent old.server.table (Unit {0}) tt _ _ new.server.table p q (λ r next does. consumes (log_meaning w.log) (log_meaning log) max w.moment does) step.0) h
+      let same : log ≡ w.log = takes_looks w.log log old.server.table new.server.table p q max w.moment (Ok tt) step.0 in
+      through_came w.sent w.log old.server.table (Unit {0}) tt _ _ new.server.table p q
+      (λ r next does. consumes max w.moment (subst (λ (l : Log). consumed r max w.moment l ≡ Some next) same does.1)) step.0) h
   event_came (event.Force i p q) v o (cost, due, h) =
-      does_came i cost (v, o) _ (λ old new step. through_came w.sent old.server.table (Unit {0}) tt _ _ new.server.table p q (λ r next does. forces does) step.0) h
+      does_came i cost (v, o) _ (λ old new step. through_came w.sent w.log old.server.table (Unit {0}) tt _ _ new.server.table p q (λ r next does. forces does) step.0) h
   event_came (event.Stop i p q) v o (cost, due, h) =
-      does_came i cost (v, o) _ (λ old new step. through_came w.sent old.server.table (Unit {0}) tt _ _ new.server.table p q (λ r next does. stops does) step.0) h
+      does_came i cost (v, o) _ (λ old new step. through_came w.sent w.log old.server.table (Unit {0}) tt _ _ new.server.table p q (λ r next does. stops does) step.0) h
   event_came (event.Build i p q) v o (cost, due, h) =
-      does_came i cost (v, o) _ (λ old new step. through_came w.sent old.server.table (Unit {0}) tt _ _ new.server.table p q (λ r next does. builds does) step.0) h
+      does_came i cost (v, o) _ (λ old new step. through_came w.sent w.log old.server.table (Unit {0}) tt _ _ new.server.table p q (λ r next does. builds does) step.0) h
   event_came (event.Report i p q) v o (cost, due, h) =
       sends_came i cost (v, o) _
       (λ request old new step.
-      through_came w.sent old.server.table Request request _ _ new.server.table p q
+      through_came w.sent w.log old.server.table Request request _ _ new.server.table p q
       (λ r next does. asks old.server.numbers new.server.numbers request does) step.0) h
   event_came (event.Extend i p q millis) v o (cost, due, h) =
       sends_came i cost (v, o) _
       (λ request old new step.
-      through_came w.sent old.server.table Request request _ _ new.server.table p q
+      through_came w.sent w.log old.server.table Request request _ _ new.server.table p q
       (λ r next does. extends old.server.numbers new.server.numbers millis request does) step.0) h
   event_came (event.CrashServer i) v o (cost, due, h) =
       does_came i cost (v, o) _
-      (λ old new step. subst (λ (n : ServerNode). AllCame w.sent old.server.table n.server.table) (sym step.0) (λ x has. absurd has)) h
+      (λ old new step. subst (λ (n : ServerNode). AllCame w.sent w.log old.server.table n.server.table) (sym step.0) (λ x has. absurd has)) h
   event_came (event.RestartServer i) v o (cost, due, h) =
-      calls_came i cost (v, o) _ (λ store old new step. restarts_came w.sent (means w.store) (means store) old.server new.server step.0 step.1) h
+      calls_came i cost (v, o) _ (λ store old new step. restarts_came w.sent w.log (means w.store) (means store) old.server new.server step.0 step.1) h
   event_came (event.See i) v o (cost, due, h) =
-      calls_came i cost (v, o) _ (λ store old new step. sees_came w.sent (means w.store) (means store) old.server new.server step.0 step.1) h
+      calls_came i cost (v, o) _ (λ store old new step. sees_came w.sent w.log (means w.store) (means store) old.server new.server step.0 step.1) h
   event_came (event.Transit i p q) v o (cost, due, h) =
       calls_came i cost (v, o) _
-      (λ store old new step. transits_came w.sent (means w.store) (means store) old.server new.server p q w.moment step.0 step.1) h
+      (λ store old new step. transits_came w.sent w.log (means w.store) (means store) old.server new.server p q w.moment step.0 step.1) h
   event_came (event.Download i p q) v o (cost, due, h) =
       gets_came i cost (v, o) _
       (λ deep old new step.
-      downloads_came w.sent (deep_means w.deep) (deep_means deep) old.server.setup.schema old.server.table new.server.table p q step.0 step.1) h
+      downloads_came w.sent w.log (deep_means w.deep) (deep_means deep) old.server.setup.schema old.server.table new.server.table p q step.0 step.1) h
   event_came (event.Reply m) v o (cost, due, h) = takes_came m cost (v, o) h
   event_came (event.Lead c on) v o (cost, due, h) = turns_came c _ _ cost (v, o) h
   event_came (event.CrashController c) v o (cost, due, h) = turns_came c _ _ cost (v, o) h

@@ -4,7 +4,7 @@ use Rattle.rt_base.specs.declared.numbers.Moment.{Moment}
 use Rattle.rt_base.specs.declared.numbers.Offset.{Offset}
 use Rattle.rt_base.specs.declared.numbers.Partition.{Partition}
 use Rattle.rt_base.specs.declared.numbers.Sequence.{Sequence}
-use Rattle.rt_consumer.specs.Batch.{Consumes}
+use Rattle.rt_consumer.specs.Batch.{consumed}
 use Rattle.rt_consumer.specs.Consumer.{started_of}
 use Rattle.rt_consumer.specs.Replies.{replied}
 use Rattle.rt_consumer.specs.Requests.{Builds, Does, Extends, Requests, forced, learned, stopped}
@@ -44,30 +44,30 @@ use Rattle.rt_server.specs.Download.{committed_at, Downloads, DownloadsAt}
 use Rattle.rt_server.specs.Table.{entry_of, put_back, replica_of, Segment, segment_cmp, Segments, ServerState, target_of, without}
 use Rattle.rt_server.specs.Transition.{committed, moved_by, moved_to, opened, transit_due, transited, transition}
 use Rattle.rt_store.specs.Meaning.{Meaning}
-use Rattle.rt_stream.specs.Feed.{FeedMeaning}
+use Rattle.rt_stream.specs.Log.{Log}
 
--- ---- a replica's own step, in a world of which these messages were sent
+-- ---- a replica's own step, in a world with this log, of which these messages were sent
 
 -- it takes messages, builds, asks, is forced or stopped, takes an answer to the segment, or is told of a commit
-pub data Goes (ms : List Sent) (s : Segment) (r next : Consumer) : Type 0 where
-  consumes : (before after : FeedMeaning) (max : ℕ) (now : Moment) → Consumes before after r next max now (Ok tt) → Goes ms s r next
-  forces : Does (forced r.phase) r next (Ok tt) → Goes ms s r next
-  stops : Does (stopped r.phase) r next (Ok tt) → Goes ms s r next
-  builds : Builds r next (Ok tt) → Goes ms s r next
-  asks : (before after : Numbered) (request : Request) → Requests r next before after (Ok request) → Goes ms s r next
-  extends : (before after : Numbered) (millis : ℕ) (request : Request) → Extends r next before after millis (Ok request) → Goes ms s r next
-  takes : (y : Reply) → Has ms (sent.Reply y) → y.partition ≡ s.0 → y.sequence ≡ s.1 → next ≡ replied r y → Goes ms s r next
-  learns : (done : SeenMeta) (end : Offset) → next ≡ learned r r.phase done end → Goes ms s r next
+pub data Goes (ms : List Sent) (log : Log) (s : Segment) (r next : Consumer) : Type 0 where
+  consumes : (max : ℕ) (now : Moment) → consumed r max now log ≡ Some next → Goes ms log s r next
+  forces : Does (forced r.phase) r next (Ok tt) → Goes ms log s r next
+  stops : Does (stopped r.phase) r next (Ok tt) → Goes ms log s r next
+  builds : Builds r next (Ok tt) → Goes ms log s r next
+  asks : (before after : Numbered) (request : Request) → Requests r next before after (Ok request) → Goes ms log s r next
+  extends : (before after : Numbered) (millis : ℕ) (request : Request) → Extends r next before after millis (Ok request) → Goes ms log s r next
+  takes : (y : Reply) → Has ms (sent.Reply y) → y.partition ≡ s.0 → y.sequence ≡ s.1 → next ≡ replied r y → Goes ms log s r next
+  learns : (done : SeenMeta) (end : Offset) → next ≡ learned r r.phase done end → Goes ms log s r next
 
 -- it was there, has taken a step, or was started
-pub data Came (ms : List Sent) (t : Segments) (s : Segment) (next : Consumer) : Type 0 where
-  stays : Has t.entries (at s (Replica next)) → Came ms t s next
-  steps : (r : Consumer) → Has t.entries (at s (Replica r)) → Goes ms s r next → Came ms t s next
-  starts : (setup : Setup) (meta : SegMeta) (now : Moment) → next ≡ started_of setup s.0 s.1 meta now → Came ms t s next
+pub data Came (ms : List Sent) (log : Log) (t : Segments) (s : Segment) (next : Consumer) : Type 0 where
+  stays : Has t.entries (at s (Replica next)) → Came ms log t s next
+  steps : (r : Consumer) → Has t.entries (at s (Replica r)) → Goes ms log s r next → Came ms log t s next
+  starts : (setup : Setup) (meta : SegMeta) (now : Moment) → next ≡ started_of setup s.0 s.1 meta now → Came ms log t s next
 
-module _ (ms : List Sent) (t : Segments) where
+module _ (ms : List Sent) (log : Log) (t : Segments) where
   abbrev pub CameEntry : Segment → Entry → Type 0
-  CameEntry s (Replica next) = Came ms t s next
+  CameEntry s (Replica next) = Came ms log t s next
   CameEntry s (Committed c) = Unit {0}
 
   -- so it is of each replica of a table
@@ -90,7 +90,7 @@ module _ (ms : List Sent) (t : Segments) where
   -- ---- a replica's call
 
   pub through_came : (X : Type 0) (x : X) (quiet : Type 0) (call : ReplicaCall X) (new : Segments) (p : Partition) (q : Sequence)
-      → ((r next : Consumer) → call r next (Ok x) → Goes ms (p, q) r next) → Through quiet call t new p q (come X x) → AllCame new
+      → ((r next : Consumer) → call r next (Ok x) → Goes ms log (p, q) r next) → Through quiet call t new p q (come X x) → AllCame new
   through_came X x quiet call new p q own h = by_replica (replica_of t p q) refl h
     where
       same_come : (y : X) → come X x ≡ come X y → y ≡ x
@@ -99,7 +99,7 @@ module _ (ms : List Sent) (t : Segments) where
       not_come : (e : ServerRefused) → come X x ≡ Err e → ⊥
       not_come e is = cc
 
-      by_answer : (r next : Consumer) (answer : Result X ReplicaRefused) → call r next answer → come X x ≡ answered_as answer → Goes ms (p, q) r next
+      by_answer : (r next : Consumer) (answer : Result X ReplicaRefused) → call r next answer → come X x ≡ answered_as answer → Goes ms log (p, q) r next
       by_answer r next (Ok y) does told = own r next (subst (λ (z : X). call r next (Ok z)) (same_come y told) does)
       by_answer r next (Err e) does told = absurd (not_come _ told)
 
@@ -157,40 +157,40 @@ module _ (ms : List Sent) (t : Segments) where
 
 -- ---- a call of a server
 
-module _ (ms : List Sent) (before after : Meaning) (old new : ServerState) where
+module _ (ms : List Sent) (log : Log) (before after : Meaning) (old new : ServerState) where
   abbrev ServerCame : ServerState → Type 0
-  ServerCame s = AllCame ms old.table s.table
+  ServerCame s = AllCame ms log old.table s.table
 
   pub transits_came : (p : Partition) (q : Sequence) (now : Moment) (result : Result ReplicaState ServerRefused) → Transits before after old new p q now result
       → ServerCame new
   transits_came p q now result h = by_due (transit_due old.table p q) h
     where
       by_target : (o : Option Mode) → TransitsTo o before after old new p q now result → ServerCame new
-      by_target None k = subst ServerCame (sym k.2) (left_came ms old.table old.setup p q now)
+      by_target None k = subst ServerCame (sym k.2) (left_came ms log old.table old.setup p q now)
       by_target (Some m) k =
-          comes_keep ServerCame old new (stepped_by old (transited old.setup old.table p q now m k.0)) result (all_stay ms old.table)
+          comes_keep ServerCame old new (stepped_by old (transited old.setup old.table p q now m k.0)) result (all_stay ms log old.table)
           (λ x step.
           let moves = stepped old new p q now m (metadata_in k.0) x step in
-          subst ServerCame (sym moves.2) (transition_came ms old.table old.setup p q now m moves.0)) k.2
+          subst ServerCame (sym moves.2) (transition_came ms log old.table old.setup p q now m moves.0)) k.2
 
       by_due : (b : Bool) → TransitsIf b before after old new p q now result → ServerCame new
       by_due true k = by_target (target_of old.table p q) k
-      by_due false k = subst ServerCame (sym k.2) (all_stay ms old.table)
+      by_due false k = subst ServerCame (sym k.2) (all_stay ms log old.table)
 
   pub sees_came : (result : Result ℕ ServerRefused) → SeesIdeal before after old new result → ServerCame new
   sees_came result h =
-      comes_keep ServerCame old new (seen_by old h.0) result (all_stay ms old.table)
-      (λ version step. let k = saw old new (answered_by h.0) version step in subst ServerCame (sym k.2) (all_stay ms old.table)) h.2
+      comes_keep ServerCame old new (seen_by old h.0) result (all_stay ms log old.table)
+      (λ version step. let k = saw old new (answered_by h.0) version step in subst ServerCame (sym k.2) (all_stay ms log old.table)) h.2
 
   pub restarts_came : (result : Result ℕ ServerRefused) → Restarts before after old new result → ServerCame new
   restarts_came result h =
-      comes_keep ServerCame old new (restarted_by old h.0) result (all_stay ms old.table)
-      (λ version step. let k = came old new (answered_by h.0) version step in subst ServerCame (sym k.3) (all_stay ms old.table)) h.2
+      comes_keep ServerCame old new (restarted_by old h.0) result (all_stay ms log old.table)
+      (λ version step. let k = came old new (answered_by h.0) version step in subst ServerCame (sym k.3) (all_stay ms log old.table)) h.2
 
-pub downloads_came : (ms : List Sent) (before after : DeepMeaning) (schema : Schema) (old new : Segments) (p : Partition) (q : Sequence) (result : Result ℕ ServerRefused)
-    → Downloads before after schema old new p q result → AllCame ms old new
-downloads_came ms before after schema old new p q result h = by_entry (committed_at (entry_of old p q)) h
+pub downloads_came : (ms : List Sent) (log : Log) (before after : DeepMeaning) (schema : Schema) (old new : Segments) (p : Partition) (q : Sequence) (result : Result ℕ ServerRefused)
+    → Downloads before after schema old new p q result → AllCame ms log old new
+downloads_came ms log before after schema old new p q result h = by_entry (committed_at (entry_of old p q)) h
   where
-    by_entry : (o : Option CommittedSegment) → DownloadsAt o before after schema old new p q result → AllCame ms old new
-    by_entry None k = none_else ms old new k.2
-    by_entry (Some c) k = subst (AllCame ms old) (sym k.2) (put_came ms old p q (Committed k.0) tt)
+    by_entry : (o : Option CommittedSegment) → DownloadsAt o before after schema old new p q result → AllCame ms log old new
+    by_entry None k = none_else ms log old new k.2
+    by_entry (Some c) k = subst (AllCame ms log old) (sym k.2) (put_came ms log old p q (Committed k.0) tt)

@@ -1,10 +1,9 @@
--- In each world of a run each CATCH_UP names an offset within the log, and a replica was told to drop its rows only where its segment has
--- ended, or where its instance has nothing of it to consume.
-use Rattle.std.proofs.Common.{◌≡◌, arith, ℕ, ◌⊎◌, inl, inr, false, List, [], ◌∷◌, ◌++◌, Option, Some, None, Ok, refl, sym, ◌∙◌, ap, subst, slice_get, length}
+-- In each world of a run each CATCH_UP names an offset that a replica can come to, and a replica was told to drop its rows only where its
+-- segment has ended, or where its instance has nothing of it to consume.
+use Rattle.std.proofs.Common.{◌≡◌, ℕ, ◌⊎◌, inl, inr, false, List, [], ◌∷◌, ◌++◌, Option, Some, None, Ok, refl, sym, ◌∙◌, ap, subst, slice_get, length}
 use Rattle.std.proofs.lemmas.Option.{none-some}
 use Rattle.rt_base.specs.declared.numbers.ControllerId.{ControllerId}
 use Rattle.rt_base.specs.declared.numbers.Instance.{Instance}
-use Rattle.rt_base.specs.declared.numbers.Offset.{Offset}
 use Rattle.rt_base.specs.declared.numbers.Partition.{Partition}
 use Rattle.rt_base.specs.declared.numbers.Sequence.{Sequence}
 use Rattle.rt_commit.specs.Job.{commits}
@@ -49,7 +48,6 @@ use Rattle.rt_past.specs.IsPast.{IsPast}
 use Rattle.rt_past.specs.Past.{Grows, Past}
 use Rattle.rt_past.specs.Requests.{IsRequest}
 use Rattle.rt_past.specs.Segments.{HadEntry}
-use Rattle.rt_past.proofs.Growth.{length_grows}
 use Rattle.rt_past.proofs.Ways.{no_reply, no_request, one_reply}
 use Rattle.rt_safety.proofs.Spares.{spares, Spares}
 use Rattle.rt_safety.proofs.Ways.{is_free, leaving, IsFree, Leaving}
@@ -72,9 +70,12 @@ use Rattle.rt_world.proofs.KeepsMessages.{request_sent}
 use Rattle.rt_world.specs.Step.{way_of}
 use Rattle.rt_world.specs.Way.{Goes, Way}
 use Rattle.rt_world.specs.Way as way
-use Rattle.rt_heal.specs.Dropped.{AreToldSo, IsOut, IsReached, IsToldSo, NoneConsumes}
+use Rattle.rt_heal.specs.Dropped.{AreToldSo, IsOut, IsToldSo, NoneConsumes}
+use Rattle.rt_heal.specs.Reachable.{ComesTo}
 use Rattle.rt_heal.proofs.Answered.{goes_weaker, goes_with, IsAnswered, IsHandedOut, request_answers}
+use Rattle.rt_heal.proofs.MachineRuns.{AllNodesReach, AreAskedSo}
 use Rattle.rt_heal.proofs.Processed.{stop_processed}
+use Rattle.rt_heal.proofs.Reaching.{comes_grows}
 use Rattle.rt_heal.proofs.Stopping.{stays_none}
 use Rattle.rt_heal.proofs.TurnedRuns.{stepped_writes}
 
@@ -90,27 +91,24 @@ module _ (setup : Setup) (a b : Past) (right : IsPast setup a) (after : IsPast s
   out_grows p q i had (inr none) =
       inr (stays_none (starting_of setup) a.history b.history p q i grows.history right.lawful after.lawful had none)
 
-  pub reached_grows : (p : Partition) (x : Offset) → IsReached a p x → IsReached b p x
-  reached_grows p x reached = omega (arith, reached, length_grows a.log b.log p grows.log)
-
-  told_grows : (q : Request) (s : ReplyStatus) → Has a.sent (sent.Request q) → IsToldSo a q s → IsToldSo b q s
+  told_grows : (q : Request) (s : ReplyStatus) → Has a.sent (sent.Request q) → IsToldSo setup a q s → IsToldSo setup b q s
   told_grows q s has told =
-      goes_weaker (IsReached a q.partition) (BecameFinal a.history q.partition q.sequence.0)
+      goes_weaker (ComesTo setup a q.partition q.sequence) (BecameFinal a.history q.partition q.sequence.0)
       (q.kind ≡ kind.Stopped → IsOut a.history q.partition q.sequence q.number.instance)
-      (IsReached b q.partition) (BecameFinal b.history q.partition q.sequence.0)
+      (ComesTo setup b q.partition q.sequence) (BecameFinal b.history q.partition q.sequence.0)
       (q.kind ≡ kind.Stopped → IsOut b.history q.partition q.sequence q.number.instance) s
-      (reached_grows q.partition) (final_grows a.history b.history q.partition q.sequence.0 grows.history)
+      (λ x. comes_grows setup a b q.partition q.sequence x grows) (final_grows a.history b.history q.partition q.sequence.0 grows.history)
       (λ out k. out_grows q.partition q.sequence q.number.instance (right.requests q has).entered (out k)) told
 
   -- what is answered at once is so, since what has ended has
-  answered_told : (q : Request) (is : IsRequest setup a q) (s : ReplyStatus) → IsAnswered setup a q is s → IsToldSo b q s
+  answered_told : (q : Request) (is : IsRequest setup a q) (s : ReplyStatus) → IsAnswered setup a q is s → IsToldSo setup b q s
   answered_told q is s answered =
       let on = final_grows a.history b.history q.partition q.sequence.0 grows.history in
-      goes_weaker (IsReached a q.partition) (BecameFinal a.history q.partition q.sequence.0)
+      goes_weaker (ComesTo setup a q.partition q.sequence) (BecameFinal a.history q.partition q.sequence.0)
       (q.kind ≡ kind.Stopped → BecameFinal a.history q.partition q.sequence.0)
-      (IsReached b q.partition) (BecameFinal b.history q.partition q.sequence.0)
+      (ComesTo setup b q.partition q.sequence) (BecameFinal b.history q.partition q.sequence.0)
       (q.kind ≡ kind.Stopped → IsOut b.history q.partition q.sequence q.number.instance) s
-      (reached_grows q.partition) on (λ final k. inl (on (final k))) answered
+      (λ x. comes_grows setup a b q.partition q.sequence x grows) on (λ final k. inl (on (final k))) answered
 
   -- the request that was answered was sent before
   asked_before : (q : Request) (r : Reply) → Has a.sent (sent.Reply r) → Has b.sent (sent.Request q) → q.number ≡ r.number → Has a.sent (sent.Request q)
@@ -120,7 +118,8 @@ module _ (setup : Setup) (a b : Past) (right : IsPast setup a) (after : IsPast s
       let one = after.unique y.request q (Has-front a.sent b.sent (sent.Request y.request) grows.sent y.was_sent) asked (number ∙ sym same) in
       subst (λ (x : Request). Has a.sent (sent.Request x)) one y.was_sent
 
-  old_told : AreToldSo a → (q : Request) (r : Reply) → Has b.sent (sent.Request q) → Has a.sent (sent.Reply r) → q.number ≡ r.number → IsToldSo b q r.status
+  old_told : AreToldSo setup a → (q : Request) (r : Reply) → Has b.sent (sent.Request q) → Has a.sent (sent.Reply r) → q.number ≡ r.number
+      → IsToldSo setup b q r.status
   old_told all q r asked has same =
       let before = asked_before q r has asked same in told_grows q r.status before (all q r before has same)
 
@@ -139,14 +138,14 @@ place_of c j job e = by_place (job_place c.jobs j) e
 -- ---- worlds
 
 module _ (w : State) (x : Next) (s : IsSafeWorld w) (after : IsSafeWorld x.0) (setup : x.0.setup ≡ w.setup) (grows : Grows (past_of w) (past_of x.0))
-    (all : AreToldSo (past_of w)) where
+    (all : AreToldSo w.setup (past_of w)) (requests : AreAskedSo w.setup (past_of w)) (reach : AllNodesReach w.setup (past_of w) w.controllers) where
   abbrev AllTold : Type 0
-  AllTold = AreToldSo (past_of x.0)
+  AllTold = AreToldSo w.setup (past_of x.0)
 
   right : IsPast w.setup (past_of x.0)
   right = subst (λ (z : Setup). IsPast z (past_of x.0)) setup after.safe.past
 
-  old : (q : Request) (r : Reply) → Has x.0.sent (sent.Request q) → Has w.sent (sent.Reply r) → q.number ≡ r.number → IsToldSo (past_of x.0) q r.status
+  old : (q : Request) (r : Reply) → Has x.0.sent (sent.Request q) → Has w.sent (sent.Reply r) → q.number ≡ r.number → IsToldSo w.setup (past_of x.0) q r.status
   old q r asked has same = old_told w.setup (past_of w) (past_of x.0) s.safe.past right grows all q r asked has same
 
   -- no reply is sent
@@ -160,7 +159,7 @@ module _ (w : State) (x : Next) (s : IsSafeWorld w) (after : IsSafeWorld x.0) (s
 
   -- a reply is sent, to a request that was sent before
   replied_told : (y : Reply) → x.0.sent ≡ w.sent ++ sent.Reply y ∷ []
-      → ((q : Request) → Has w.sent (sent.Request q) → q.number ≡ y.number → IsToldSo (past_of x.0) q y.status) → AllTold
+      → ((q : Request) → Has w.sent (sent.Request q) → q.number ≡ y.number → IsToldSo w.setup (past_of x.0) q y.status) → AllTold
   replied_told y more own q r asked has same =
       by_place (Has-push_cases w.sent (sent.Reply y) (sent.Reply r) (subst (λ (ms : List Sent). Has ms (sent.Reply r)) more has))
     where
@@ -168,11 +167,11 @@ module _ (w : State) (x : Next) (s : IsSafeWorld w) (after : IsSafeWorld x.0) (s
       before =
           no_request w.sent y q (Has-push_cases w.sent (sent.Reply y) (sent.Request q) (subst (λ (ms : List Sent). Has ms (sent.Request q)) more asked))
 
-      by_place : Has w.sent (sent.Reply r) ⊎ (sent.Reply y ≡ sent.Reply r) → IsToldSo (past_of x.0) q r.status
+      by_place : Has w.sent (sent.Reply r) ⊎ (sent.Reply y ≡ sent.Reply r) → IsToldSo w.setup (past_of x.0) q r.status
       by_place (inl there) = old q r asked there same
       by_place (inr new) =
           let is = one_reply y r new in
-          subst (λ (z : Reply). IsToldSo (past_of x.0) q z.status) is (own q before (same ∙ ap (λ (z : Reply). z.number) (sym is)))
+          subst (λ (z : Reply). IsToldSo w.setup (past_of x.0) q z.status) is (own q before (same ∙ ap (λ (z : Reply). z.number) (sym is)))
 
   spares_told : (cost : Cost) → Spares w cost x.0 → AllTold
   spares_told cost left = by_sent left.sent
@@ -197,7 +196,7 @@ module _ (w : State) (x : Next) (s : IsSafeWorld w) (after : IsSafeWorld x.0) (s
       replied_told y (ap (λ (n : Next). n.0.sent) is ∙ ap (λ (ms : List Sent). ms ++ sent.Reply y ∷ []) same)
       (λ q asked number.
       let one = s.safe.past.unique r q has asked (sym ends.0 ∙ sym number) in
-      subst (λ (a : Request). IsToldSo (past_of x.0) a y.status) one
+      subst (λ (a : Request). IsToldSo w.setup (past_of x.0) a y.status) one
       (answered_told w.setup (past_of w) (past_of x.0) s.safe.past right grows r own y.status ends.1))
   handed_told z cost r own (handled.Job j) has same is ends = still_told (ap (λ (n : Next). n.0.sent) is ∙ same)
 
@@ -212,13 +211,14 @@ module _ (w : State) (x : Next) (s : IsSafeWorld w) (after : IsSafeWorld x.0) (s
           let left = told_request w.store store w.deep deep n.controller r w.moment y handles in
           let has = request_sent w m r at in
           let own = s.safe.past.requests r has in
-          handed_told (after_step w c n new store deep) cost r own what has refl is
-          (request_answers w.setup (past_of w) r own w.store w.deep n.controller w.moment y refl (s.safe.controllers c.0 n there).over left.made)
+          let right = request_answers w.setup (past_of w) r own (requests r has) n.controller (s.safe.controllers c.0 n there).over.assigned
+          (reach c.0 n there) w.moment w.store w.deep y refl left.made in
+          handed_told (after_step w c n new store deep) cost r own what has refl is right.0
 
   -- ---- a job
 
   stepped_told : (z : State) (cost : Cost) (step : JobStep) (o : Option Reply) → z.sent ≡ w.sent → x ≡ stepped_by z cost step o
-      → ((y : Reply) → o ≡ Some y → (q : Request) → Has w.sent (sent.Request q) → q.number ≡ y.number → IsToldSo (past_of x.0) q y.status) → AllTold
+      → ((y : Reply) → o ≡ Some y → (q : Request) → Has w.sent (sent.Request q) → q.number ≡ y.number → IsToldSo w.setup (past_of x.0) q y.status) → AllTold
   stepped_told z cost step None same is own = still_told (ap (λ (n : Next). n.0.sent) is ∙ same)
   stepped_told z cost step (Some y) same is own =
       replied_told y (ap (λ (n : Next). n.0.sent) is ∙ ap (λ (ms : List Sent). ms ++ sent.Reply y ∷ []) same) (own y refl)
@@ -227,9 +227,9 @@ module _ (w : State) (x : Next) (s : IsSafeWorld w) (after : IsSafeWorld x.0) (s
   ended_told : (c : ControllerId) (n : ControllerNode) (j : ℕ) (new : Controlling) (step : JobStep) (store : Told) (deep : ToldDeep)
       → slice_get w.controllers c.0 ≡ Some n → x.0.store.writes ≡ store.writes
       → Works (means w.store) (means store) (deep_means w.deep) (deep_means deep) n.controller j w.moment new (Ok step)
-      → (y : Reply) → step.reply ≡ Some y → (q : Request) → Has w.sent (sent.Request q) → q.number ≡ y.number → IsToldSo (past_of x.0) q y.status
+      → (y : Reply) → step.reply ≡ Some y → (q : Request) → Has w.sent (sent.Request q) → q.number ≡ y.number → IsToldSo w.setup (past_of x.0) q y.status
   ended_told c n j new step store deep there written works y replied q asked number =
-      goes_with (IsReached (past_of x.0) q.partition) (BecameFinal x.0.store.writes q.partition q.sequence.0)
+      goes_with (ComesTo w.setup (past_of x.0) q.partition q.sequence) (BecameFinal x.0.store.writes q.partition q.sequence.0)
       (q.kind ≡ kind.Stopped → IsOut x.0.store.writes q.partition q.sequence q.number.instance) y.status
       (λ o e. absurd (subst (EndsIn store.writes k.job (MetFault w.store store w.deep deep) step.step) e ends))
       (λ e. absurd (subst (EndsIn store.writes k.job (MetFault w.store store w.deep deep) step.step) e ends))
@@ -290,7 +290,8 @@ module _ (w : State) (x : Next) (s : IsSafeWorld w) (after : IsSafeWorld x.0) (s
 -- ---- a turn
 
 pub turn_told : (w : State) (turn : Turn) (new : State) → IsSafeWorld w → IsSafeWorld new → new.setup ≡ w.setup → Grows (past_of w) (past_of new)
-    → AreToldSo (past_of w) → TurnsTo w turn new → AreToldSo (past_of new)
-turn_told w (happens e o) new s after setup grows all (fits, (cost, due, h)) =
-    goes_told w (new, o) s after setup grows all (way_of w e) cost (is_free w e cost due) (leaving w e cost due) h
-turn_told w passes new s after setup grows all (cost, due, is) = subst (λ (x : State). AreToldSo (past_of x)) (sym is) all
+    → AreToldSo w.setup (past_of w) → AreAskedSo w.setup (past_of w) → AllNodesReach w.setup (past_of w) w.controllers → TurnsTo w turn new
+    → AreToldSo w.setup (past_of new)
+turn_told w (happens e o) new s after setup grows all asked reach (fits, (cost, due, h)) =
+    goes_told w (new, o) s after setup grows all asked reach (way_of w e) cost (is_free w e cost due) (leaving w e cost due) h
+turn_told w passes new s after setup grows all asked reach (cost, due, is) = subst (λ (x : State). AreToldSo w.setup (past_of x)) (sym is) all

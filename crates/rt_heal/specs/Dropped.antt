@@ -1,5 +1,5 @@
 -- Replicas that have dropped their rows, and segments of which an instance has nothing to consume.
-use Rattle.std.specs.Prelude.{◌≡◌, ◌⊎◌, ◌≤◌, false, List, Some, length, slice_get}
+use Rattle.std.specs.Prelude.{◌≡◌, ◌⊎◌, false, List, Some, slice_get}
 use Rattle.rt_base.specs.declared.numbers.Instance.{Instance}
 use Rattle.rt_base.specs.declared.numbers.Offset.{Offset}
 use Rattle.rt_base.specs.declared.numbers.Partition.{Partition}
@@ -19,11 +19,12 @@ use Rattle.rt_model.specs.declared.reply.ReplyStatus.TheVariants as status
 use Rattle.rt_model.specs.declared.request.Request.{Request}
 use Rattle.rt_model.specs.declared.request.RequestKind.TheVariants as kind
 use Rattle.rt_model.specs.declared.sent.Sent.TheVariants as sent
+use Rattle.rt_model.specs.declared.setup.Setup.{Setup}
 use Rattle.rt_nodes.specs.declared.server_node.ServerNode.{ServerNode}
 use Rattle.rt_past.specs.Past.{Past}
 use Rattle.rt_server.specs.Table.{replica_of}
 use Rattle.rt_state.specs.declared.state.State.{State}
-use Rattle.rt_stream.specs.Log.{messages_of}
+use Rattle.rt_heal.specs.Reachable.{ComesTo}
 
 -- the instance has no CONSUMING entry of the segment
 abbrev pub NoneConsumes : List IdealEntry → Partition → Sequence → Instance → Type 0
@@ -50,21 +51,17 @@ GoesWith catches discard processed (status.UploadSuccess path) = Unit {0}
 GoesWith catches discard processed (status.CommitSuccess seen) = Unit {0}
 GoesWith catches discard processed (status.Failed cause) = Unit {0}
 
--- an offset lies within a partition's log
-abbrev pub IsReached : Past → Partition → Offset → Type 0
-IsReached a p x = x.0 ≤ length (messages_of a.log p)
-
--- a request is answered by CATCH_UP to an offset within the log, by DISCARD where its segment has ended, and a stop by PROCESSED where
--- its sender is out
-abbrev pub IsToldSo : Past → Request → ReplyStatus → Type 0
-IsToldSo a q s =
-    GoesWith (IsReached a q.partition) (BecameFinal a.history q.partition q.sequence.0)
+-- a request is answered by CATCH_UP to an offset that a replica can come to, by DISCARD where its segment has ended, and a stop by
+-- PROCESSED where its sender is out
+abbrev pub IsToldSo : Setup → Past → Request → ReplyStatus → Type 0
+IsToldSo setup a q s =
+    GoesWith (ComesTo setup a q.partition q.sequence) (BecameFinal a.history q.partition q.sequence.0)
     (q.kind ≡ kind.Stopped → IsOut a.history q.partition q.sequence q.number.instance) s
 
 -- so it is of each reply, and the request that it answers
-abbrev pub AreToldSo : Past → Type 0
-AreToldSo a =
-    (q : Request) (r : Reply) → Has a.sent (sent.Request q) → Has a.sent (sent.Reply r) → q.number ≡ r.number → IsToldSo a q r.status
+abbrev pub AreToldSo : Setup → Past → Type 0
+AreToldSo setup a =
+    (q : Request) (r : Reply) → Has a.sent (sent.Request q) → Has a.sent (sent.Reply r) → q.number ≡ r.number → IsToldSo setup a q r.status
 
 -- ---- replicas
 

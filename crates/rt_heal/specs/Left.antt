@@ -1,6 +1,6 @@
 -- What is left to do for replicas until they ask or rest: messages to take, and steps.
-use Rattle.std.specs.Prelude.{ℕ, ◌+◌, ◌-◌, ◌≤◌, ◌≡◌, List, [], ◌∷◌, Some, length, slice_get}
-use Rattle.rt_base.specs.declared.limits.TheConstants.{MOST_ROWS}
+use Rattle.std.specs.Prelude.{ℕ, ◌+◌, ◌-◌, ◌≡◌, List, [], ◌∷◌, Some, length, slice_get}
+use Rattle.rt_base.specs.declared.numbers.Offset.{Offset}
 use Rattle.rt_consumer.specs.declared.consumer.Consumer.{Consumer}
 use Rattle.rt_consumer.specs.declared.phase.Phase.{Phase}
 use Rattle.rt_consumer.specs.declared.phase.Phase.TheVariants as phase
@@ -13,6 +13,7 @@ use Rattle.rt_nodes.specs.declared.server_node.ServerNode.{ServerNode}
 use Rattle.rt_server.specs.Table.{Segment}
 use Rattle.rt_state.specs.declared.state.State.{State}
 use Rattle.rt_stream.specs.Log.{Log, messages_of}
+use Rattle.rt_heal.specs.Reachable.{IsReachable}
 
 -- ---- a replica
 
@@ -38,30 +39,27 @@ left_in (phase.Discarded d) size = 0
 abbrev pub left_of : Log → Consumer → ℕ
 left_of log r = left_in r.phase (length (messages_of log r.partition))
 
--- a target lies within the log, and no more messages past the segment's start than a segment has rows at most
-abbrev pub IsWithin : ℕ → ℕ → ℕ → Type 0
-IsWithin start size target = (target ≤ size) × (target ≤ start + MOST_ROWS)
+-- a target is one that a replica can come to
+abbrev pub CanFollowAt : (Offset → Type 0) → Stage → Type 0
+CanFollowAt Reaches (CatchingUp target reason) = Reaches target
+CanFollowAt Reaches (ConsumingToOnline end done) = Reaches end
+CanFollowAt Reaches InitialConsuming = Unit {0}
+CanFollowAt Reaches (Retaining done) = Unit {0}
+CanFollowAt Reaches (Building reason) = Unit {0}
+CanFollowAt Reaches (Holding reason) = Unit {0}
+CanFollowAt Reaches (Starting reason built) = Unit {0}
+CanFollowAt Reaches (Uploading reason built) = Unit {0}
+CanFollowAt Reaches (Ending reason built path) = Unit {0}
 
-abbrev pub CanFollowAt : Stage → ℕ → ℕ → Type 0
-CanFollowAt (CatchingUp target reason) start size = IsWithin start size target.0
-CanFollowAt (ConsumingToOnline end done) start size = IsWithin start size end.0
-CanFollowAt InitialConsuming start size = Unit {0}
-CanFollowAt (Retaining done) start size = Unit {0}
-CanFollowAt (Building reason) start size = Unit {0}
-CanFollowAt (Holding reason) start size = Unit {0}
-CanFollowAt (Starting reason built) start size = Unit {0}
-CanFollowAt (Uploading reason built) start size = Unit {0}
-CanFollowAt (Ending reason built path) start size = Unit {0}
-
-abbrev pub CanFollowIn : Phase → ℕ → ℕ → Type 0
-CanFollowIn (phase.Unsealed o) start size = CanFollowAt o.stage start size
-CanFollowIn (phase.Retained kept) start size = Unit {0}
-CanFollowIn (phase.Committed kept) start size = Unit {0}
-CanFollowIn (phase.Discarded d) start size = Unit {0}
+abbrev pub CanFollowIn : (Offset → Type 0) → Phase → Type 0
+CanFollowIn Reaches (phase.Unsealed o) = CanFollowAt Reaches o.stage
+CanFollowIn Reaches (phase.Retained kept) = Unit {0}
+CanFollowIn Reaches (phase.Committed kept) = Unit {0}
+CanFollowIn Reaches (phase.Discarded d) = Unit {0}
 
 -- a replica that is sent to a target can come to it
 abbrev pub CanFollow : Log → Consumer → Type 0
-CanFollow log r = CanFollowIn r.phase r.start.0 (length (messages_of log r.partition))
+CanFollow log r = CanFollowIn (IsReachable r.settings.schema (messages_of log r.partition) r.start) r.phase
 
 -- ---- a world
 
@@ -92,14 +90,3 @@ CanFollowEntry log (Committed c) = Unit {0}
 abbrev pub CanAllFollow : State → Type 0
 CanAllFollow w =
     (i : ℕ) (n : ServerNode) → slice_get w.servers i ≡ Some n → (x : Segment × Entry) → Has n.server.table.entries x → CanFollowEntry w.log x.1
-
--- ---- short segments
-
--- no more messages lie past a replica's start than a segment has rows at most
-abbrev pub IsShort : Log → Entry → Type 0
-IsShort log (Replica r) = length (messages_of log r.partition) ≤ r.start.0 + MOST_ROWS
-IsShort log (Committed c) = Unit {0}
-
-abbrev pub AreAllShort : State → Type 0
-AreAllShort w =
-    (i : ℕ) (n : ServerNode) → slice_get w.servers i ≡ Some n → (x : Segment × Entry) → Has n.server.table.entries x → IsShort w.log x.1

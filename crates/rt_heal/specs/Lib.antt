@@ -8,5 +8,6 @@ pub mod Led
 pub mod Left
 pub mod Mended
 pub mod Planned
+pub mod Reachable
 pub mod Resting
 pub mod Turned

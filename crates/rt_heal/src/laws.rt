@@ -33,6 +33,7 @@ ghost use Rattle.rt_model.specs.declared.setup.Setup.{Setup};
 ghost use Rattle.rt_past.specs.IsPast.{IsPast};
 ghost use Rattle.rt_past.specs.Past.{Past};
 ghost use Rattle.rt_past.specs.Segments.{HadEntry};
+ghost use Rattle.rt_state.specs.IsSafe.{past_of};
 ghost use Rattle.rt_state.specs.IsSafeWorld.{IsSafeWorld};
 ghost use Rattle.rt_state.specs.Queries.{IsAnswerOf};
 ghost use Rattle.rt_safety.specs.Runs.{Turn, Leads, Runs};
@@ -50,9 +51,10 @@ ghost use Rattle.rt_heal.specs.Calm.{AreAllCalm};
 ghost use Rattle.rt_heal.specs.Dropped.{AreDroppedOut, IsOut};
 ghost use Rattle.rt_heal.specs.GivenUp.{IsConsumable};
 ghost use Rattle.rt_heal.specs.Led.{IsLed};
-ghost use Rattle.rt_heal.specs.Left.{left_in_world, AreAllShort, CanAllFollow};
+ghost use Rattle.rt_heal.specs.Left.{left_in_world, CanAllFollow};
 ghost use Rattle.rt_heal.specs.Mended.{GoesOn, NeedsNoRepair};
 ghost use Rattle.rt_heal.specs.Planned.{AreOnline, IsGivenWhole, NoneDropped};
+ghost use Rattle.rt_heal.specs.Reachable.{ComesTo};
 ghost use Rattle.rt_heal.specs.Turned.{IsTurned, NoneHalfRetired};
 
 /// Where a repair that begins finds nothing to do, and no grace holds it back, the partition goes on: its committed segments tile
@@ -171,8 +173,8 @@ pub fn at_rest_a_query_is_answered_whole()
 {}
 
 /// Of what is left to a world's replicas until they ask or rest, in messages and steps, each batch that is due for one takes
-/// something, and so does each build. Each replica that is sent to a target can come to it: the target lies within the log, no more
-/// messages past the segment's start than a segment has rows at most.
+/// something, and so does each build. Each replica that is sent to a target can come to it: the target lies within the log, and before
+/// the last message below it come fewer rows than a segment has at most.
 pub fn a_batch_and_a_build_leave_less_to_do()
     ensures consumes { (w y : State) (i : Instance) (p : Partition) (q : Sequence) (max : ℕ) (outcome : Outcome) → IsSafeWorld w
         → CanAllFollow w → 0 < max → is_ready_at w i p q ≡ true → Steps w (Consume i p q max) y (Ok outcome)
@@ -181,21 +183,21 @@ pub fn a_batch_and_a_build_leave_less_to_do()
         → Steps w (Build i p q) y (Ok outcome) → left_in_world y < left_in_world w }
 {}
 
-/// In each world of each run each CATCH_UP names an offset within the log. So each replica that is sent to a target, by CATCH_UP or by a
-/// commit, can come to it, where no more messages lie past its segment's start than a segment has rows at most.
-#[tactic(auto, using(crate::proofs::Following::catches_within, crate::proofs::Following::follows))]
+/// In each world of each run each CATCH_UP names an offset within the log to which a replica of the segment can come: before the last
+/// message below it come fewer rows than a segment has at most, since another one came there. So it is with the end of each commit. So
+/// each replica that is sent to a target, by CATCH_UP or by a commit, can come to it.
 pub fn each_replica_can_come_to_its_target()
     ensures catches { (setup : Setup) (turns : List Turn) (w : State) (r : Reply) (x : Offset) → IsSetup setup → Runs setup turns w
         → Has w.sent (sent.Reply r) → r.status ≡ CatchUp x → x.0 ≤ length (messages_of w.log r.partition) }
-    ensures follows { (setup : Setup) (turns : List Turn) (w : State) → IsSetup setup → Runs setup turns w → AreAllShort w
-        → CanAllFollow w }
+    ensures comes { (setup : Setup) (turns : List Turn) (w : State) (r : Reply) (x : Offset) → IsSetup setup → Runs setup turns w
+        → Has w.sent (sent.Reply r) → r.status ≡ CatchUp x → ComesTo w.setup (past_of w) r.partition r.sequence x }
+    ensures follows { (setup : Setup) (turns : List Turn) (w : State) → IsSetup setup → Runs setup turns w → CanAllFollow w }
 {}
 
 /// Each round of `settle` in which anything happens and no replica asks a controller leaves less to do, whether the run is paused or
 /// not; so `settle` answers `settled` as soon as it has more rounds than there are messages and steps left, unless a replica asks. So
 /// it does in any case where no controller is up. All servers are up and have nothing to move, no fault of the store is planned, and
-/// each replica that is sent to a target can come to it: so it is in a run where no more messages lie past the start of a replica's
-/// segment than a segment has rows at most (`run_rounds`, `run_settles`).
+/// each replica that is sent to a target can come to it: so it is in each world of each run (`run_rounds`, `run_settles`).
 pub fn settle_ends_where_no_replica_asks()
     ensures rounds { (paused : Bool) (w : State) (v : Reached) → IsSafeWorld w → AreUp w → w.store.faults.plan ≡ [] → AreAllCalm w
         → CanAllFollow w → Round paused w v (Ok true) → Asks w v ⊎ (left_in_world v.world < left_in_world w) }
@@ -203,9 +205,9 @@ pub fn settle_ends_where_no_replica_asks()
         → w.store.faults.plan ≡ [] → AreAllCalm w → CanAllFollow w → left_in_world w < rounds
         → Settles paused rounds w v (Ok settled) → Asks w v ⊎ (settled ≡ true) }
     ensures run_rounds { (setup : Setup) (turns : List Turn) (paused : Bool) (w : State) (v : Reached) → IsSetup setup
-        → Runs setup turns w → AreUp w → w.store.faults.plan ≡ [] → AreAllCalm w → AreAllShort w → Round paused w v (Ok true)
+        → Runs setup turns w → AreUp w → w.store.faults.plan ≡ [] → AreAllCalm w → Round paused w v (Ok true)
         → Asks w v ⊎ (left_in_world v.world < left_in_world w) }
     ensures run_settles { (setup : Setup) (turns : List Turn) (paused : Bool) (rounds : ℕ) (w : State) (v : Reached) (settled : Bool)
-        → IsSetup setup → Runs setup turns w → AreUp w → w.store.faults.plan ≡ [] → AreAllCalm w → AreAllShort w
+        → IsSetup setup → Runs setup turns w → AreUp w → w.store.faults.plan ≡ [] → AreAllCalm w
         → left_in_world w < rounds → Settles paused rounds w v (Ok settled) → Asks w v ⊎ (settled ≡ true) }
 {}
