@@ -46,7 +46,7 @@ use Rattle.rt_heal.proofs.Seeing.{HasSeen, IsHealthy, same_leader, see_healthy, 
 
 -- a world in which all servers are up and have nothing to move, no fault of the store is planned, and each replica that is sent to a
 -- target can come to it
-record IsSteady (w : State) : Type 0 where
+pub record IsSteady (w : State) : Type 0 where
   pub safe : IsSafeWorld w
   pub unplanned : w.store.faults.plan ≡ []
   pub up : AreUp w
@@ -54,11 +54,11 @@ record IsSteady (w : State) : Type 0 where
   pub follow : CanAllFollow w
 
 -- no more is left, and less if it is told that something happened and wasn't before
-record HasLeft (w : State) (busy : Bool) (v : State) (told : Bool) : Type 0 where
-  steady : IsSteady v
-  controllers : v.controllers ≡ w.controllers
-  most : left_in_world v ≤ left_in_world w
-  less : told ≡ true → (busy ≡ true) ⊎ (left_in_world v < left_in_world w)
+pub record HasLeft (w : State) (busy : Bool) (v : State) (told : Bool) : Type 0 where
+  pub steady : IsSteady v
+  pub controllers : v.controllers ≡ w.controllers
+  pub most : left_in_world v ≤ left_in_world w
+  pub less : told ≡ true → (busy ≡ true) ⊎ (left_in_world v < left_in_world w)
 
 left_still : (w : State) (busy : Bool) (v : Reached) (told : Bool) → IsSteady w → v ≡ stays w → told ≡ busy → HasLeft w busy v.world told
 left_still w busy v told k stayed same =
@@ -113,13 +113,13 @@ event_left event busy w v told k steps t = by_told t.between t.told t.last t.cam
 -- ---- several things
 
 -- a replica asks, or no more is left
-abbrev AsksOrLeaves : State → Bool → Reached → Bool → Type 0
+abbrev pub AsksOrLeaves : State → Bool → Reached → Bool → Type 0
 AsksOrLeaves w busy v told = Asks w v ⊎ HasLeft w busy v.world told
 
 still : (w : State) (busy : Bool) (v : Reached) (told : Bool) → IsSteady w → v ≡ stays w → told ≡ busy → AsksOrLeaves w busy v told
 still w busy v told k same e = inr (left_still w busy v told k same e)
 
-asks_first : (w : State) (b l v : Reached) → v ≡ after b.turns l → Asks w b → Asks w v
+pub asks_first : (w : State) (b l v : Reached) → v ≡ after b.turns l → Asks w b → Asks w v
 asks_first w b l v whole a =
     record {
       led = a.led;
@@ -132,7 +132,7 @@ asks_first w b l v whole a =
           (Has-append_left b.turns l.turns (happens (Report a.instance a.partition a.sequence) a.outcome) a.asks);
     }
 
-asks_behind : (w : State) (b l v : Reached) → v ≡ after b.turns l → b.world.controllers ≡ w.controllers → Asks b.world l → Asks w v
+pub asks_behind : (w : State) (b l v : Reached) → v ≡ after b.turns l → b.world.controllers ≡ w.controllers → Asks b.world l → Asks w v
 asks_behind w b l v whole same a =
     record {
       led = (a.led.0, sym (same_leader b.world w same) ∙ a.led.1);
@@ -156,7 +156,7 @@ both w b l v busy mid told whole (inr x) further = by_last (further x.steady)
         inr (subst (λ (z : State). HasLeft w busy z told) (sym (ap (λ (z : Reached). z.world) whole)) (left_then w b.world l.world busy mid told x y))
 
 -- whatever it tells
-abbrev Lowers : (Bool → Act Bool) → Type 0
+abbrev pub Lowers : (Bool → Act Bool) → Type 0
 Lowers act = (busy : Bool) (w : State) (v : Reached) (told : Bool) → IsSteady w → act busy w v (Ok told) → AsksOrLeaves w busy v told
 
 then_lowers : (first behind act : Bool → Act Bool) → Lowers first → Lowers behind
@@ -250,7 +250,7 @@ held_lowers paused i busy w v told k h = by_up (is_server_up w (record { 0 = i }
         each_lowers (ReplicaTurn paused (record { 0 = i })) (replica_lowers paused (record { 0 = i })) (held_in w (record { 0 = i })) busy w v told k g
     by_up false g = still w busy v told k g.0 (told_same told busy g.1)
 
-replicas_lower : (paused : Bool) (count : ℕ) → Lowers (EachFrom (ReplicasTurn paused) 0 count)
+pub replicas_lower : (paused : Bool) (count : ℕ) → Lowers (EachFrom (ReplicasTurn paused) 0 count)
 replicas_lower paused count = from_lowers (ReplicasTurn paused) (held_lowers paused) 0 count
 
 -- ---- the first part of a round
@@ -405,7 +405,7 @@ round_less paused w v safe up unplanned calm follow h =
     by_way (inr x) = inr (less_told w v.world x)
 
 -- and so many rounds come to one in which nothing happens
-settles_in : (paused : Bool) (rounds : ℕ) (w : State) (v : Reached) (settled : Bool) → IsSteady w → left_in_world w < rounds
+pub settles_in : (paused : Bool) (rounds : ℕ) (w : State) (v : Reached) (settled : Bool) → IsSteady w → left_in_world w < rounds
     → SettlesIn paused rounds w v (Ok settled) → Asks w v ⊎ (settled ≡ true)
 settles_in paused zero w v settled k few h = absurd (omega (arith, few))
 settles_in paused (suc rounds) w v settled k few h =

@@ -2,6 +2,8 @@ pub mod Answered
 pub mod Asked
 pub mod AskedRuns
 pub mod Asking
+pub mod Calming
+pub mod Clearing
 pub mod Dropped
 pub mod Following
 pub mod GivenUp

@@ -75,7 +75,7 @@ use Rattle.rt_heal.proofs.GivenUp.{consumable}
 
 -- ---- look-ups of a segment
 
-found_set : (test : Segment → Bool) (es : List (Segment × Entry)) (old new : Entry) → lookup test es ≡ Some old → lookup test (set_value test es new) ≡ Some new
+pub found_set : (test : Segment → Bool) (es : List (Segment × Entry)) (old new : Entry) → lookup test es ≡ Some old → lookup test (set_value test es new) ≡ Some new
 found_set test [] old new found = absurd (none-some old found)
 found_set test (e ∷ es) old new found = by_test (test e.0) refl found (found_set test es old new)
   where
@@ -98,7 +98,7 @@ gone_found s (e ∷ es) up = by_test (is_segment s.0 s.1 e.0) refl (gone_found s
 -- ---- a transition
 
 -- what a commit makes of an entry isn't left any more
-told_shut : (e : Entry) (done : SeenMeta) (end : Offset) → is_open_entry (told e done end) ≡ false
+pub told_shut : (e : Entry) (done : SeenMeta) (end : Offset) → is_open_entry (told e done end) ≡ false
 told_shut (Replica r) done end = by_phase r.phase (learns_in r.phase && nat_le (cur r).0 end.0) refl
   where
     unlearned : (b c : Bool) → c ≡ true → (false && b) ≡ c → ⊥
@@ -170,7 +170,7 @@ module _ (setup : Setup) (t : Segments) (p : Partition) (q : Sequence) (now : Mo
   moved_shut mode.Online (Some seen) can = online_shut seen seen.meta.status can
 
   -- the targets stay
-  abbrev KeepsTargets : Segments → Type 0
+  abbrev pub KeepsTargets : Segments → Type 0
   KeepsTargets u = u.targets ≡ t.targets
 
   status_targets : (seen : SeenMeta) (st : Status) → KeepsTargets (moved_by setup t p q now seen st).1
@@ -190,7 +190,7 @@ module _ (setup : Setup) (t : Segments) (p : Partition) (q : Sequence) (now : Mo
   to_targets None = refl
   to_targets (Some seen) = status_targets seen seen.meta.status
 
-  moved_targets : (m : Mode) (seen : Option SeenMeta) → KeepsTargets (transition setup t p q now m seen).1
+  pub moved_targets : (m : Mode) (seen : Option SeenMeta) → KeepsTargets (transition setup t p q now m seen).1
   moved_targets mode.Offline seen = refl
   moved_targets mode.Consuming seen = to_targets seen
   moved_targets mode.Online seen = to_targets seen
@@ -318,7 +318,7 @@ module _ (w : State) (s : IsSafeWorld w) (i : Instance) (n : ServerNode) (there 
 
   -- ---- what it comes to
 
-  abbrev Shut : ServerState → Type 0
+  abbrev pub Shut : ServerState → Type 0
   Shut x = transit_due x.table p q ≡ false
 
   module _ (u : Told) (new : ServerState) (o : Outcome) where
@@ -350,7 +350,7 @@ module _ (w : State) (s : IsSafeWorld w) (i : Instance) (n : ServerNode) (there 
     due_shut true is result h told_it = target_shut (target_of t p q) refl result h told_it
     due_shut false is result h told_it = subst Shut (sym h.2) is
 
-  event_shut : (y : State) (o : Outcome) → Steps w (Transit i p q) y (Ok o) → (m : ServerNode) → slice_get y.servers i.0 ≡ Some m → Shut m.server
+  pub event_shut : (y : State) (o : Outcome) → Steps w (Transit i p q) y (Ok o) → (m : ServerNode) → slice_get y.servers i.0 ≡ Some m → Shut m.server
   event_shut y o (cost, due, h) m here =
       let k = subst (λ (x : Option ServerNode). ServerCallsAt x w i (NodeMoves p q w.moment) cost (y, o)) there h in
       let now : slice_get y.servers i.0 ≡ Some k.0 = ap (λ (x : State). slice_get x.servers i.0) k.3 ∙ own_slot w.servers i.0 n k.0 there in

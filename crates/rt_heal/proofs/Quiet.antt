@@ -251,14 +251,14 @@ download_quiet i s busy w v h =
     let a = attempt_quiet (Download i s.0 s.1) busy w v h in record { same = a.same; unbusy = a.unbusy; so = a.refused }
 
 -- servers below a number are calm
-abbrev AreCalm : ℕ → State → Type 0
+abbrev pub AreCalm : ℕ → State → Type 0
 AreCalm first w = (i : ℕ) (n : ServerNode) → slice_get w.servers i ≡ Some n → i < first → IsCalm w.store.writes n
 
 record IsCalmUpTo (from : State) (first : ℕ) (y : State) : Type 0 where
   healthy : IsHealthy from y
   calm : AreCalm first y
 
-abbrev GoesOn : ℕ → Bool → Act Bool
+abbrev pub GoesOn : ℕ → Bool → Act Bool
 GoesOn i busy x = Then (Passed (See (record { 0 = i }))) (λ done. TransitsAndDownloads (record { 0 = i }) busy) x
 
 -- the turn of a server that is up: it saw the ideal state, and had nothing else to do

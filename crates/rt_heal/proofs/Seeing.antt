@@ -57,7 +57,7 @@ pub record IsHealthy (from w : State) : Type 0 where
   pub reached : (turns : List Turn) × Leads from turns w
 
 -- by a turn more
-leads_more : (from : State) (turns : List Turn) (w y : State) (t : Turn) → Leads from turns w → TurnsTo w t y → Leads from (turns ++ t ∷ []) y
+pub leads_more : (from : State) (turns : List Turn) (w y : State) (t : Turn) → Leads from turns w → TurnsTo w t y → Leads from (turns ++ t ∷ []) y
 leads_more from [] w y t same turn = (y, subst (λ (x : State). TurnsTo x t y) same turn, refl)
 leads_more from (u ∷ us) w y t (next, first, rest) turn = (next, first, leads_more next us w y t rest turn)
 

@@ -1,5 +1,5 @@
 //! What is whole once there is nothing left to do. Each law stands on a function that does nothing: its clause is the law.
-ghost use Rattle.std.specs.Prelude.{◌≡◌, ◌<◌, ◌≤◌, ◌⊎◌, ℕ, Bool, List, [], Some, Ok, length, slice_get, true, false};
+ghost use Rattle.std.specs.Prelude.{◌≡◌, ◌+◌, ◌<◌, ◌≤◌, ◌⊎◌, ℕ, Bool, List, [], Some, Ok, length, slice_get, true, false};
 ghost use Rattle.rt_base.specs.declared.numbers.Instance.{Instance};
 ghost use Rattle.rt_base.specs.declared.numbers.Moment.{Moment};
 ghost use Rattle.rt_base.specs.declared.numbers.Offset.{Offset};
@@ -210,4 +210,18 @@ pub fn settle_ends_where_no_replica_asks()
     ensures run_settles { (setup : Setup) (turns : List Turn) (paused : Bool) (rounds : ℕ) (w : State) (v : Reached) (settled : Bool)
         → IsSetup setup → Runs setup turns w → AreUp w → w.store.faults.plan ≡ [] → AreAllCalm w
         → left_in_world w < rounds → Settles paused rounds w v (Ok settled) → Asks w v ⊎ (settled ≡ true) }
+{}
+
+/// From any world of a run on in which all servers are up and no fault of a store is planned, one round of `settle` leaves each server
+/// calm, unless a replica asks in it: it has seen the present ideal state, and has nothing to move and no file to get. So `settle`
+/// answers `settled` there as soon as it has two rounds more than there are messages and steps left behind its first, unless a replica
+/// asks a controller.
+pub fn a_round_leaves_all_servers_calm()
+    ensures calms { (setup : Setup) (turns : List Turn) (paused : Bool) (w : State) (v : Reached) (told : Bool) → IsSetup setup
+        → Runs setup turns w → AreUp w → w.store.faults.plan ≡ [] → w.deep.faults.plan ≡ [] → Round paused w v (Ok told)
+        → Asks w v ⊎ AreAllCalm v.world }
+    ensures settles { (setup : Setup) (turns : List Turn) (paused : Bool) (rounds : ℕ) (w : State) (u : Reached) (settled : Bool)
+        → IsSetup setup → Runs setup turns w → AreUp w → w.store.faults.plan ≡ [] → w.deep.faults.plan ≡ []
+        → ((v : Reached) (told : Bool) → Round paused w v (Ok told) → left_in_world v.world + 1 < rounds)
+        → Settles paused rounds w u (Ok settled) → Asks w u ⊎ (settled ≡ true) }
 {}
