@@ -10,6 +10,7 @@ mod Merges
 pub mod Orders
 mod Places
 pub mod Results
+pub mod Shorts
 mod Showing
 mod Slots
 mod Sorting

@@ -1,11 +1,14 @@
 -- The sorted results of groups that hold some rows are the ordered results of these rows.
-use Rattle.std.proofs.Common.{◌≡◌, ℕ, zero, suc, ◌+◌, ◌<◌, Bool, true, false, inl, inr, List, [], ◌∷◌, ◌++◌, length, map, take, drop, get_or, Option, Some, None, refl, sym, ap, ◌∙◌, subst, true≢false, arith, Contains}
-use Rattle.std.specs.Prelude.{if◌then◌else◌, is_some, unwrap_or, slice_get, option_and_then, option_map}
-use Rattle.std.proofs.lemmas.List.{drop-map, take-map, length-map, map-append}
+use Rattle.std.proofs.Common.{◌≡◌, ℕ, zero, suc, ◌+◌, ◌-◌, ◌<◌, min, All, Bool, true, false, inl, inr, List, [], ◌∷◌, ◌++◌, length, map, take, drop, get_or, Option, Some, None, refl, sym, ap, ◌∙◌, subst, true≢false, arith, Contains}
+use Rattle.std.specs.Prelude.{if◌then◌else◌, is_some, option_and_then, option_map}
+use Rattle.std.proofs.lemmas.Cmp.{tied_itself}
+use Rattle.std.proofs.lemmas.List.{drop-map, take-map, length-map, same_lists}
+use Rattle.std.proofs.lemmas.List.Elements.{All-head, All-tail}
+use Rattle.std.proofs.lemmas.List.FromFn.{get_or-map-range_with_len, length-map-range_with_len}
 use Rattle.std.proofs.lemmas.List.Sorted.{IsPermutation-map, IsPermutation-sym, Contains-permutation}
 use Rattle.std.proofs.lemmas.Map.Keys.{IsDistinct-IsPermutation}
 use Rattle.std.proofs.lemmas.Map.Views.{lookup-from_Contains, Contains-from_lookup}
-use Rattle.std.specs.List.{AllByRecursion, IsDistinct}
+use Rattle.std.specs.List.{AllByRecursion, IsDistinct, range_with_len}
 use Rattle.std.specs.List.Sorted.{IsPermutation, IsSortedBy}
 use Rattle.std.specs.Map.{keys_of}
 use Rattle.std.specs.declared.cmp.Ordering.{Ordering}
@@ -24,11 +27,10 @@ use Rattle.rt_model.specs.declared.query_parts.OrderKey.{OrderKey}
 use Rattle.rt_model.specs.Aggregate.{Result, cell_of, cell_if, group_of, keys_of as row_keys, result_of, results_of, result_cmp, ordered, least_of, greatest_of}
 use Rattle.rt_model.specs.Values.{key_cmp}
 use Rattle.rt_agg.specs.Accumulator.{Accumulator}
-use Rattle.rt_agg.specs.declared.result.Ranked.{Ranked}
 use Rattle.rt_agg.specs.declared.scalar.Scalar.{Scalar}
 use Rattle.rt_agg.specs.Accumulators.{cell_in, known_of, scalar_cell, ordering_items, all_known_of}
 use Rattle.rt_agg.specs.Grouped.{Grouped, Finishes, Holds, FitsItem, Fits, same_key, known_at, makes_group}
-use Rattle.rt_agg.specs.Ranking.{shown, result_at}
+use Rattle.rt_agg.specs.Ranking.{ranked_at, ranked_within, result_at}
 use Rattle.rt_agg.specs.Reading.{scalar_of, value_from}
 use Rattle.rt_agg.proofs.Appends.{Reads, back_to, least_scalar, greatest_scalar, least_read, greatest_read, heads}
 use Rattle.rt_agg.proofs.Finishing.{row_keys_ascend, row_keys_has, row_keys_makes, ordered_ascends, has_ordered, ordered_has}
@@ -189,10 +191,10 @@ module _ (query : Query) (rows : List Row) (g : Grouped) (h : Holds query rows g
       subst (Has (map (result_at width) g.groups)) (known_result k.0 ∙ k.2)
       (map_has (result_at width) g.groups (k.0, its_known k.0) (has_contains g.groups there.0 (k.0, its_known k.0) there.1 there.2))
 
-  pub results_same : (first sorted : List Ranked) → map shown first ≡ map (result_at width) g.groups → IsPermutation first sorted
+  pub results_same : {X : Type 0} (shown : X → Result) (first sorted : List X) → map shown first ≡ map (result_at width) g.groups → IsPermutation first sorted
       → IsSortedBy (λ a b. is_lt (result_cmp g.order (shown a) (shown b))) sorted
       → map shown sorted ≡ ordered query.order (results_of query rows)
-  results_same first sorted all moved up =
+  results_same shown first sorted all moved up =
       let moved' : IsPermutation (map (result_at width) g.groups) (map shown sorted) =
       subst (λ rs. IsPermutation rs (map shown sorted)) all (IsPermutation-map shown first sorted moved) in
       let cmp = result_cmp query.order in
@@ -225,18 +227,19 @@ module _ (query : Query) (rows : List Row) (g : Grouped) (h : Holds query rows g
       (λ z has. ordered_has query.order wanted z (to_results z (has_ordered query.order given z has)))
       (λ z has. ordered_has query.order given z (from_results z (has_ordered query.order wanted z has)))
 
-shown_rows : (all : List Ranked) → map (λ r. r.row) all ≡ map (λ r. r.row) (map shown all)
-shown_rows [] = refl
-shown_rows (r ∷ all) = ap (λ t. r.row ∷ t) (shown_rows all)
+module _ {X : Type 0} (shown : X → Result) where
+  shown_rows : (all : List X) → map (λ x. (shown x).row) all ≡ map (λ r. r.row) (map shown all)
+  shown_rows [] = refl
+  shown_rows (x ∷ all) = ap (λ t. (shown x).row ∷ t) (shown_rows all)
 
--- the rows of the first of the sorted results are the answer
-pub finishes_from : (g : Grouped) (first sorted : List Ranked) (result : List ResultRow) → map shown first ≡ map (result_at (length g.items)) g.groups → IsPermutation first sorted
-    → IsSortedBy (λ a b. is_lt (result_cmp g.order (shown a) (shown b))) sorted
-    → result ≡ map (λ r. r.row) (take g.limit sorted)
-    → Finishes g result
-finishes_from g first sorted result all moved up is query rows h =
-    is ∙ shown_rows (take g.limit sorted) ∙ ap (map (λ r. r.row)) (sym (take-map shown g.limit sorted))
-    ∙ (λ j. map (λ r. r.row) (take (h.limit j) (results_same query rows g h first sorted all moved up j)))
+  -- the rows of the first of the sorted results are the answer
+  pub finishes_from : (g : Grouped) (first sorted : List X) (result : List ResultRow) → map shown first ≡ map (result_at (length g.items)) g.groups → IsPermutation first sorted
+      → IsSortedBy (λ a b. is_lt (result_cmp g.order (shown a) (shown b))) sorted
+      → result ≡ map (λ x. (shown x).row) (take g.limit sorted)
+      → Finishes g result
+  finishes_from g first sorted result all moved up is query rows h =
+      is ∙ shown_rows (take g.limit sorted) ∙ ap (map (λ r. r.row)) (sym (take-map shown g.limit sorted))
+      ∙ (λ j. map (λ r. r.row) (take (h.limit j) (results_same query rows g h shown first sorted all moved up j)))
 
 -- so are the rows of the first of the ordered results
 pub finishes_first : (g : Grouped) (result : List ResultRow) → result ≡ map (λ r. r.row) (take g.limit (ordered g.order (map (result_at (length g.items)) g.groups))) → Finishes g result
@@ -250,17 +253,44 @@ entries_apart order width es apart =
     let given = map (result_at width) es in
     ordered_ascends order given (distinct_apart order given (subst (IsDistinct same_key) (sym (keys_of_results width es)) apart))
 
--- ---- the results of the entries up to a place and one more
+-- ---- the results of the groups at places
 
-take_more : {X : Type 0} (xs : List X) (i : ℕ) (x : X) → slice_get xs i ≡ Some x → take (suc i) xs ≡ take i xs ++ x ∷ []
-take_more [] i x at = absurd (true≢false (sym (ap is_some at)))
-take_more (y ∷ xs) zero x at = ap (λ o. unwrap_or o x ∷ []) at
-take_more (y ∷ xs) (suc i) x at = ap (λ t. y ∷ t) (take_more xs i x at)
+module _ (wide : ℕ) (es : List (List Value × List Accumulator)) where
+  within : (p : ℕ) → p < length es → ranked_within wide es p ≡ ranked_at wide es p
+  within p lt =
+      let same : min p (length es - 1) ≡ p = omega (arith, lt) in
+      ap (ranked_at wide es) same
 
-pub rank_next : (wide : ℕ) (es : List (List Value × List Accumulator)) (i : ℕ) (e : List Value × List Accumulator) (all now : List Ranked) (r : Ranked)
-    → slice_get es i ≡ Some e → map shown all ≡ map (result_at wide) (take i es) → shown r ≡ result_at wide e → now ≡ all ++ r ∷ []
-    → map shown now ≡ map (result_at wide) (take (i + 1) es)
-rank_next wide es i e all now r at before is added =
-    let more : suc i ≡ i + 1 = omega arith in
-    ap (map shown) added ∙ map-append shown all (r ∷ []) ∙ (λ j. before j ++ is j ∷ []) ∙ sym (map-append (result_at wide) (take i es) (e ∷ []))
-    ∙ ap (map (result_at wide)) (sym (take_more es i e at)) ∙ ap (λ n. map (result_at wide) (take n es)) more
+  abbrev all_places : List ℕ
+  all_places = map (λ p. p) (range_with_len 0 (length es))
+
+  -- all places give the results of all entries
+  pub ranks_all : map (ranked_within wide es) all_places ≡ map (result_at wide) es
+  ranks_all = same_lists (map (ranked_within wide es) all_places) (map (result_at wide) es)
+      (length-map all_places (ranked_within wide es) ∙ long ∙ sym (length-map es (result_at wide)))
+      (λ k d inside. here k d (omega (arith, inside, length-map all_places (ranked_within wide es), long)))
+    where
+      long : length all_places ≡ length es
+      long = length-map-range_with_len (λ p. p) 0 (length es)
+
+      here : (k : ℕ) (d : Result) → k < length es → get_or (map (ranked_within wide es) all_places) k d ≡ get_or (map (result_at wide) es) k d
+      here k d lt =
+          get_map (ranked_within wide es) all_places k 0 d (omega (arith, lt, long))
+          ∙ ap (ranked_within wide es) (get_or-map-range_with_len (λ p. p) 0 (length es) k k 0 lt (omega arith))
+          ∙ within k lt ∙ sym (get_map (result_at wide) es k ([], []) d lt)
+
+  pub places_within : All (λ p. p < length es) all_places
+  places_within k d inside =
+      let lt : k < length es = omega (arith, inside, length-map-range_with_len (λ p. p) 0 (length es)) in
+      subst (λ p. p < length es) (sym (get_or-map-range_with_len (λ p. p) 0 (length es) k k d lt (omega arith))) lt
+
+  pub rows_within : (ps : List ℕ) → All (λ p. p < length es) ps → map (λ p. (ranked_at wide es p).row) ps ≡ map (λ p. (ranked_within wide es p).row) ps
+  rows_within [] all = refl
+  rows_within (p ∷ ps) all =
+      λ j. (sym (within p (All-head (λ q. q < length es) p ps all)) j).row ∷ rows_within ps (All-tail (λ q. q < length es) p ps all) j
+
+  pub level_none : (order : List OrderKey) (one other : ℕ) → length es ≡ 0 → Equal ≡ result_cmp order (ranked_within wide es one) (ranked_within wide es other)
+  level_none order one other none =
+      let first : min one (length es - 1) ≡ 0 = omega (arith, none) in
+      let second : min other (length es - 1) ≡ 0 = omega (arith, none) in
+      sym ((λ j. result_cmp order (ranked_at wide es (first j)) (ranked_at wide es (second j))) ∙ tied_itself (result_total order) (ranked_at wide es 0))

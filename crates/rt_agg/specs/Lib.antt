@@ -1,5 +1,6 @@
 pub mod Accumulator
 pub mod Accumulators
+pub mod GroupKey
 pub mod GroupKeys
 pub mod GroupTable
 pub mod Grouped

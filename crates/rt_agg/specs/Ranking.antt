@@ -1,5 +1,5 @@
 -- The result that a group gives.
-use Rattle.std.specs.Prelude.{◌≡◌, ℕ, ◌+◌, ◌≤◌, true, false, List, [], ◌∷◌, map, length, take, drop, Some, slice_get, slice_index_or}
+use Rattle.std.specs.Prelude.{◌≡◌, ℕ, ◌+◌, ◌-◌, ◌≤◌, min, true, false, List, [], ◌∷◌, map, length, take, drop, Some, slice_get, slice_index_or}
 use Rattle.std.specs.List.{AllByRecursion}
 use Rattle.std.specs.Ordering.{is_gt}
 use Rattle.std.specs.declared.cmp.Ordering.{Ordering}
@@ -8,11 +8,7 @@ use Rattle.rt_schema.specs.declared.value.Value.{Value}
 use Rattle.rt_model.specs.declared.query_parts.OrderKey.{OrderKey}
 use Rattle.rt_model.specs.Aggregate.{Result, result_cmp, placed}
 use Rattle.rt_agg.specs.Accumulator.{Accumulator}
-use Rattle.rt_agg.specs.declared.result.Ranked.{Ranked}
 use Rattle.rt_agg.specs.Accumulators.{cell_in}
-
-abbrev pub shown : Ranked → Result
-shown r = record { key = r.key; order = r.order; row = r.row }
 
 -- a group's key, with what is known of so many items and then of the keys of ORDER BY
 abbrev pub result_at : ℕ → List Value × List Accumulator → Result
@@ -26,6 +22,10 @@ result_at width e =
 -- what the group at a place gives
 abbrev pub ranked_at : ℕ → List (List Value × List Accumulator) → ℕ → Result
 ranked_at width es i = result_at width (slice_index_or es i ([], []))
+
+-- the same, where a place past the last group is that of the last
+abbrev pub ranked_within : ℕ → List (List Value × List Accumulator) → ℕ → Result
+ranked_within width es i = ranked_at width es (min i (length es - 1))
 
 -- each item of a list comes before all after it
 abbrev pub Ascends : {X : Type 0} → (X → X → Ordering) → List X → Type 0

@@ -1,11 +1,10 @@
-ghost use Rattle.std.specs.Prelude.{◌≡◌, slice_index_or};
-ghost use Rattle.rt_model.specs.Aggregate.{cell_cmp, directed_cmp, order_cmp};
-ghost use Rattle.rt_model.specs.declared.answer.Cell.TheVariants.{Null};
+ghost use Rattle.std.specs.Prelude.{◌≡◌};
+ghost use Rattle.rt_model.specs.Aggregate.{cell_cmp};
 ghost use Rattle.rt_model.specs.Values.{rank as rank_of, value_cmp, key_cmp};
 ghost use Rattle.rt_agg.specs.Reading.{value_from};
 
 use crate::Scalar;
-use rt_model::{Cell, OrderKey};
+use rt_model::Cell;
 use rt_schema::Value;
 use std::cmp::Ordering;
 
@@ -83,42 +82,4 @@ pub(crate) fn compare_cells(one: &Cell, other: &Cell) -> Ordering
         (Cell::Value(one), Cell::Value(other)) => compare_values(one, other),
         (Cell::Value(_), _) => Ordering::Greater,
     }
-}
-
-fn compare_directed(descending: bool, one: &Cell, other: &Cell) -> Ordering
-    ensures { result ≡ directed_cmp descending one.now other.now }
-{
-    if descending {
-        compare_cells(other, one)
-    } else {
-        compare_cells(one, other)
-    }
-}
-
-fn compare_at(descending: bool, one: &[Cell], other: &[Cell], i: usize) -> Ordering
-    ensures { result ≡ directed_cmp descending (slice_index_or one.now i Null) (slice_index_or other.now i Null) }
-{
-    let nothing = Cell::Null;
-    let one = match one.get(i) {
-        None => &nothing,
-        Some(cell) => cell,
-    };
-    let other = match other.get(i) {
-        None => &nothing,
-        Some(cell) => cell,
-    };
-    compare_directed(descending, one, other)
-}
-
-/// How cells stand by the keys of ORDER BY.
-pub(crate) fn compare_orders(order: &[OrderKey], one: &[Cell], other: &[Cell]) -> Ordering
-    ensures { result ≡ order_cmp order.now one.now other.now }
-{
-    for (i, key) in order.iter().enumerate() {
-        match compare_at(key.descending, one, other, i) {
-            Ordering::Equal => (),
-            unequal => return unequal,
-        }
-    }
-    Ordering::Equal
 }

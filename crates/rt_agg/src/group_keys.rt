@@ -4,9 +4,9 @@ ghost use Rattle.rt_agg.specs.GroupKeys.{keys_in};
 ghost use Rattle.rt_agg.specs.Grouped.{same_key};
 
 use crate::compare::compare_keys;
+use crate::group_key::GroupKey;
 use indexmap::IndexSet;
 use rt_lists::{Copied, Items};
-use rt_schema::Value;
 use std::alloc::{AllocError, Global};
 use std::marker::Model;
 
@@ -20,9 +20,9 @@ pub(crate) struct GroupKeys {
 #[derive(Drop)]
 enum Kept {
     /// One after the other, as long as each that comes is known to be new.
-    Listed(Items<Items<Value>>),
+    Listed(Items<GroupKey>),
     /// So that they are found by a hash.
-    Indexed(IndexSet<Items<Value>>),
+    Indexed(IndexSet<GroupKey>),
 }
 
 impl Model for GroupKeys {
@@ -58,7 +58,7 @@ impl GroupKeys {
     }
 
     /// The keys, by the groups' numbers.
-    pub(crate) fn as_slice(&self) -> &[Items<Value>]
+    pub(crate) fn as_slice(&self) -> &[GroupKey]
         ensures keys { result.now ≡ self.now }
         ensures apart { IsDistinct same_key self.now }
     {
@@ -66,7 +66,7 @@ impl GroupKeys {
     }
 
     /// A key, by its group's number.
-    pub(crate) fn get(&self, group: usize) -> &Items<Value>
+    pub(crate) fn get(&self, group: usize) -> &GroupKey
         requires { group < length self.now }
         ensures { slice_get self.now group ≡ Some result.now }
     {
@@ -74,7 +74,7 @@ impl GroupKeys {
     }
 
     /// The group of a key, where it is there.
-    pub(crate) fn find(&self, key: &Items<Value>) -> Option<usize>
+    pub(crate) fn find(&self, key: &GroupKey) -> Option<usize>
         ensures some { IfSome result (λ group. slice_get self.now group ≡ Some key.now) }
         ensures none { IfNone result (list_any (same_key key.now) self.now ≡ false) }
         ensures apart { IsDistinct same_key self.now }
@@ -86,7 +86,7 @@ impl GroupKeys {
     }
 
     /// Adds a key that isn't there, behind all others. Where memory runs out, all is as before.
-    pub(crate) fn push(&mut self, key: Items<Value>) -> Result<(), AllocError>
+    pub(crate) fn push(&mut self, key: GroupKey) -> Result<(), AllocError>
         requires { list_any (same_key key) self.old ≡ false }
         ensures keys { OnOk result (self.new ≡ self.old ++ key ∷ []) }
         ensures apart { IsDistinct same_key self.new }
@@ -115,7 +115,7 @@ impl GroupKeys {
 }
 
 impl Kept {
-    fn as_slice(&self) -> &[Items<Value>]
+    fn as_slice(&self) -> &[GroupKey]
         ensures { result.now ≡ keys_in self.now }
     {
         match self {
@@ -125,7 +125,7 @@ impl Kept {
     }
 
     // Adds a key that isn't there.
-    fn push(&mut self, key: Items<Value>) -> Result<(), AllocError>
+    fn push(&mut self, key: GroupKey) -> Result<(), AllocError>
         requires { list_any (same_key key) (keys_in self.old) ≡ false }
         ensures ok { OnOk result (keys_in self.new ≡ keys_in self.old ++ key ∷ []) }
         ensures err { OnErr result (keys_in self.new ≡ keys_in self.old) }
@@ -147,7 +147,7 @@ impl Kept {
 }
 
 // The place of a key in a list.
-fn find_listed(keys: &[Items<Value>], key: &Items<Value>) -> Option<usize>
+fn find_listed(keys: &[GroupKey], key: &GroupKey) -> Option<usize>
     ensures some { IfSome result (λ group. slice_get keys.now group ≡ Some key.now) }
     ensures none { IfNone result (list_any (same_key key.now) keys.now ≡ false) }
 {
@@ -160,7 +160,7 @@ fn find_listed(keys: &[Items<Value>], key: &Items<Value>) -> Option<usize>
 }
 
 // The place of a key in a set.
-fn find_indexed(keys: &IndexSet<Items<Value>>, key: &Items<Value>) -> Option<usize>
+fn find_indexed(keys: &IndexSet<GroupKey>, key: &GroupKey) -> Option<usize>
     ensures some { IfSome result (λ group. slice_get keys.now.keys group ≡ Some key.now) }
     ensures none { IfNone result (list_any (same_key key.now) keys.now.keys ≡ false) }
 {
@@ -171,7 +171,7 @@ fn find_indexed(keys: &IndexSet<Items<Value>>, key: &Items<Value>) -> Option<usi
 }
 
 // Adds a key that a set lacks.
-fn push_indexed(keys: &mut IndexSet<Items<Value>>, key: Items<Value>) -> Result<(), AllocError>
+fn push_indexed(keys: &mut IndexSet<GroupKey>, key: GroupKey) -> Result<(), AllocError>
     requires { list_any (same_key key) keys.old.keys ≡ false }
     ensures ok { OnOk result (keys.new.keys ≡ keys.old.keys ++ key ∷ []) }
     ensures err { OnErr result (keys.new.keys ≡ keys.old.keys) }
@@ -181,7 +181,7 @@ fn push_indexed(keys: &mut IndexSet<Items<Value>>, key: Items<Value>) -> Result<
 }
 
 // A set of keys that are apart.
-fn indexed(alloc: Global, keys: &[Items<Value>]) -> Result<IndexSet<Items<Value>>, AllocError>
+fn indexed(alloc: Global, keys: &[GroupKey]) -> Result<IndexSet<GroupKey>, AllocError>
     requires { IsDistinct same_key keys.now }
     ensures { IfOk result (λ set. set.keys ≡ keys.now) }
 {

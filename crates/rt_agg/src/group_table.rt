@@ -6,17 +6,16 @@ ghost use Rattle.rt_agg.specs.Accumulator.{Accumulator};
 ghost use Rattle.rt_agg.specs.Accumulators.{all_merged, known_of, ordering_items, with_row};
 ghost use Rattle.rt_agg.specs.Grouped.{same_key};
 ghost use Rattle.rt_agg.specs.GroupTable.{IsOfSame};
-ghost use Rattle.rt_agg.specs.Ranking.{ranked_at, shown};
+ghost use Rattle.rt_agg.specs.Ranking.{ranked_at};
 ghost use Rattle.rt_model.specs.Aggregate.{result_cmp};
 
 use crate::ReadRow;
+use crate::group_key::GroupKey;
 use crate::group_keys::GroupKeys;
 use crate::group_ref::GroupRef;
-use crate::result::Ranked;
 use crate::shared_holders::SharedHolders;
 use rt_lists::{Copied, Items};
 use rt_model::{ColumnAt, Item, OrderKey, ResultRow};
-use rt_schema::Value;
 use std::alloc::{AllocError, Global};
 use std::cmp::Ordering;
 use std::marker::Model;
@@ -79,7 +78,7 @@ impl GroupTable {
     }
 
     /// The key of a group.
-    pub(crate) fn key(&self, group: usize) -> &Items<Value>
+    pub(crate) fn key(&self, group: usize) -> &GroupKey
         requires { group < length self.now.entries }
         ensures { slice_get (keys_of self.now.entries) group ≡ Some result.now }
     {
@@ -87,7 +86,7 @@ impl GroupTable {
     }
 
     /// The group of a key, where it is there.
-    pub(crate) fn find(&self, key: &Items<Value>) -> Option<usize>
+    pub(crate) fn find(&self, key: &GroupKey) -> Option<usize>
         ensures some { IfSome result (λ group. slice_get (keys_of self.now.entries) group ≡ Some key.now) }
         ensures none { IfNone result (lookup (same_key key.now) self.now.entries ≡ None) }
         ensures apart { IsDistinct same_key (keys_of self.now.entries) }
@@ -103,7 +102,7 @@ impl GroupTable {
     }
 
     /// Starts the group of a key that isn't there, behind all others, and gives it. Where memory runs out, all is as before.
-    pub(crate) fn start(&mut self, key: Items<Value>) -> Result<usize, AllocError>
+    pub(crate) fn start(&mut self, key: GroupKey) -> Result<usize, AllocError>
         requires { lookup (same_key key) self.old.entries ≡ None }
         ensures group { IfOk result (λ group. group ≡ length self.old.entries) }
         ensures entries { OnOk result (self.new.entries ≡ self.old.entries ++ (key, map (known_of self.old.columns key []) self.old.items) ∷ []) }
@@ -172,25 +171,6 @@ impl GroupTable {
         let group = self.group(group);
         let cells = self.holders.cells_before(alloc, columns, width, &group)?;
         Ok(ResultRow { cells })
-    }
-
-    /// What a group gives: its key, what it is ordered by, and its result row of so many items.
-    pub(crate) fn rank(
-        &self,
-        alloc: Global,
-        width: usize,
-        group: usize,
-    ) -> Result<Ranked, AllocError>
-        requires { group < length self.now.entries }
-        ensures { IfOk result (λ r. shown r ≡ ranked_at width self.now.entries group) }
-    {
-        let columns = self.columns.as_slice();
-        let key = self.key(group).copied(alloc)?;
-        let order = self
-            .holders
-            .cells_behind(alloc, columns, width, &self.group(group))?;
-        let row = self.row(alloc, width, group)?;
-        Ok(Ranked { key, order, row })
     }
 
     // A group by its number.

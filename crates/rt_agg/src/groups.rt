@@ -8,10 +8,11 @@ ghost use Rattle.rt_agg.specs.GroupTable.{IsOfSame};
 
 use crate::ReadRow;
 use crate::foremost::{first_places, rows_at};
+use crate::group_key::GroupKey;
 use crate::group_table::GroupTable;
 use crate::keys::key_of_row;
 use crate::merging::{merge_each, start_missing};
-use crate::ranked::{rank_all, rows_of, sort};
+use crate::ranked::{all_places, sort};
 use rt_lists::{Copied, Items};
 use rt_model::{ColumnAt, Item, OrderKey, Query, ResultRow};
 use rt_schema::{Row, Value};
@@ -71,14 +72,29 @@ impl Groups {
         ensures keys { OnOk result (KeysStay self.old self.new) }
         ensures err { OnErr result (self.new ≡ self.old) }
     {
+        self.add_by_key(alloc, GroupKey::of(key), row)
+    }
+
+    fn add_by_key<R: ReadRow>(
+        &mut self,
+        alloc: Global,
+        key: GroupKey,
+        row: &R,
+    ) -> Result<usize, AllocError>
+        ensures adds { OnOk result (AddsUnder key (R.meaning row.now) self.old self.new) }
+        ensures index { IfOk result (λ i. slice_get (keys_in_order self.new) i ≡ Some key) }
+        ensures keys { OnOk result (KeysStay self.old self.new) }
+        ensures err { OnErr result (self.new ≡ self.old) }
+    {
         self.table.index(alloc)?;
         match self.table.find(&key) {
             Some(index) => {
+                drop(key);
                 self.table.add(index, row);
                 Ok(index)
             }
             None => {
-                let index = self.add_new(key, row)?;
+                let index = self.add_new_key(key, row)?;
                 Ok(index)
             }
         }
@@ -87,6 +103,16 @@ impl Groups {
     /// Adds a row under a key that no group has, and gives the index of its group, which is behind all others. Where memory
     /// runs out, all is as before.
     pub fn add_new<R: ReadRow>(&mut self, key: Items<Value>, row: &R) -> Result<usize, AllocError>
+        requires { Contains (keys_in_order self.old) key → ⊥ }
+        ensures adds { OnOk result (AddsUnder key (R.meaning row.now) self.old self.new) }
+        ensures index { IfOk result (λ i. slice_get (keys_in_order self.new) i ≡ Some key) }
+        ensures keys { OnOk result (keys_in_order self.new ≡ keys_in_order self.old ++ key ∷ []) }
+        ensures err { OnErr result (self.new ≡ self.old) }
+    {
+        self.add_new_key(GroupKey::of(key), row)
+    }
+
+    fn add_new_key<R: ReadRow>(&mut self, key: GroupKey, row: &R) -> Result<usize, AllocError>
         requires { Contains (keys_in_order self.old) key → ⊥ }
         ensures adds { OnOk result (AddsUnder key (R.meaning row.now) self.old self.new) }
         ensures index { IfOk result (λ i. slice_get (keys_in_order self.new) i ≡ Some key) }
@@ -158,14 +184,15 @@ impl Groups {
         Ok(rows)
     }
 
-    // The result rows, where many are asked for: all results are sorted.
+    // The result rows, where many are asked for: the places of all groups are sorted.
     fn finish_all(&self, alloc: Global) -> Result<Items<ResultRow>, AllocError>
         ensures { IfOk result (λ rows. Finishes self.now rows) }
     {
-        let mut all = rank_all(alloc, self.items.len(), &self.table)?;
-        sort(self.order.as_slice(), &mut all);
-        all.truncate(self.limit as usize);
-        let rows = rows_of(alloc, all)?;
+        let width = self.items.len();
+        let mut places = all_places(alloc, self.table.len())?;
+        sort(self.order.as_slice(), width, &self.table, &mut places);
+        places.truncate(self.limit as usize);
+        let rows = rows_at(alloc, width, &self.table, &places)?;
         Ok(rows)
     }
 }
@@ -199,6 +226,6 @@ fn with_whole(alloc: Global, table: GroupTable) -> Result<GroupTable, AllocError
     ensures apart { IfOk result (λ t. IsDistinct same_key (keys_of t.entries)) }
 {
     let mut table = table;
-    table.start(Items::new(alloc))?;
+    table.start(GroupKey::of(Items::new(alloc)))?;
     Ok(table)
 }

@@ -7,13 +7,13 @@ ghost use Rattle.rt_agg.specs.Grouped.{same_key};
 ghost use Rattle.rt_agg.specs.GroupTable.{IsOfSame};
 ghost use Rattle.rt_agg.specs.Merging.{AreAt, merged_at, started_at};
 
+use crate::group_key::GroupKey;
 use crate::group_table::GroupTable;
-use rt_lists::{Copied, Items};
-use rt_schema::Value;
+use rt_lists::Copied;
 use std::alloc::{AllocError, Global};
 
 /// Starts the group of a key, where it isn't there, and gives the group. What was there stays in its place.
-fn start_one(alloc: Global, table: &mut GroupTable, key: &Items<Value>) -> Result<usize, AllocError>
+fn start_one(alloc: Global, table: &mut GroupTable, key: &GroupKey) -> Result<usize, AllocError>
     ensures known { OnOk result ((q : List AnyValue) → lookup (same_key q) table.new.entries ≡ started_at (map (known_of table.old.columns q []) table.old.items) (lookup (same_key q) table.old.entries) (same_key q key.now)) }
     ensures at { IfOk result (λ place. slice_get (keys_of table.new.entries) place ≡ Some key.now) }
     ensures kept { take (length table.old.entries) table.new.entries ≡ table.old.entries }

@@ -1,57 +1,49 @@
+//! All groups by ORDER BY, found by their places without a copy of what isn't asked for.
 ghost use Rattle.std.specs.Prelude.{◌≡◌, map, IfOk};
+ghost use Rattle.std.specs.List.{range_with_len};
 ghost use Rattle.std.specs.List.Sorted.{IsPermutation, IsSortedBy};
 ghost use Rattle.std.specs.Ordering.{is_lt};
 ghost use Rattle.rt_model.specs.Aggregate.{result_cmp};
-ghost use Rattle.rt_agg.specs.Ranking.{shown, result_at};
+ghost use Rattle.rt_agg.specs.Ranking.{ranked_within};
 
-use crate::compare::{compare_keys, compare_orders};
 use crate::group_table::GroupTable;
-use crate::result::Ranked;
-use rt_lists::Items;
-use rt_model::{OrderKey, ResultRow};
+use rt_model::OrderKey;
 use std::alloc::{AllocError, Global};
 use std::cmp::Ordering;
 
-/// What each group gives.
-pub(crate) fn rank_all(
-    alloc: Global,
+/// The places of so many groups.
+pub(crate) fn all_places(alloc: Global, count: usize) -> Result<Vec<usize>, AllocError>
+    ensures { IfOk result (λ places. places.items ≡ map (λ p. p) (range_with_len 0 count)) }
+{
+    let mut places = Vec::with_capacity(alloc, count)?;
+    for place in 0..count {
+        places.push(place)?;
+    }
+    Ok(places)
+}
+
+// How the groups at two places stand; a place past the last group is that of the last.
+fn compare_at(
+    order: &[OrderKey],
     width: usize,
     table: &GroupTable,
-) -> Result<Vec<Ranked>, AllocError>
-    ensures { IfOk result (λ all. map shown all.items ≡ map (result_at width) table.now.entries) }
+    one: usize,
+    other: usize,
+) -> Ordering
+    ensures { result ≡ result_cmp order.now (ranked_within width table.now.entries one) (ranked_within width table.now.entries other) }
 {
     let count = table.len();
-    let mut all = Vec::with_capacity(alloc, count)?;
-    for i in 0..count {
-        all.push(table.rank(alloc, width, i)?)?;
+    if count == 0 {
+        return Ordering::Equal;
     }
-    Ok(all)
+    let last = count - 1;
+    table.compare(order, width, one.min(last), other.min(last))
 }
 
-fn compare_ranked(order: &[OrderKey], one: &Ranked, other: &Ranked) -> Ordering
-    ensures { result ≡ result_cmp order.now (shown one.now) (shown other.now) }
+/// Puts the places of groups into the order of ORDER BY, and where that ties into the order of the groups' keys.
+pub(crate) fn sort(order: &[OrderKey], width: usize, table: &GroupTable, places: &mut Vec<usize>)
+    ensures permutation { IsPermutation places.old.items places.new.items }
+    ensures sorted { IsSortedBy (λ a b. is_lt (result_cmp order.now (ranked_within width table.now.entries a) (ranked_within width table.now.entries b))) places.new.items }
 {
-    match compare_orders(order, one.order.as_slice(), other.order.as_slice()) {
-        Ordering::Equal => compare_keys(one.key.as_slice(), other.key.as_slice()),
-        unequal => unequal,
-    }
-}
-
-/// Puts results into the order of ORDER BY, and where that ties into the order of their keys.
-pub(crate) fn sort(order: &[OrderKey], all: &mut Vec<Ranked>)
-    ensures permutation { IsPermutation all.old.items all.new.items }
-    ensures sorted { IsSortedBy (λ a b. is_lt (result_cmp order.now (shown a) (shown b))) all.new.items }
-{
-    all.sort_unstable_by(|a, b| compare_ranked(order, a, b));
-}
-
-/// The rows of results.
-pub(crate) fn rows_of(alloc: Global, all: Vec<Ranked>) -> Result<Items<ResultRow>, AllocError>
-    ensures { IfOk result (λ rows. rows ≡ map (λ r. r.row) all.items) }
-{
-    let mut rows = Items::new(alloc);
-    for one in all {
-        rows.push(one.row)?;
-    }
-    Ok(rows)
+    places.sort_unstable_by(|a, b| compare_at(order, width, table, *a, *b));
 }

@@ -97,21 +97,6 @@ impl SharedHolders {
         cells_of(alloc, columns, held, places, group)
     }
 
-    /// The cells of a group for the items from a place on.
-    pub(crate) fn cells_behind(
-        &self,
-        alloc: Global,
-        columns: &[ColumnAt],
-        width: usize,
-        group: &GroupRef<'_>,
-    ) -> Result<Items<Cell>, AllocError>
-        ensures { IfOk result (λ cells. cells ≡ map (cell_held columns.now group.now.key.now group.now.number) (drop width self.now)) }
-    {
-        let places = behind(self.places.as_slice(), width);
-        let held = self.held.as_slice();
-        cells_of(alloc, columns, held, places, group)
-    }
-
     /// How two groups stand by the keys of ORDER BY, whose items are those from a place on, and where that ties by their keys.
     pub(crate) fn compare_behind(
         &self,
