@@ -32,10 +32,10 @@ NoteHas P (Some x) = P x
 
 -- each note has P, and the committer's offset; the segment and the replicas stay
 pub record Keeps (P : Offset → Type 0) (seen : SeenMeta) (is : List Instance) (m : Completion) : Type 0 where
-  notes : All (λ r. NoteHas P r.note) m.reporters
-  offset : IsAfterPick m.state → P m.offset
-  segment : m.seen ≡ seen
-  replicas : instances m.reporters ≡ is
+  pub notes : All (λ r. NoteHas P r.note) m.reporters
+  pub offset : IsAfterPick m.state → P m.offset
+  pub segment : m.seen ≡ seen
+  pub replicas : instances m.reporters ≡ is
 
 noted_has : (P : Offset → Type 0) (i : Instance) (x : Offset) (r : Reporter) → P x → NoteHas P r.note → NoteHas P (noted i x r).note
 noted_has P i x r p q = by_test (λ s. NoteHas P s.note) (r.instance.0 == i.0) _ r (λ _. p) (λ _. q)
