@@ -1,7 +1,8 @@
 -- One step of a walk over two lists, and its end.
-use Rattle.std.proofs.Common.{◌≡◌, ℕ, zero, suc, ◌+◌, ◌<◌, ◌≤◌, false, List, [], ◌∷◌, ◌++◌, length, take, drop, get_or, slice_get, slice_set, Some, refl, sym, ap, ◌∙◌, subst, arith}
-use Rattle.std.specs.Prelude.{slice_index_or}
+use Rattle.std.proofs.Common.{◌≡◌, ℕ, zero, suc, ◌+◌, ◌<◌, ◌≤◌, true, false, List, [], ◌∷◌, ◌++◌, length, take, drop, get_or, slice_get, slice_set, Some, refl, sym, ap, ◌∙◌, subst, arith}
+use Rattle.std.specs.Prelude.{◌==◌, if◌then◌else◌, slice_index_or}
 use Rattle.std.proofs.lemmas.Option.{get_or_from_slice_get, slice_get_within}
+use Rattle.std.specs.declared.cmp.Ordering.{Ordering}
 use Rattle.std.specs.declared.cmp.Ordering.TheVariants.{Less, Equal, Greater}
 use Rattle.std.specs.Ordering.{ordering_then}
 use Rattle.rt_schema.specs.declared.value.Value.{Value}
@@ -65,36 +66,63 @@ order_next order one other i k lt at level before =
     let tied : order_cmp (drop i order) (drop i one) (drop i other) ≡ rest = here ∙ ap (λ o. ordering_then o rest) level in
     subst (λ n. order_cmp (drop n order) (drop n one) (drop n other) ≡ order_cmp order one other) (one_more i) (sym tied ∙ before)
 
+drop_at : {X : Type 0} (xs : List X) (i : ℕ) (x : X) → slice_get xs i ≡ Some x → drop i xs ≡ x ∷ drop (suc i) xs
+drop_at xs i x at = drop_here xs i x (slice_get_within xs i x at) ∙ ap (λ y. y ∷ drop (suc i) xs) (get_or_from_slice_get xs i x x at)
+
 -- ---- keys
 
-pub key_here : (one other : List Value) (i : ℕ) (v w : Value) → i < length one → v ≡ get_or one i v → slice_get other i ≡ Some w
+key_here : (one other : List Value) (i : ℕ) (v w : Value) → slice_get one i ≡ Some v → slice_get other i ≡ Some w
     → key_cmp (drop i one) (drop i other) ≡ ordering_then (value_cmp v w) (key_cmp (drop (suc i) one) (drop (suc i) other))
-key_here one other i v w lt at found =
-    let right = drop_here other i w (slice_get_within other i w found) ∙ ap (λ x. x ∷ drop (suc i) other) (get_or_from_slice_get other i w w found) in
-    λ j. key_cmp ((drop_here one i v lt ∙ ap (λ x. x ∷ drop (suc i) one) (sym at)) j) (right j)
+key_here one other i v w at found = λ j. key_cmp (drop_at one i v at j) (drop_at other i w found j)
 
-pub key_past : (one other : List Value) (i : ℕ) (v : Value) → i < length one → length other ≤ i → key_cmp (drop i one) (drop i other) ≡ Greater
-key_past one other i v lt le = λ j. key_cmp (drop_here one i v lt j) (drop_end other i le j)
+pub key_next : (one other : List Value) (i : ℕ) (v w : Value) → slice_get one i ≡ Some v → slice_get other i ≡ Some w → value_cmp v w ≡ Equal
+    → key_cmp (drop i one) (drop i other) ≡ key_cmp one other → key_cmp (drop (i + 1) one) (drop (i + 1) other) ≡ key_cmp one other
+key_next one other i v w at found level before =
+    let rest = key_cmp (drop (suc i) one) (drop (suc i) other) in
+    subst (λ n. key_cmp (drop n one) (drop n other) ≡ key_cmp one other) (one_more i)
+    (sym (key_here one other i v w at found ∙ ap (λ o. ordering_then o rest) level) ∙ before)
 
-pub key_end : (one other : List Value) (i : ℕ) → length one ≤ i → length other ≤ i → key_cmp (drop i one) (drop i other) ≡ Equal
-key_end one other i le le' = λ j. key_cmp (drop_end one i le j) (drop_end other i le' j)
+pub key_past : (one other : List Value) (i : ℕ) → i < length one → length other ≤ i → key_cmp (drop i one) (drop i other) ≡ Greater
+key_past one other i lt le = λ j. key_cmp (drop_here one i (Truth false) lt j) (drop_end other i le j)
+
+-- the first values that differ decide
+pub key_apart : (one other : List Value) (i : ℕ) (v w : Value) (o : Ordering) → slice_get one i ≡ Some v → slice_get other i ≡ Some w → o ≡ value_cmp v w → (o ≡ Equal → ⊥)
+    → key_cmp (drop i one) (drop i other) ≡ key_cmp one other → o ≡ key_cmp one other
+key_apart one other i v w o at found is unlike before =
+    let rest = key_cmp (drop (suc i) one) (drop (suc i) other) in
+    sym (first_counts o rest unlike) ∙ ap (λ p. ordering_then p rest) is ∙ sym (key_here one other i v w at found) ∙ before
+  where
+    first_counts : (o p : Ordering) → (o ≡ Equal → ⊥) → ordering_then o p ≡ o
+    first_counts Less p unlike = refl
+    first_counts Equal p unlike = absurd (unlike refl)
+    first_counts Greater p unlike = refl
 
 pub key_short : (one other : List Value) (i : ℕ) → length one ≤ i → i < length other → key_cmp (drop i one) (drop i other) ≡ Less
 key_short one other i le lt = λ j. key_cmp (drop_end one i le j) (drop_here other i (Truth false) lt j)
 
 -- ---- the value of a column in a key
 
-pub value_here : (columns : List ColumnAt) (key : List Value) (i : ℕ) (c : ColumnAt) (v : Value) (column : ColumnAt) → i < length columns → c ≡ get_or columns i c → slice_get key i ≡ Some v
+value_here : (columns : List ColumnAt) (key : List Value) (i : ℕ) (c : ColumnAt) (v : Value) (column : ColumnAt) → i < length columns → c ≡ get_or columns i c → drop i key ≡ v ∷ drop (suc i) key
     → value_of_key (drop i columns) (drop i key) column ≡ value_of_key (c ∷ drop (suc i) columns) (v ∷ drop (suc i) key) column
 value_here columns key i c v column lt at found =
-    let right = drop_here key i v (slice_get_within key i v found) ∙ ap (λ x. x ∷ drop (suc i) key) (get_or_from_slice_get key i v v found) in
-    λ j. value_of_key ((drop_here columns i c lt ∙ ap (λ x. x ∷ drop (suc i) columns) (sym at)) j) (right j) column
+    λ j. value_of_key ((drop_here columns i c lt ∙ ap (λ x. x ∷ drop (suc i) columns) (sym at)) j) (found j) column
 
-pub value_past : (columns : List ColumnAt) (key : List Value) (i : ℕ) (c column : ColumnAt) → i < length columns → length key ≤ i → value_of_key (drop i columns) (drop i key) column ≡ Truth false
-value_past columns key i c column lt le = λ j. value_of_key (drop_here columns i c lt j) (drop_end key i le j) column
+-- the column at a place is the one that is asked for
+pub value_found : (columns : List ColumnAt) (key : List Value) (i : ℕ) (c : ColumnAt) (v : Value) (column : ColumnAt) → i < length columns → c ≡ get_or columns i c → slice_get key i ≡ Some v
+    → (c.place == column.place) ≡ true → value_of_key (drop i columns) (drop i key) column ≡ value_of_key columns key column → v ≡ value_of_key columns key column
+value_found columns key i c v column lt at found same before =
+    let rest = value_of_key (drop (suc i) columns) (drop (suc i) key) column in
+    sym (value_here columns key i c v column lt at (drop_at key i v found) ∙ ap (λ b. if b then v else rest) same) ∙ before
 
-pub value_end : (columns : List ColumnAt) (key : List Value) (i : ℕ) (column : ColumnAt) → length columns ≤ i → value_of_key (drop i columns) (drop i key) column ≡ Truth false
-value_end columns key i column le = λ j. value_of_key (drop_end columns i le j) (drop i key) column
+-- it is another
+pub value_next : (columns : List ColumnAt) (key : List Value) (i : ℕ) (c column : ColumnAt) → i < length columns → c ≡ get_or columns i c → i < length key
+    → (c.place == column.place) ≡ false → value_of_key (drop i columns) (drop i key) column ≡ value_of_key columns key column
+    → value_of_key (drop (i + 1) columns) (drop (i + 1) key) column ≡ value_of_key columns key column
+value_next columns key i c column lt at less other before =
+    let v = get_or key i (Truth false) in
+    let rest = value_of_key (drop (suc i) columns) (drop (suc i) key) column in
+    subst (λ n. value_of_key (drop n columns) (drop n key) column ≡ value_of_key columns key column) (one_more i)
+    (sym (value_here columns key i c v column lt at (drop_here key i (Truth false) less) ∙ ap (λ b. if b then v else rest) other) ∙ before)
 
 -- ---- holders merged with others
 

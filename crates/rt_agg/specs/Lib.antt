@@ -11,3 +11,4 @@ pub mod ResultHolder
 pub mod Sharing
 pub mod Summed
 pub mod Totals
+pub mod ValueRef

@@ -7,7 +7,6 @@ ghost use Rattle.rt_model.specs.Values.{key_cmp};
 ghost use Rattle.rt_agg.specs.ResultHolder.{cell_held};
 ghost use Rattle.rt_agg.specs.Sharing.{cells_at};
 
-use crate::compare::compare_keys;
 use crate::group_ref::GroupRef;
 use crate::result_holder::ResultHolder;
 use rt_lists::Items;
@@ -68,7 +67,7 @@ pub(crate) fn compare_groups(
     ensures { result ≡ ordering_then (order_cmp order.now (cells_at columns.now one.now.key.now one.now.number held.now places.now) (cells_at columns.now other.now.key.now other.now.number held.now places.now)) (key_cmp one.now.key.now other.now.key.now) }
 {
     match compare_orders(order, columns, held, places, one, other) {
-        Ordering::Equal => compare_keys(one.key, other.key),
+        Ordering::Equal => one.key.compare(other.key),
         unequal => unequal,
     }
 }

@@ -1,21 +1,32 @@
-ghost use Rattle.std.specs.Prelude.{◌≡◌};
+ghost use Rattle.std.specs.Prelude.{◌≡◌, ◌<◌, ◌∷◌, [], length, slice_get, Some, IfOk};
+ghost use Rattle.std.specs.Hash as fed;
+ghost use Rattle.std.specs.List.{fold};
+ghost use Rattle.rt_schema.specs.contracts.value.ValueHash.TheImpl as value;
+ghost use Rattle.rt_schema.specs.declared.value.Value.TheVariants.{Text as AnyText};
+ghost use Rattle.rt_model.specs.Values.{key_cmp};
+ghost use Rattle.rt_agg.specs.GroupKey.{values_in};
+ghost use Rattle.rt_agg.specs.ValueRef.{value_lent};
 
-use rt_lists::{Copied, Items};
+use crate::ValueRef;
+use arrayvec::ArrayString;
+use rt_lists::{Copied, Items, Text};
 use rt_schema::Value;
 use std::alloc::{AllocError, Global};
+use std::cmp::Ordering;
 use std::hash::{Hash, Hasher};
 use std::marker::Model;
 use std::slice;
 
-/// The key of a group: its values in the columns of GROUP BY. One value, as most keys have, lies in the key itself and takes
-/// no list.
+/// The key of a group: its values in the columns of GROUP BY. One value, as most keys have, lies in the key itself and
+/// takes no list; where it is a text of at most 24 bytes, the key takes no memory of its own at all.
 #[derive(Drop)]
-pub(crate) struct GroupKey {
+pub struct GroupKey {
     inside: Inside,
 }
 
 #[derive(Drop)]
 enum Inside {
+    Short(ArrayString<24>),
     One(Value),
     Several(Items<Value>),
 }
@@ -31,34 +42,77 @@ impl Model for GroupKey {
 }
 
 impl GroupKey {
+    /// The key of one value, which is copied. Fails only where memory is refused.
+    pub fn of_one(alloc: Global, value: ValueRef<'_>) -> Result<GroupKey, AllocError>
+        ensures { IfOk result (λ key. key ≡ value_lent value.entry ∷ []) }
+    {
+        let inside = match value {
+            ValueRef::Text(text) => text_inside(alloc, text)?,
+            value => Inside::One(value.copied(alloc)?),
+        };
+        Ok(GroupKey { inside })
+    }
+
     /// The key of a list of values.
-    #[tactic(auto, using(crate::proofs::Shorts::only_one))]
-    pub(crate) fn of(values: Items<Value>) -> GroupKey
+    pub fn of(values: Items<Value>) -> GroupKey
         ensures { result ≡ values }
     {
-        let mut values = values;
-        if values.len() != 1 {
-            let inside = Inside::Several(values);
-            return GroupKey { inside };
-        }
-        match values.pop() {
-            Some(value) => GroupKey {
-                inside: Inside::One(value),
-            },
-            None => GroupKey {
-                inside: Inside::Several(values),
-            },
+        GroupKey {
+            inside: Inside::Several(values),
         }
     }
 
-    /// All values.
-    pub(crate) fn as_slice(&self) -> &[Value]
-        ensures { result.now ≡ self.now }
+    /// The number of values.
+    pub(crate) fn len(&self) -> usize
+        ensures { result ≡ length self.now }
     {
         match &self.inside {
-            Inside::One(value) => slice::from_ref(value),
-            Inside::Several(values) => values.as_slice(),
+            Inside::Short(_) => 1,
+            Inside::One(_) => 1,
+            Inside::Several(values) => values.len(),
         }
+    }
+
+    /// The value at a place.
+    pub(crate) fn at(&self, place: usize) -> ValueRef<'_>
+        requires { place < length self.now }
+        ensures { slice_get self.now place ≡ Some (value_lent result) }
+    {
+        match &self.inside {
+            Inside::Short(text) => ValueRef::Text(text.as_str()),
+            Inside::One(value) => ValueRef::of(value),
+            Inside::Several(values) => ValueRef::of(&values.as_slice()[place]),
+        }
+    }
+
+    /// How two keys stand: the first value that differs decides.
+    pub(crate) fn compare(&self, other: &GroupKey) -> Ordering
+        ensures { result ≡ key_cmp self.now other.now }
+    {
+        for place in 0..self.len() {
+            if other.len() <= place {
+                return Ordering::Greater;
+            }
+            match self.at(place).compare(other.at(place)) {
+                Ordering::Equal => (),
+                unequal => return unequal,
+            }
+        }
+        if self.len() < other.len() {
+            Ordering::Less
+        } else {
+            Ordering::Equal
+        }
+    }
+}
+
+// A text in a key: a copy that lies in the key itself, where it is short.
+fn text_inside(alloc: Global, text: &str) -> Result<Inside, AllocError>
+    ensures { IfOk result (λ inside. values_in inside ≡ AnyText text.now ∷ []) }
+{
+    match ArrayString::from(text) {
+        Ok(short) => Ok(Inside::Short(short)),
+        Err(_) => Ok(Inside::One(Value::Text(Text::copied_from(alloc, text)?))),
     }
 }
 
@@ -73,8 +127,8 @@ impl PartialEq for GroupKey {
 
     fn eq(&self, other: &GroupKey) -> bool {
         match (&self.inside, &other.inside) {
-            (Inside::One(one), Inside::One(other)) => one == other,
-            _ => self.as_slice() == other.as_slice(),
+            (Inside::Short(one), Inside::Short(other)) => one.as_str() == other.as_str(),
+            _ => self.compare(other).is_eq(),
         }
     }
 }
@@ -96,19 +150,30 @@ impl Hash for GroupKey {
     ghost respects_eq = { (items_Alike (record { fed = respects_eq-law })).fed };
 
     fn hash<H: Hasher>(&self, state: &mut H) {
-        self.as_slice().hash(state);
+        match &self.inside {
+            Inside::Short(text) => hash_text(text.as_str(), state),
+            Inside::One(value) => slice::from_ref(value).hash(state),
+            Inside::Several(values) => values.as_slice().hash(state),
+        }
     }
+}
+
+// What a list of one text feeds: its length, the kind of the value, and the text.
+fn hash_text<H: Hasher>(text: &str, state: &mut H)
+    ensures { state.new ≡ fold H.write state.old (fed.slice value.hash_input-value.it (AnyText text.now ∷ [])) }
+{
+    1usize.hash(state);
+    2isize.hash(state);
+    text.hash(state);
 }
 
 impl Copied for GroupKey {
     fn copied(&self, alloc: Global) -> Result<Self, AllocError> {
-        match &self.inside {
-            Inside::One(value) => Ok(GroupKey {
-                inside: Inside::One(value.copied(alloc)?),
-            }),
-            Inside::Several(values) => Ok(GroupKey {
-                inside: Inside::Several(values.copied(alloc)?),
-            }),
-        }
+        let inside = match &self.inside {
+            Inside::Short(text) => Inside::Short(*text),
+            Inside::One(value) => Inside::One(value.copied(alloc)?),
+            Inside::Several(values) => Inside::Several(values.copied(alloc)?),
+        };
+        Ok(GroupKey { inside })
     }
 }

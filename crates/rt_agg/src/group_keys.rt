@@ -3,8 +3,7 @@ ghost use Rattle.std.specs.List.{IsDistinct, list_any};
 ghost use Rattle.rt_agg.specs.GroupKeys.{keys_in};
 ghost use Rattle.rt_agg.specs.Grouped.{same_key};
 
-use crate::compare::compare_keys;
-use crate::group_key::GroupKey;
+use crate::GroupKey;
 use indexmap::IndexSet;
 use rt_lists::{Copied, Items};
 use std::alloc::{AllocError, Global};
@@ -152,7 +151,7 @@ fn find_listed(keys: &[GroupKey], key: &GroupKey) -> Option<usize>
     ensures none { IfNone result (list_any (same_key key.now) keys.now ≡ false) }
 {
     for (group, other) in keys.iter().enumerate() {
-        if compare_keys(key.as_slice(), other.as_slice()).is_eq() {
+        if key.compare(other).is_eq() {
             return Some(group);
         }
     }

@@ -1,8 +1,8 @@
-use rt_schema::Value;
+use crate::GroupKey;
 
 /// A group of a table: its key and its number.
 #[derive(Clone, Copy)]
 pub(crate) struct GroupRef<'a> {
-    pub(crate) key: &'a [Value],
+    pub(crate) key: &'a GroupKey,
     pub(crate) number: usize,
 }

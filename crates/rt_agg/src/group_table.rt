@@ -9,11 +9,10 @@ ghost use Rattle.rt_agg.specs.GroupTable.{IsOfSame};
 ghost use Rattle.rt_agg.specs.Ranking.{ranked_at};
 ghost use Rattle.rt_model.specs.Aggregate.{result_cmp};
 
-use crate::ReadRow;
-use crate::group_key::GroupKey;
 use crate::group_keys::GroupKeys;
 use crate::group_ref::GroupRef;
 use crate::shared_holders::SharedHolders;
+use crate::{GroupKey, ReadRow};
 use rt_lists::{Copied, Items};
 use rt_model::{ColumnAt, Item, OrderKey, ResultRow};
 use std::alloc::{AllocError, Global};
@@ -180,7 +179,7 @@ impl GroupTable {
         ensures number { result.number ≡ number }
     {
         GroupRef {
-            key: self.key(number).as_slice(),
+            key: self.key(number),
             number,
         }
     }

@@ -6,16 +6,15 @@ ghost use Rattle.rt_agg.specs.Accumulators.{known_of, ordering_items};
 ghost use Rattle.rt_agg.specs.Grouped.{Adds, AddsUnder, Finishes, Merges, Holds, KeysStay, first_known, keys_in_order, same_key};
 ghost use Rattle.rt_agg.specs.GroupTable.{IsOfSame};
 
-use crate::ReadRow;
 use crate::foremost::{first_places, rows_at};
-use crate::group_key::GroupKey;
 use crate::group_table::GroupTable;
 use crate::keys::key_of_row;
 use crate::merging::{merge_each, start_missing};
 use crate::ranked::{all_places, sort};
+use crate::{GroupKey, ReadRow};
 use rt_lists::{Copied, Items};
 use rt_model::{ColumnAt, Item, OrderKey, Query, ResultRow};
-use rt_schema::{Row, Value};
+use rt_schema::Row;
 use std::alloc::{AllocError, Global};
 use std::marker::Model;
 
@@ -64,20 +63,6 @@ impl Groups {
     pub fn add<R: ReadRow>(
         &mut self,
         alloc: Global,
-        key: Items<Value>,
-        row: &R,
-    ) -> Result<usize, AllocError>
-        ensures adds { OnOk result (AddsUnder key (R.meaning row.now) self.old self.new) }
-        ensures index { IfOk result (λ i. slice_get (keys_in_order self.new) i ≡ Some key) }
-        ensures keys { OnOk result (KeysStay self.old self.new) }
-        ensures err { OnErr result (self.new ≡ self.old) }
-    {
-        self.add_by_key(alloc, GroupKey::of(key), row)
-    }
-
-    fn add_by_key<R: ReadRow>(
-        &mut self,
-        alloc: Global,
         key: GroupKey,
         row: &R,
     ) -> Result<usize, AllocError>
@@ -94,7 +79,7 @@ impl Groups {
                 Ok(index)
             }
             None => {
-                let index = self.add_new_key(key, row)?;
+                let index = self.add_new(key, row)?;
                 Ok(index)
             }
         }
@@ -102,17 +87,7 @@ impl Groups {
 
     /// Adds a row under a key that no group has, and gives the index of its group, which is behind all others. Where memory
     /// runs out, all is as before.
-    pub fn add_new<R: ReadRow>(&mut self, key: Items<Value>, row: &R) -> Result<usize, AllocError>
-        requires { Contains (keys_in_order self.old) key → ⊥ }
-        ensures adds { OnOk result (AddsUnder key (R.meaning row.now) self.old self.new) }
-        ensures index { IfOk result (λ i. slice_get (keys_in_order self.new) i ≡ Some key) }
-        ensures keys { OnOk result (keys_in_order self.new ≡ keys_in_order self.old ++ key ∷ []) }
-        ensures err { OnErr result (self.new ≡ self.old) }
-    {
-        self.add_new_key(GroupKey::of(key), row)
-    }
-
-    fn add_new_key<R: ReadRow>(&mut self, key: GroupKey, row: &R) -> Result<usize, AllocError>
+    pub fn add_new<R: ReadRow>(&mut self, key: GroupKey, row: &R) -> Result<usize, AllocError>
         requires { Contains (keys_in_order self.old) key → ⊥ }
         ensures adds { OnOk result (AddsUnder key (R.meaning row.now) self.old self.new) }
         ensures index { IfOk result (λ i. slice_get (keys_in_order self.new) i ≡ Some key) }

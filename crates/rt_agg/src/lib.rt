@@ -29,10 +29,13 @@ mod shared_holders;
 mod sharing;
 mod total;
 mod totalling;
+mod value_ref;
 
+pub use group_key::GroupKey;
 pub use groups::Groups;
 pub use laws::rows_fit;
 pub use read_row::ReadRow;
 pub use scalar::Scalar;
 pub use served::Served;
 pub use total::Total;
+pub use value_ref::ValueRef;

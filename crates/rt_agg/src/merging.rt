@@ -7,7 +7,7 @@ ghost use Rattle.rt_agg.specs.Grouped.{same_key};
 ghost use Rattle.rt_agg.specs.GroupTable.{IsOfSame};
 ghost use Rattle.rt_agg.specs.Merging.{AreAt, merged_at, started_at};
 
-use crate::group_key::GroupKey;
+use crate::GroupKey;
 use crate::group_table::GroupTable;
 use rt_lists::Copied;
 use std::alloc::{AllocError, Global};

@@ -4,7 +4,7 @@ use Rattle.rt_agg.specs.Grouped.{Grouped, AddsUnder, keys_in_order}
 use Rattle.rt_agg.specs.GroupTable.{Tabled}
 use Rattle.rt_agg.proofs.Apart.{absent, stays_before}
 use Rattle.rt_agg.proofs.Holding.{adds_known, entry_of_key, known_of_entry}
-use Rattle.rt_agg.proofs.groups.Groups.add_by_key.Goals as goal
+use Rattle.rt_agg.proofs.groups.Groups.add.Goals as goal
 
 pub returns-in-Some-clause-adds : goal.returns-in-Some-clause-adds
 returns-in-Some-clause-adds g c =
@@ -21,13 +21,13 @@ returns-in-Some-clause-adds g c =
 pub returns-in-Some-clause-index : goal.returns-in-Some-clause-index
 returns-in-Some-clause-index g c = ap (λ (ks : List (List Value)). slice_get ks c.in-Some.index) c.add.ensures.keys ∙ c.in-Some.ensures.some
 
-pub add_new_key-requires : goal.add_new_key-requires
-add_new_key-requires g c = absent c.index.new.self.entries c.args.key c.in-None.ensures.none
+pub add_new-requires : goal.add_new-requires
+add_new-requires g c = absent c.index.new.self.entries c.args.key c.in-None.ensures.none
 
 pub returns-in_ok-index-in-None-clause-adds : goal.returns-in_ok-index-in-None-clause-adds
 returns-in_ok-index-in-None-clause-adds g c =
     let of : Tabled → Grouped = λ (t : Tabled). record { columns = t.columns; items = c.self.inside.items; order = c.self.inside.order; limit = c.self.inside.limit; groups = t.entries } in
-    subst (λ s. AddsUnder c.args.key (g.R.ReadRow.meaning c.args.row.now) s c.add_new_key.new.self) (ap of c.index.ensures ∙ c.self.view_is) c.in_ok-index-in-None.ensures.adds
+    subst (λ s. AddsUnder c.args.key (g.R.ReadRow.meaning c.args.row.now) s c.add_new.new.self) (ap of c.index.ensures ∙ c.self.view_is) c.in_ok-index-in-None.ensures.adds
 
 pub returns-in_ok-index-in-None-clause-keys : goal.returns-in_ok-index-in-None-clause-keys
 returns-in_ok-index-in-None-clause-keys g c i key at =

@@ -7,7 +7,7 @@ use Rattle.rt_agg.specs.Accumulators.{all_known_of, known_of}
 use Rattle.rt_agg.specs.Grouped.{Grouped, AddsUnder, keys_in_order, same_key}
 use Rattle.rt_agg.proofs.Apart.{lookup_none}
 use Rattle.rt_agg.proofs.Holding.{adds_started, entry_last, key_last, keys_last}
-use Rattle.rt_agg.proofs.groups.Groups.add_new_key.Goals as goal
+use Rattle.rt_agg.proofs.groups.Groups.add_new.Goals as goal
 
 pub start-requires : goal.start-requires
 start-requires g c =
