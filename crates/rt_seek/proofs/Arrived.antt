@@ -73,8 +73,11 @@ module _ (vs : List Value) where
     pub first_past : length vs ≤ row → item_at (take rows vs) row ≡ value.Bool false
     first_past past = get_or_past (take rows vs) row (value.Bool false) (omega (arith, past, length-take rows vs))
 
+pub led_value : (vs : List Value) (id : ℕ) (v : Value) → slice_get (arrivals_of same_value vs) id ≡ Some v → v ≡ item_at (arrivals_of same_value vs) id
+led_value vs id v at = sym (get_or_from_slice_get (arrivals_of same_value vs) id v (value.Bool false) at)
+
 pub led_scalar : (vs : List Value) (id : ℕ) (v : Value) → slice_get (arrivals_of same_value vs) id ≡ Some v → scalar_of v ≡ scalar_of (item_at (arrivals_of same_value vs) id)
-led_scalar vs id v at = ap scalar_of (sym (get_or_from_slice_get (arrivals_of same_value vs) id v (value.Bool false) at))
+led_scalar vs id v at = ap scalar_of (led_value vs id v at)
 
 pub few_arrivals : (vs : List Value) → length (arrivals_of same_value vs) ≤ length vs
 few_arrivals vs = length_arrivals same_laws same_exact vs

@@ -74,8 +74,11 @@ no_scalar f none [] id = refl
 no_scalar f none (x ∷ xs) zero = sym (none x)
 no_scalar f none (x ∷ xs) (suc id) = no_scalar f none xs id
 
+pub value_is : {K : Type 0} (f : K → Value) (xs : List K) (id : ℕ) (x : K) → slice_get xs id ≡ Some x → f x ≡ item_at (map f xs) id
+value_is f xs id x at = sym (mapped_at f xs id (value.Bool false) x at)
+
 pub scalar_is : {K : Type 0} (f : K → Value) (s : K → Scalar) → ((x : K) → scalar_of (f x) ≡ Some (s x)) → (xs : List K) (id : ℕ) (x : K) → slice_get xs id ≡ Some x → Some (s x) ≡ scalar_of (item_at (map f xs) id)
-scalar_is f s is xs id x at = sym (ap scalar_of (mapped_at f xs id (value.Bool false) x at) ∙ is x)
+scalar_is f s is xs id x at = sym (is x) ∙ ap scalar_of (value_is f xs id x at)
 
 -- ---- the least id of a value
 

@@ -1,6 +1,7 @@
 ghost use Rattle.std.specs.Prelude.{◌≡◌, ℕ, ◌<◌, ◌≤◌, length, map, IfOk};
 ghost use Rattle.rt_agg.specs.declared.scalar.Scalar.TheVariants.{Int, Long, Time};
 ghost use Rattle.rt_agg.specs.Reading.{scalar_of};
+ghost use Rattle.rt_agg.specs.ValueRef.{value_lent};
 ghost use Rattle.rt_mutable.specs.Arrivals.{arrivals_of};
 ghost use Rattle.rt_mutable.specs.Column.{same_value, values_in};
 ghost use Rattle.rt_seek.specs.ColumnTest.{passes_test};
@@ -12,10 +13,9 @@ use crate::row_sets::rows_with;
 use crate::scan_column::ScanColumn;
 use crate::seeking::rows_sought;
 use crate::truths::truths_of_keys;
-use rt_agg::Scalar;
+use rt_agg::{Scalar, ValueRef};
 use rt_mutable::{ColumnValues, MutableColumn};
 use rt_postings::DocSet;
-use rt_schema::Value;
 use std::alloc::{AllocError, Global};
 
 /// A column of the first rows of a consuming segment.
@@ -39,8 +39,8 @@ impl<'a> ScanColumn for ConsumingColumn<'a> {
         first_id(self.column, self.rows, row)
     }
 
-    fn value(&self, alloc: Global, row: u32) -> Result<Value, AllocError> {
-        first_value(alloc, self.column, self.rows, row)
+    fn value(&self, row: u32) -> ValueRef<'_> {
+        first_value(self.column, self.rows, row)
     }
 
     fn scalar(&self, row: u32) -> Option<Scalar> {
@@ -107,16 +107,24 @@ fn first_id(column: &MutableColumn, rows: u32, row: u32) -> u32
     column.ids()[row as usize]
 }
 
-fn first_value(
-    alloc: Global,
-    column: &MutableColumn,
-    rows: u32,
-    row: u32,
-) -> Result<Value, AllocError>
+fn first_value(column: &MutableColumn, rows: u32, row: u32) -> ValueRef<'_>
     requires { row < length (first_values column.now rows) }
-    ensures { IfOk result (λ value. value ≡ item_at (first_values column.now rows) row) }
+    ensures { value_lent result ≡ item_at (first_values column.now rows) row }
 {
-    column.value_in(alloc, row)
+    value_with(column.values(), column.ids()[row as usize])
+}
+
+fn value_with(values: &ColumnValues, id: u32) -> ValueRef<'_>
+    requires { id < length (arrivals_of same_value (values_in values.now)) }
+    ensures { value_lent result ≡ item_at (arrivals_of same_value (values_in values.now)) id }
+{
+    match values {
+        ColumnValues::Int(arrivals) => ValueRef::of_scalar(int_scalar(arrivals.key(id))),
+        ColumnValues::Long(arrivals) => ValueRef::of_scalar(long_scalar(arrivals.key(id))),
+        ColumnValues::Text(arrivals) => ValueRef::Text(arrivals.key(id).as_str()),
+        ColumnValues::Bool(arrivals) => ValueRef::Bool(*arrivals.key(id)),
+        ColumnValues::Time(arrivals) => ValueRef::of_scalar(time_scalar(arrivals.key(id))),
+    }
 }
 
 fn first_scalar(column: &MutableColumn, rows: u32, row: u32) -> Option<Scalar>

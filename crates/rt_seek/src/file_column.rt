@@ -1,6 +1,7 @@
 ghost use Rattle.std.specs.Prelude.{◌≡◌, ℕ, ◌<◌, ◌≤◌, true, length, map, replicate, IfOk};
 ghost use Rattle.rt_agg.specs.declared.scalar.Scalar.TheVariants.{Time};
 ghost use Rattle.rt_agg.specs.Reading.{scalar_of};
+ghost use Rattle.rt_agg.specs.ValueRef.{value_lent};
 ghost use Rattle.rt_segment.specs.Column.{count_in, values_in, values_of};
 ghost use Rattle.rt_seek.specs.ColumnTest.{passes_test};
 ghost use Rattle.rt_seek.specs.FileColumn.{file_values, file_value_of};
@@ -11,8 +12,7 @@ use crate::column_test::ColumnTest;
 use crate::row_sets::{add_rows, all_rows, rows_with};
 use crate::scan_column::ScanColumn;
 use crate::truths::truths_of;
-use rt_agg::Scalar;
-use rt_lists::Copied;
+use rt_agg::{Scalar, ValueRef};
 use rt_postings::DocSet;
 use rt_schema::Value;
 use rt_segment::{Dictionary, SegmentColumn};
@@ -45,10 +45,10 @@ impl<'a> ScanColumn for FileColumn<'a> {
         }
     }
 
-    fn value(&self, alloc: Global, row: u32) -> Result<Value, AllocError> {
+    fn value(&self, row: u32) -> ValueRef<'_> {
         match self {
-            FileColumn::Held(column) => held_value(alloc, column, row),
-            FileColumn::Missing { value, .. } => value.copied(alloc),
+            FileColumn::Held(column) => held_value(column, row),
+            FileColumn::Missing { value, .. } => ValueRef::of(value),
         }
     }
 
@@ -89,11 +89,24 @@ fn missing_scalar(value: &Value, rows: u32, row: u32) -> Option<Scalar>
     if row < rows { Scalar::of(value) } else { None }
 }
 
-fn held_value(alloc: Global, column: &SegmentColumn, row: u32) -> Result<Value, AllocError>
+fn held_value(column: &SegmentColumn, row: u32) -> ValueRef<'_>
     requires { row < length (values_of column.now) }
-    ensures { IfOk result (λ value. value ≡ item_at (values_of column.now) row) }
+    ensures { value_lent result ≡ item_at (values_of column.now) row }
 {
-    column.dictionary().value(alloc, column.ids()[row as usize])
+    value_with(column.dictionary(), column.ids()[row as usize])
+}
+
+fn value_with(dictionary: &Dictionary, id: u32) -> ValueRef<'_>
+    requires { id < count_in dictionary.now }
+    ensures { value_lent result ≡ item_at (values_in dictionary.now) id }
+{
+    match dictionary {
+        Dictionary::Int(dict) => ValueRef::Int(*dict.value(id)),
+        Dictionary::Long(dict) => ValueRef::Long(*dict.value(id)),
+        Dictionary::Text(dict) => ValueRef::Text(dict.value(id).as_str()),
+        Dictionary::Bool(dict) => ValueRef::Bool(*dict.value(id)),
+        Dictionary::Time(dict) => ValueRef::of_scalar(time_scalar(dict.value(id))),
+    }
 }
 
 fn held_scalar(column: &SegmentColumn, row: u32) -> Option<Scalar>

@@ -1,13 +1,13 @@
 ghost use Rattle.std.specs.Prelude.{◌≡◌, ℕ, ◌<◌, ◌≤◌, List, length, map, IfOk};
 ghost use Rattle.rt_schema.specs.declared.value.Value.{Value as AnyValue};
 ghost use Rattle.rt_agg.specs.Reading.{scalar_of};
+ghost use Rattle.rt_agg.specs.ValueRef.{value_lent};
 ghost use Rattle.rt_seek.specs.ColumnTest.{passes_test};
 ghost use Rattle.rt_seek.specs.Table.{item_at};
 
 use crate::column_test::ColumnTest;
-use rt_agg::Scalar;
+use rt_agg::{Scalar, ValueRef};
 use rt_postings::DocSet;
-use rt_schema::Value;
 use std::alloc::{AllocError, Global};
 
 /// A column of rows that are scanned.
@@ -28,10 +28,10 @@ pub trait ScanColumn {
         ensures value { value_of self.now result ≡ item_at (values self.now) row }
         ensures least { (other : ℕ) → value_of self.now other ≡ value_of self.now result → result ≤ other };
 
-    /// A copy of a row's value. Fails only where memory is refused.
-    fn value(&self, alloc: Global, row: u32) -> Result<Value, AllocError>
+    /// A row's value.
+    fn value(&self, row: u32) -> ValueRef<'_>
         requires { row < length (values self.now) }
-        ensures { IfOk result (λ value. value ≡ item_at (values self.now) row) };
+        ensures { value_lent result ≡ item_at (values self.now) row };
 
     /// A row's value, where it is a whole number; none past the last row.
     fn scalar(&self, row: u32) -> Option<Scalar>
