@@ -48,16 +48,18 @@ use Rattle.rt_world.proofs.Places.{at_set}
 use Rattle.rt_world.proofs.SafeSteps.{steps_keep}
 use Rattle.rt_world.specs.Reading.{due_transits_of, listed_by, wanted_in}
 use Rattle.rt_world.specs.Step.{due_of, Steps}
+use Rattle.rt_stream.specs.Log.{Log}
 use Rattle.rt_heal.specs.Asks.{Asks}
 use Rattle.rt_heal.specs.AtRest.{AreUp, IsUp}
 use Rattle.rt_heal.specs.Calm.{AreAllCalm, IsCalm}
 use Rattle.rt_heal.specs.GivenUp.{IsConsumable}
-use Rattle.rt_heal.specs.Left.{left_in_world}
+use Rattle.rt_heal.specs.Left.{left_in_world, most_entries, most_left}
 use Rattle.rt_heal.proofs.Clearing.{downloads_loaded, loaded_due, loaded_here, loaded_targets, loaded_wants, transits_due, HasLoaded, IsLessDue}
 use Rattle.rt_heal.proofs.Dropped.{leads_told, runs_told}
 use Rattle.rt_heal.proofs.Following.{all_follow}
 use Rattle.rt_heal.proofs.GivenUp.{consumable}
 use Rattle.rt_heal.proofs.LessRounds.{asks_behind, asks_first, replicas_lower, settles_in, AsksOrLeaves, IsSteady}
+use Rattle.rt_heal.proofs.Most.{calm_most}
 use Rattle.rt_heal.proofs.Moving.{event_shut}
 use Rattle.rt_heal.proofs.Nothing.{fails_test, nothing}
 use Rattle.rt_heal.proofs.Quiet.{then_parts, told_not, told_same, AreCalm, GoesOn, IsThen}
@@ -160,6 +162,7 @@ got_unplanned t u (inr met) e = ap (λ (x : ToldDeep). x.faults.plan) met ∙ pl
 -- what the step of one server leaves
 record HasStepped (from : State) (i : ℕ) (y : State) (old new : ServerNode) (z : State) : Type 0 where
   servers : z.servers ≡ slice_set y.servers i new
+  log : z.log ≡ y.log
   written : z.store.writes ≡ y.store.writes
   unplanned : z.store.faults.plan ≡ []
   fetches : z.deep.faults.plan ≡ []
@@ -176,6 +179,7 @@ module _ (from : State) (i : ℕ) (y : State) (k : IsMoving from i y) (event : E
       record {
         safe = steps_keep y event z (Ok outcome) (λ h. cc) fits k.healthy.safe step;
         same = st.setup ∙ k.healthy.same;
+        log = st.log ∙ k.healthy.log;
         written = st.written ∙ k.healthy.written;
         up = subst (AreAt IsUp) (sym st.servers) (at_set IsUp y.servers i new (st.up ∙ k.healthy.up i k.node k.there) k.healthy.up);
         unplanned = st.unplanned;
@@ -230,6 +234,7 @@ module _ (from : State) (i : ℕ) (consumes : (e : IdealEntry) → Has (entries_
         let st : HasStepped from i y old new z =
         record {
           servers = ap (λ (x : State). x.servers) is;
+          log = ap (λ (x : State). x.log) is;
           written = ap (λ (x : State). x.store.writes) is ∙ unwritten y.store u looks;
           unplanned = ap (λ (x : State). x.store.faults.plan) is ∙ read_unplanned y.store u looks k.healthy.unplanned;
           fetches = ap (λ (x : State). x.deep.faults.plan) is ∙ k.fetches;
@@ -286,6 +291,7 @@ module _ (from : State) (i : ℕ) where
         let st : HasStepped from i y old new z =
         record {
           servers = ap (λ (x : State). x.servers) is;
+          log = ap (λ (x : State). x.log) is;
           written = ap (λ (x : State). x.store.writes) is;
           unplanned = ap (λ (x : State). x.store.faults.plan) is ∙ k.healthy.unplanned;
           fetches = ap (λ (x : State). x.deep.faults.plan) is ∙ got_unplanned y.deep u looks k.fetches;
@@ -458,7 +464,7 @@ module _ (setup : Setup) (turns : List Turn) (paused : Bool) (w : State) (v : Re
   between_calm =
       servers_calm w (λ e has consumes. consumable setup turns w e is run has consumes) 0 w.setup.servers false w t.between t.told
       (record {
-        healthy = record { safe = safe; same = refl; written = refl; up = up; unplanned = unplanned; controllers = refl; reached = ([], refl) };
+        healthy = record { safe = safe; same = refl; log = refl; written = refl; up = up; unplanned = unplanned; controllers = refl; reached = ([], refl) };
         fetches = fetches;
         calm = λ i n found below. absurd (omega (arith, below));
       }) t.came
@@ -484,7 +490,9 @@ module _ (setup : Setup) (turns : List Turn) (paused : Bool) (w : State) (v : Re
 
   -- and in the replicas' part one asks, or all stay so
   abbrev pub AsksOrSteadies : Type 0
-  AsksOrSteadies = Asks w v ⊎ (IsSteady v.world × (v.world.controllers ≡ w.controllers))
+  AsksOrSteadies =
+      Asks w v
+      ⊎ (IsSteady v.world × (v.world.controllers ≡ w.controllers) × (v.world.log ≡ w.log) × (v.world.store.writes ≡ w.store.writes))
 
   pub round_steadies : AsksOrSteadies
   round_steadies =
@@ -496,26 +504,48 @@ module _ (setup : Setup) (turns : List Turn) (paused : Bool) (w : State) (v : Re
       by_way : AsksOrLeaves t.between.world t.told t.last told → AsksOrSteadies
       by_way (inl a) = inl (asks_behind w t.between t.last v t.whole between_calm.healthy.controllers a)
       by_way (inr x) =
-          inr (subst IsSteady (sym end) x.steady, ap (λ (y : State). y.controllers) end ∙ x.controllers ∙ between_calm.healthy.controllers)
+          inr (
+            subst IsSteady (sym end) x.steady,
+            ap (λ (y : State). y.controllers) end ∙ x.controllers ∙ between_calm.healthy.controllers,
+            ap (λ (y : State). y.log) end ∙ x.log ∙ between_calm.healthy.log,
+            ap (λ (y : State). y.store.writes) end ∙ x.written ∙ between_calm.healthy.written,
+          )
 
-pub round_calms : (setup : Setup) (turns : List Turn) (paused : Bool) (w : State) (v : Reached) (told : Bool) → IsSetup setup → Runs setup turns w → AreUp w
-    → w.store.faults.plan ≡ [] → w.deep.faults.plan ≡ [] → Round paused w v (Ok told) → Asks w v ⊎ AreAllCalm v.world
-round_calms setup turns paused w v told is run up unplanned fetches h =
-    by_way (round_steadies setup turns paused w v told is run up unplanned fetches h)
-  where
-    by_way : Asks w v ⊎ (IsSteady v.world × (v.world.controllers ≡ w.controllers)) → Asks w v ⊎ AreAllCalm v.world
-    by_way (inl a) = inl a
-    by_way (inr k) = inr k.0.calm
+  -- so no more is left than the ideal state asks for
+  pub steady_most : IsSteady v.world × (v.world.controllers ≡ w.controllers) × (v.world.log ≡ w.log) × (v.world.store.writes ≡ w.store.writes)
+      → left_in_world v.world ≤ most_left w
+  steady_most k =
+      let log = ap (λ (l : Log). most_entries l (entries_of v.world.store.writes)) k.2 in
+      let writes = ap (λ (h : List Seen). most_entries w.log (entries_of h)) k.3 in
+      omega (arith, calm_most v.world k.0.safe k.0.calm k.0.follow, log, writes)
+
+module _ (setup : Setup) (turns : List Turn) (paused : Bool) (w : State) (v : Reached) (told : Bool) (is : IsSetup setup) (run : Runs setup turns w) (up : AreUp w)
+    (unplanned : w.store.faults.plan ≡ []) (fetches : w.deep.faults.plan ≡ []) (h : Round paused w v (Ok told)) where
+  abbrev steadied : AsksOrSteadies setup turns paused w v told is run up unplanned fetches h
+  steadied = round_steadies setup turns paused w v told is run up unplanned fetches h
+
+  pub round_calms : Asks w v ⊎ AreAllCalm v.world
+  round_calms = by_way steadied
+    where
+      by_way : AsksOrSteadies setup turns paused w v told is run up unplanned fetches h → Asks w v ⊎ AreAllCalm v.world
+      by_way (inl a) = inl a
+      by_way (inr k) = inr k.0.calm
+
+  pub round_most : Asks w v ⊎ (left_in_world v.world ≤ most_left w)
+  round_most = by_way steadied
+    where
+      by_way : AsksOrSteadies setup turns paused w v told is run up unplanned fetches h → Asks w v ⊎ (left_in_world v.world ≤ most_left w)
+      by_way (inl a) = inl a
+      by_way (inr k) = inr (steady_most setup turns paused w v told is run up unplanned fetches h k)
 
 -- ---- settle
 
--- so settle ends, where it has more rounds than there is left behind the first
+-- so settle ends, where it has two rounds more than that
 module _ (setup : Setup) (turns : List Turn) (paused : Bool) (w : State) (settled : Bool) (is : IsSetup setup) (run : Runs setup turns w) (up : AreUp w)
     (unplanned : w.store.faults.plan ≡ []) (fetches : w.deep.faults.plan ≡ []) where
-  settles_in_run : (rounds : ℕ) (u : Reached) → ((v : Reached) (told : Bool) → Round paused w v (Ok told) → left_in_world v.world + 1 < rounds)
-      → 0 < rounds → SettlesIn paused rounds w u (Ok settled) → Asks w u ⊎ (settled ≡ true)
-  settles_in_run zero u few some h = absurd (omega (arith, some))
-  settles_in_run (suc rounds) u few some h =
+  settles_in_run : (rounds : ℕ) (u : Reached) → most_left w + 1 < rounds → SettlesIn paused rounds w u (Ok settled) → Asks w u ⊎ (settled ≡ true)
+  settles_in_run zero u few h = absurd (omega (arith, few))
+  settles_in_run (suc rounds) u few h =
       let t = then_parts (Round paused) (AfterRound (SettlesIn paused rounds)) w u settled h in
       by_told t.between t.last t.told t.came t.further t.whole
     where
@@ -528,24 +558,15 @@ module _ (setup : Setup) (turns : List Turn) (paused : Bool) (w : State) (settle
           by_rest same (inl a) = inl (asks_behind w b l u whole same a)
           by_rest same (inr e) = inr e
 
-          by_way : Asks w b ⊎ (IsSteady b.world × (b.world.controllers ≡ w.controllers)) → Asks w u ⊎ (settled ≡ true)
+          by_way : AsksOrSteadies setup turns paused w b true is run up unplanned fetches came → Asks w u ⊎ (settled ≡ true)
           by_way (inl a) = inl (asks_first w b l u whole a)
-          by_way (inr k) = by_rest k.1 (settles_in paused rounds b.world l settled k.0 (omega (arith, few b true came)) further)
+          by_way (inr k) =
+              let most = steady_most setup turns paused w b true is run up unplanned fetches came k in
+              by_rest k.1 (settles_in paused rounds b.world l settled k.0 (omega (arith, few, most)) further)
 
-  pub settle_ends_in_run : (rounds : ℕ) (u : Reached) → ((v : Reached) (told : Bool) → Round paused w v (Ok told) → left_in_world v.world + 1 < rounds)
-      → Settles paused rounds w u (Ok settled) → Asks w u ⊎ (settled ≡ true)
-  settle_ends_in_run rounds u few h = by_test ((rounds == 0) || nat_lt MOST_ROUNDS rounds) refl h
+  pub settle_ends_in_run : (rounds : ℕ) (u : Reached) → most_left w + 1 < rounds → Settles paused rounds w u (Ok settled) → Asks w u ⊎ (settled ≡ true)
+  settle_ends_in_run rounds u few h = by_test ((rounds == 0) || nat_lt MOST_ROUNDS rounds) h
     where
-      some : (rounds == 0) || nat_lt MOST_ROUNDS rounds ≡ false → 0 < rounds
-      some e = by_zero (cases_lt 0 rounds)
-        where
-          by_zero : (0 < rounds) ⊎ (rounds ≤ 0) → 0 < rounds
-          by_zero (inl lt) = lt
-          by_zero (inr le) =
-              let none : rounds ≡ 0 = omega (arith, le) in
-              absurd (true≢false (sym (ap (λ (n : ℕ). (n == 0) || nat_lt MOST_ROUNDS n) none) ∙ e))
-
-      by_test : (b : Bool) → (rounds == 0) || nat_lt MOST_ROUNDS rounds ≡ b → Choose b (Refuses NothingToDo w) (SettlesIn paused rounds w) u (Ok settled)
-          → Asks w u ⊎ (settled ≡ true)
-      by_test true e g = absurd (told_not settled NothingToDo g.1)
-      by_test false e g = settles_in_run rounds u few (some e) g
+      by_test : (b : Bool) → Choose b (Refuses NothingToDo w) (SettlesIn paused rounds w) u (Ok settled) → Asks w u ⊎ (settled ≡ true)
+      by_test true g = absurd (told_not settled NothingToDo g.1)
+      by_test false g = settles_in_run rounds u few g

@@ -39,7 +39,7 @@ taken_some (m ∷ ms) zero (suc count) some lt = omega arith
 taken_some (m ∷ ms) (suc x) count some lt = taken_some ms x count some (omega (arith, lt))
 
 -- a batch goes no way back
-filled_least : (schema : Schema) (limit : ℕ) (rows : Consuming) (ms : List (List ℕ)) → rows.end.0 ≤ (filled schema limit rows ms).end.0
+pub filled_least : (schema : Schema) (limit : ℕ) (rows : Consuming) (ms : List (List ℕ)) → rows.end.0 ≤ (filled schema limit rows ms).end.0
 filled_least schema limit rows [] = omega arith
 filled_least schema limit rows (m ∷ ms) =
     cond_both (nat_lt (length rows.rows) limit) (filled schema limit (after_message rows (row_of schema m)) ms) rows

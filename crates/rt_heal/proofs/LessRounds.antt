@@ -1,6 +1,7 @@
 -- A round in which no replica asks leaves less to do if anything happened in it, and so `settle` ends.
-use Rattle.std.proofs.Common.{◌≡◌, ℕ, zero, suc, ◌+◌, ◌<◌, ◌≤◌, ◌⊎◌, inl, inr, Bool, true, false, not, List, [], ◌∷◌, Option, Some, None, Result, Ok, Err, refl, sym, ◌∙◌, ap, subst, arith}
-use Rattle.std.specs.Prelude.{◌==◌, ◌||◌, nat_lt, slice_get}
+use Rattle.std.proofs.Common.{◌≡◌, ℕ, zero, suc, ◌+◌, ◌<◌, ◌≤◌, ◌⊎◌, inl, inr, Bool, true, false, not, List, [], ◌∷◌, Option, Some, None, map, Result, Ok, Err, refl, sym, ◌∙◌, ap, subst, arith}
+use Rattle.std.specs.Prelude.{◌==◌, ◌||◌, nat_lt, slice_get, slice_set}
+use Rattle.std.proofs.lemmas.Option.{none-some, same_Some}
 use Rattle.std.proofs.lemmas.Bool.{and_parts, false≢true, true≢false}
 use Rattle.rt_base.specs.declared.numbers.ControllerId.{ControllerId}
 use Rattle.rt_base.specs.declared.numbers.Instance.{Instance}
@@ -39,8 +40,9 @@ use Rattle.rt_world.specs.Step.{Steps}
 use Rattle.rt_heal.specs.Asks.{Asks}
 use Rattle.rt_heal.specs.AtRest.{AreUp}
 use Rattle.rt_heal.specs.Calm.{AreAllCalm, IsCalm}
-use Rattle.rt_heal.specs.Left.{left_entries, left_in_world, CanAllFollow, CanFollowEntry}
-use Rattle.rt_heal.proofs.LessWorld.{builds_less, consumes_less, servers_same, LeavesLess}
+use Rattle.rt_heal.specs.Left.{left_entries, left_in_world, left_server, left_servers, CanAllFollow, CanFollowEntry}
+use Rattle.rt_heal.proofs.Dropped.{leads_told, IsToldRightly}
+use Rattle.rt_heal.proofs.LessWorld.{builds_less, consumes_less, LeavesLess}
 use Rattle.rt_heal.proofs.Quiet.{IsThen, then_parts, told_not, told_same}
 use Rattle.rt_heal.proofs.Seeing.{HasSeen, IsHealthy, same_leader, see_healthy, see_told}
 
@@ -57,16 +59,25 @@ pub record IsSteady (w : State) : Type 0 where
 pub record HasLeft (w : State) (busy : Bool) (v : State) (told : Bool) : Type 0 where
   pub steady : IsSteady v
   pub controllers : v.controllers ≡ w.controllers
+  pub log : v.log ≡ w.log
+  pub written : v.store.writes ≡ w.store.writes
   pub most : left_in_world v ≤ left_in_world w
   pub less : told ≡ true → (busy ≡ true) ⊎ (left_in_world v < left_in_world w)
 
 left_still : (w : State) (busy : Bool) (v : Reached) (told : Bool) → IsSteady w → v ≡ stays w → told ≡ busy → HasLeft w busy v.world told
 left_still w busy v told k stayed same =
-    subst (λ (x : Reached). HasLeft w busy x.world told) (sym stayed) (record { steady = k; controllers = refl; most = omega arith; less = λ e. inl (sym same ∙ e) })
+    subst (λ (x : Reached). HasLeft w busy x.world told) (sym stayed) (record { steady = k; controllers = refl; log = refl; written = refl; most = omega arith; less = λ e. inl (sym same ∙ e) })
 
 left_then : (w m v : State) (busy between told : Bool) → HasLeft w busy m between → HasLeft m between v told → HasLeft w busy v told
 left_then w m v busy between told x y =
-    record { steady = y.steady; controllers = y.controllers ∙ x.controllers; most = omega (arith, x.most, y.most); less = λ e. by_last (y.less e) }
+    record {
+      steady = y.steady;
+      controllers = y.controllers ∙ x.controllers;
+      log = y.log ∙ x.log;
+      written = y.written ∙ x.written;
+      most = omega (arith, x.most, y.most);
+      less = λ e. by_last (y.less e);
+    }
   where
     by_first : (busy ≡ true) ⊎ (left_in_world m < left_in_world w) → (busy ≡ true) ⊎ (left_in_world v < left_in_world w)
     by_first (inl e) = inl e
@@ -99,7 +110,14 @@ event_left event busy w v told k steps t = by_told t.between t.told t.last t.cam
         let x = steps b.world outcome by.0 in
         let end : v.world ≡ b.world = ap (λ (z : Reached). z.world) whole ∙ ap (λ (z : Reached). z.world) further.0 in
         subst (λ (z : State). HasLeft w busy z told) (sym end)
-        (record { steady = still_steady w b.world k x.0 x.1; controllers = x.1.controllers; most = omega (arith, x.1.less); less = λ e. inr x.1.less })
+        (record {
+          steady = still_steady w b.world k x.0 x.1;
+          controllers = x.1.controllers;
+          log = x.1.log;
+          written = ap (λ (t : Told). t.writes) x.1.store;
+          most = omega (arith, x.1.less);
+          less = λ e. inr x.1.less;
+        })
     by_told b (Err NothingToDo) l by further whole =
         let end : v.world ≡ w =
         ap (λ (z : Reached). z.world) whole ∙ ap (λ (z : Reached). z.world) further.0 ∙ ap (λ (z : Reached). z.world) by.1 in
@@ -264,10 +282,36 @@ each_none : {X : Type 0} (act : X → Bool → Act Bool) (xs : List X) (busy : B
 each_none act xs busy w v told none h =
     let g = subst (λ ys. Each act ys busy w v (Ok told)) none h in (ap (λ (x : Reached). x.world) g.0, told_same told busy g.1)
 
+-- what servers are, but for whether they are up
+abbrev pub states : List ServerNode → List ServerState
+states ns = map (λ n. n.server) ns
+
+slot_alike : (ns : List ServerNode) (i : ℕ) (old new : ServerNode) → slice_get ns i ≡ Some old → new.server ≡ old.server
+    → states (slice_set ns i new) ≡ states ns
+slot_alike [] i old new there same = absurd (none-some old there)
+slot_alike (n ∷ ns) zero old new there same =
+    ap (λ (x : ServerState). x ∷ states ns) (same ∙ ap (λ (x : ServerNode). x.server) (sym (same_Some n old there)))
+slot_alike (n ∷ ns) (suc i) old new there same = ap (λ (xs : List ServerState). n.server ∷ xs) (slot_alike ns i old new there same)
+
+-- the servers of a steady world rest: each is as it was, and nothing happened
+pub record HasRested (w : State) (busy : Bool) (v : State) (told : Bool) : Type 0 where
+  pub steady : IsSteady v
+  pub controllers : v.controllers ≡ w.controllers
+  pub log : v.log ≡ w.log
+  pub written : v.store.writes ≡ w.store.writes
+  pub servers : states v.servers ≡ states w.servers
+  pub idle : told ≡ busy
+  pub right : IsToldRightly w → IsToldRightly v
+
+rested_still : (w : State) (busy : Bool) (v : Reached) (told : Bool) → IsSteady w → v ≡ stays w → told ≡ busy → HasRested w busy v.world told
+rested_still w busy v told k same e =
+    subst (λ (x : Reached). HasRested w busy x.world told) (sym same)
+    (record { steady = k; controllers = refl; log = refl; written = refl; servers = refl; idle = e; right = λ told_so. told_so })
+
 module _ (w : State) (i : ℕ) (n : ServerNode) (k : IsSteady w) (there : slice_get w.servers i ≡ Some n) where
   healthy : IsHealthy w w
   healthy =
-      record { safe = k.safe; same = refl; written = refl; up = k.up; unplanned = k.unplanned; controllers = refl; reached = ([], refl) }
+      record { safe = k.safe; same = refl; log = refl; written = refl; up = k.up; unplanned = k.unplanned; controllers = refl; reached = ([], refl) }
 
   -- a server that saw the ideal state again is as it was
   module _ (y : State) (seen : HasSeen w (record { 0 = i }) n y) (safe : IsSafeWorld y) (after : IsHealthy w y) where
@@ -280,11 +324,6 @@ module _ (w : State) (i : ℕ) (n : ServerNode) (k : IsSteady w) (there : slice_
 
     seen_log : y.log ≡ w.log
     seen_log = ap (λ (x : State). x.log) seen.is
-
-    seen_left : left_in_world y ≡ left_in_world w
-    seen_left =
-        ap (λ (x : State). left_in_world x) seen.is
-        ∙ servers_same w.log w.servers i n seen.new there (ap (λ (x : ServerState). left_entries w.log x.table.entries) as_before)
 
     seen_follow : CanAllFollow y
     seen_follow j m at x has = subst (λ (l : Log). CanFollowEntry l x.1) (sym seen_log) (by_place (seen_cases j m at))
@@ -337,9 +376,9 @@ module _ (w : State) (i : ℕ) (n : ServerNode) (k : IsSteady w) (there : slice_
         (sym ((wanted_has seen.new.server.table x.0 x.1 (safe.safe.servers i seen.new own_server).over.kept.ascending).0 has)
         ∙ (seen_calm i seen.new own_server).loaded x.0 x.1))
 
-  turn_left : (busy : Bool) (v : Reached) (told : Bool)
-      → Then (Passed (See (record { 0 = i }))) (λ done. TransitsAndDownloads (record { 0 = i }) busy) w v (Ok told) → HasLeft w busy v.world told
-  turn_left busy v told g =
+  turn_rests : (busy : Bool) (v : Reached) (told : Bool)
+      → Then (Passed (See (record { 0 = i }))) (λ done. TransitsAndDownloads (record { 0 = i }) busy) w v (Ok told) → HasRested w busy v.world told
+  turn_rests busy v told g =
       let at : Instance = record { 0 = i } in
       let t = then_parts (Passed (See at)) (λ done. TransitsAndDownloads at busy) w v told g in
       let u = then_parts (Happens (See at)) (λ outcome. Gives tt) w t.between t.told t.came in
@@ -356,28 +395,71 @@ module _ (w : State) (i : ℕ) (n : ServerNode) (k : IsSteady w) (there : slice_
       (ap (λ (x : State). wanted_in x at) mid ∙ no_download y seen after.safe after) d.further in
       let end : v.world ≡ y =
       ap (λ (x : Reached). x.world) t.whole ∙ ap (λ (x : Reached). x.world) d.whole ∙ loaded.0 ∙ mid in
-      subst (λ (x : State). HasLeft w busy x told) (sym end)
+      subst (λ (x : State). HasRested w busy x told) (sym end)
       (record {
         steady = seen_steady y seen after.safe after;
         controllers = after.controllers;
-        most = omega (arith, seen_left y seen after.safe after);
-        less = λ e. inl (sym (loaded.1 ∙ moved.1) ∙ e);
+        log = after.log;
+        written = after.written;
+        servers =
+            ap (λ (x : State). states x.servers) seen.is ∙ slot_alike w.servers i n seen.new there (as_before y seen after.safe after);
+        idle = loaded.1 ∙ moved.1;
+        right = λ told_so. leads_told w after.reached.0 y k.safe told_so after.reached.1;
       })
 
-server_lowers : (i : ℕ) → Lowers (ServerTurn i)
-server_lowers i busy w v told k h = by_node (slice_get w.servers i) refl h
+server_rests : (i : ℕ) (busy : Bool) (w : State) (v : Reached) (told : Bool) → IsSteady w → ServerTurn i busy w v (Ok told) → HasRested w busy v.world told
+server_rests i busy w v told k h = by_node (slice_get w.servers i) refl h
   where
     by_node : (o : Option ServerNode) → slice_get w.servers i ≡ o
         → Choose (is_up o) (Then (Passed (See (record { 0 = i }))) (λ done. TransitsAndDownloads (record { 0 = i }) busy) w) (Gives busy w) v (Ok told)
-        → AsksOrLeaves w busy v told
-    by_node None there g = still w busy v told k g.0 (told_same told busy g.1)
+        → HasRested w busy v.world told
+    by_node None there g = rested_still w busy v told k g.0 (told_same told busy g.1)
     by_node (Some n) there g =
-        inr (turn_left w i n k there busy v told
+        turn_rests w i n k there busy v told
         (subst (λ (b : Bool). Choose b (Then (Passed (See (record { 0 = i }))) (λ done. TransitsAndDownloads (record { 0 = i }) busy) w) (Gives busy w) v (Ok told))
-        (k.up i n there) g))
+        (k.up i n there) g)
+
+pub servers_rest : (first count : ℕ) (busy : Bool) (w : State) (v : Reached) (told : Bool) → IsSteady w → EachFrom ServerTurn first count busy w v (Ok told)
+    → HasRested w busy v.world told
+servers_rest first zero busy w v told k h = rested_still w busy v told k h.0 (told_same told busy h.1)
+servers_rest first (suc count) busy w v told k h =
+    let t = then_parts (ServerTurn first busy) (EachFrom ServerTurn (first + 1) count) w v told h in
+    let x = server_rests first busy w t.between t.told k t.came in
+    let y = servers_rest (first + 1) count t.told t.between.world t.last told x.steady t.further in
+    subst (λ (z : State). HasRested w busy z told) (sym (ap (λ (z : Reached). z.world) t.whole))
+    (record {
+      steady = y.steady;
+      controllers = y.controllers ∙ x.controllers;
+      log = y.log ∙ x.log;
+      written = y.written ∙ x.written;
+      servers = y.servers ∙ x.servers;
+      idle = y.idle ∙ x.idle;
+      right = λ told_so. y.right (x.right told_so);
+    })
+
+-- so as much is left
+abbrev states_left : Log → List ServerState → ℕ
+states_left log [] = 0
+states_left log (s ∷ ss) = left_entries log s.table.entries + states_left log ss
+
+left_states : (log : Log) (ns : List ServerNode) → left_servers log ns ≡ states_left log (states ns)
+left_states log [] = refl
+left_states log (n ∷ ns) = ap (λ (x : ℕ). left_server log n + x) (left_states log ns)
 
 servers_lower : (count : ℕ) → Lowers (EachFrom ServerTurn 0 count)
-servers_lower count = from_lowers ServerTurn server_lowers 0 count
+servers_lower count busy w v told k h =
+    let x = servers_rest 0 count busy w v told k h in
+    let same : left_in_world v.world ≡ left_in_world w =
+    ap (λ (l : Log). left_servers l v.world.servers) x.log ∙ left_states w.log v.world.servers ∙ ap (states_left w.log) x.servers
+    ∙ sym (left_states w.log w.servers) in
+    inr (record {
+      steady = x.steady;
+      controllers = x.controllers;
+      log = x.log;
+      written = x.written;
+      most = omega (arith, same);
+      less = λ e. inl (sym x.idle ∙ e);
+    })
 
 -- ---- rounds
 

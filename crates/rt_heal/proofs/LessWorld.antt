@@ -11,7 +11,7 @@ use Rattle.rt_base.specs.declared.numbers.Partition.{Partition}
 use Rattle.rt_base.specs.declared.numbers.Sequence.{Sequence}
 use Rattle.rt_broker.proofs.Lasting.{got_of_set}
 use Rattle.rt_consumer.specs.Batch.{asked_at, asked_in, consumed, messages_from, taken, Consumes}
-use Rattle.rt_consumer.specs.Consumer.{cur, state_at, state_of}
+use Rattle.rt_consumer.specs.Consumer.{cur, state_at, state_of, IsConsumer}
 use Rattle.rt_consumer.specs.Next.{takes_in}
 use Rattle.rt_consumer.specs.Requests.{is_ready, Builds}
 use Rattle.rt_consumer.specs.declared.consumer.Consumer.{Consumer}
@@ -80,12 +80,6 @@ servers_less : (log : Log) (ns : List ServerNode) (i : ℕ) (old new : ServerNod
 servers_less log [] i old new there less = absurd (none-some old there)
 servers_less log (n ∷ ns) zero old new there less = omega (arith, less, ap (left_server log) (same_Some n old there))
 servers_less log (n ∷ ns) (suc i) old new there less = omega (arith, servers_less log ns i old new there less)
-
-pub servers_same : (log : Log) (ns : List ServerNode) (i : ℕ) (old new : ServerNode) → slice_get ns i ≡ Some old
-    → left_server log new ≡ left_server log old → left_servers log (slice_set ns i new) ≡ left_servers log ns
-servers_same log [] i old new there same = absurd (none-some old there)
-servers_same log (n ∷ ns) zero old new there same = omega (arith, same, ap (left_server log) (same_Some n old there))
-servers_same log (n ∷ ns) (suc i) old new there same = omega (arith, servers_same log ns i old new there same)
 
 -- ---- a replica's call at its server
 
@@ -163,6 +157,7 @@ pub record LeavesLess (w y : State) : Type 0 where
   pub setup : y.setup ≡ w.setup
   pub controllers : y.controllers ≡ w.controllers
   pub store : y.store ≡ w.store
+  pub log : y.log ≡ w.log
   pub less : left_in_world y < left_in_world w
   pub follow : CanAllFollow w → CanAllFollow y
   pub up : AreUp w → AreUp y
@@ -272,7 +267,36 @@ module _ (w y : State) (i : ℕ) (n new : ServerNode) (p : Partition) (q : Seque
 
   put_leaves : y.setup ≡ w.setup → y.controllers ≡ w.controllers → y.store ≡ w.store → LeavesLess w y
   put_leaves setup controllers store =
-      record { setup = setup; controllers = controllers; store = store; less = put_less; follow = put_follow; up = put_up; calm = put_calm store }
+      record {
+        setup = setup;
+        controllers = controllers;
+        store = store;
+        log = k.log;
+        less = put_less;
+        follow = put_follow;
+        up = put_up;
+        calm = put_calm store;
+      }
+
+-- a replica that took a step of its own at its server, and could follow its target
+pub record HasMade (call : Consumer → Consumer → Type 0) (w y : State) (i : Instance) (p : Partition) (q : Sequence) : Type 0 where
+  pub node : ServerNode
+  pub new : ServerNode
+  pub replica : Consumer
+  pub next : Consumer
+  pub there : slice_get w.servers i.0 ≡ Some node
+  pub found : replica_of node.server.table p q ≡ Some replica
+  pub table : new.server.table ≡ put_back node.server.table p q (Replica next)
+  pub numbers : new.server.numbers ≡ node.server.numbers
+  pub up : new.up ≡ node.up
+  pub servers : y.servers ≡ slice_set w.servers i.0 new
+  pub log : y.log ≡ w.log
+  pub setup : y.setup ≡ w.setup
+  pub controllers : y.controllers ≡ w.controllers
+  pub store : y.store ≡ w.store
+  pub is : IsConsumer replica
+  pub follows : CanFollow w.log replica
+  pub made : call replica next
 
 module _ (w y : State) (i : Instance) (p : Partition) (q : Sequence) (o : Outcome) (s : IsSafeWorld w) (all : CanAllFollow w) where
   -- the replica is one of the segment's partition, and can follow
@@ -285,11 +309,13 @@ module _ (w y : State) (i : Instance) (p : Partition) (q : Sequence) (o : Outcom
       found_each (λ s e. CanFollowEntry w.log e) n.server.table.entries p q (Replica r) (all i.0 n there)
       (replica_found (entry_of n.server.table p q) r found)
 
-  pub consumes_less : (max : ℕ) → 0 < max → is_ready_at w i p q ≡ true → Steps w (event.Consume i p q max) y (Ok o) → LeavesLess w y
-  consumes_less max some ready (cost, due, h) = by_node (slice_get w.servers i.0) refl h
+  -- it consumes, and has less left
+  pub consumes_made : (max : ℕ) → 0 < max → is_ready_at w i p q ≡ true → Steps w (event.Consume i p q max) y (Ok o)
+      → HasMade (λ r next. (consumed r max w.moment w.log ≡ Some next) × (left_of w.log next < left_of w.log r)) w y i p q
+  consumes_made max some ready (cost, due, h) = by_node (slice_get w.servers i.0) refl h
     where
       by_node : (node : Option ServerNode) → slice_get w.servers i.0 ≡ node → ServerFetchesAt node w i (NodeConsumes p q max w.moment) cost (y, o)
-          → LeavesLess w y
+          → HasMade (λ r next. (consumed r max w.moment w.log ≡ Some next) × (left_of w.log next < left_of w.log r)) w y i p q
       by_node None there h = absurd h
       by_node (Some n) there (new, log, step, is) =
           let same : log ≡ w.log = takes_looks w.log log n.server.table new.server.table p q max w.moment (Ok tt) step.0 in
@@ -305,8 +331,11 @@ module _ (w y : State) (i : Instance) (p : Partition) (q : Sequence) (o : Outcom
           ∙ ap (is_ready_by w p) (sym found)
           ∙ (and_parts (nat_lt p.0 w.setup.partitions) (is_ready_by w p (replica_at w i p q)) ready).1 in
           let follows = own_follows n r there c.found in
-          put_leaves w y i.0 n new p q r c.next
-          (record {
+          record {
+            node = n;
+            new = new;
+            replica = r;
+            next = c.next;
             there = there;
             found = c.found;
             table = c.put;
@@ -314,21 +343,48 @@ module _ (w y : State) (i : Instance) (p : Partition) (q : Sequence) (o : Outcom
             up = step.2;
             servers = ap (λ (x : State). x.servers) is;
             log = ap (λ (x : State). x.log) is ∙ same;
-            less =
-                batch_less r c.next w.log w.moment max some over.1 over.2.held (consumed_takes r c.next max w.moment w.log takes) ready_now follows takes;
-            follow = batch_follows r c.next w.log w.moment max follows takes;
-            shut = batch_shut r c.next w.log w.moment max takes;
-          }) (ap (λ (x : State). x.setup) is) (ap (λ (x : State). x.controllers) is) (ap (λ (x : State). x.store) is)
+            setup = ap (λ (x : State). x.setup) is;
+            controllers = ap (λ (x : State). x.controllers) is;
+            store = ap (λ (x : State). x.store) is;
+            is = over.1;
+            follows = follows;
+            made = (
+              takes,
+              batch_less r c.next w.log w.moment max some over.1 over.2.held (consumed_takes r c.next max w.moment w.log takes) ready_now follows takes,
+            );
+          }
 
-  pub builds_less : Steps w (event.Build i p q) y (Ok o) → LeavesLess w y
-  builds_less (cost, due, h) = by_node (slice_get w.servers i.0) refl h
+  pub consumes_less : (max : ℕ) → 0 < max → is_ready_at w i p q ≡ true → Steps w (event.Consume i p q max) y (Ok o) → LeavesLess w y
+  consumes_less max some ready steps =
+      let m = consumes_made max some ready steps in
+      put_leaves w y i.0 m.node m.new p q m.replica m.next
+      (record {
+        there = m.there;
+        found = m.found;
+        table = m.table;
+        numbers = m.numbers;
+        up = m.up;
+        servers = m.servers;
+        log = m.log;
+        less = m.made.1;
+        follow = batch_follows m.replica m.next w.log w.moment max m.follows m.made.0;
+        shut = batch_shut m.replica m.next w.log w.moment max m.made.0;
+      }) m.setup m.controllers m.store
+
+  -- it builds
+  pub builds_made : Steps w (event.Build i p q) y (Ok o) → HasMade (λ r next. Builds r next (Ok tt)) w y i p q
+  builds_made (cost, due, h) = by_node (slice_get w.servers i.0) refl h
     where
-      by_node : (node : Option ServerNode) → slice_get w.servers i.0 ≡ node → ServerDoesAt node w i (NodeBuilds p q) cost (y, o) → LeavesLess w y
+      by_node : (node : Option ServerNode) → slice_get w.servers i.0 ≡ node → ServerDoesAt node w i (NodeBuilds p q) cost (y, o)
+          → HasMade (λ r next. Builds r next (Ok tt)) w y i p q
       by_node None there h = absurd h
       by_node (Some n) there (new, step, is) =
           let c = called_by (Unit {0}) (λ r next answer. Builds r next answer) n.server.table new.server.table p q (replica_of n.server.table p q) refl step.0 in
-          put_leaves w y i.0 n new p q c.replica c.next
-          (record {
+          record {
+            node = n;
+            new = new;
+            replica = c.replica;
+            next = c.next;
             there = there;
             found = c.found;
             table = c.put;
@@ -336,7 +392,27 @@ module _ (w y : State) (i : Instance) (p : Partition) (q : Sequence) (o : Outcom
             up = step.2;
             servers = ap (λ (x : State). x.servers) is;
             log = ap (λ (x : State). x.log) is;
-            less = build_less c.replica c.next w.log c.called;
-            follow = build_follows c.replica c.next w.log c.called;
-            shut = build_shut c.replica c.next c.called;
-          }) (ap (λ (x : State). x.setup) is) (ap (λ (x : State). x.controllers) is) (ap (λ (x : State). x.store) is)
+            setup = ap (λ (x : State). x.setup) is;
+            controllers = ap (λ (x : State). x.controllers) is;
+            store = ap (λ (x : State). x.store) is;
+            is = (replica_held w.setup (past_of w) n.server (s.safe.servers i.0 n there).over p q c.replica c.found).1;
+            follows = own_follows n c.replica there c.found;
+            made = c.called;
+          }
+
+  pub builds_less : Steps w (event.Build i p q) y (Ok o) → LeavesLess w y
+  builds_less steps =
+      let m = builds_made steps in
+      put_leaves w y i.0 m.node m.new p q m.replica m.next
+      (record {
+        there = m.there;
+        found = m.found;
+        table = m.table;
+        numbers = m.numbers;
+        up = m.up;
+        servers = m.servers;
+        log = m.log;
+        less = build_less m.replica m.next w.log m.made;
+        follow = build_follows m.replica m.next w.log m.made;
+        shut = build_shut m.replica m.next m.made;
+      }) m.setup m.controllers m.store

@@ -15,6 +15,7 @@ pub mod MachineRuns
 pub mod Machines
 pub mod Mended
 pub mod Missing
+pub mod Most
 pub mod Moving
 pub mod Nothing
 pub mod Noting

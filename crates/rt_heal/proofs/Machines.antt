@@ -1,9 +1,9 @@
 -- A replica of a segment can come to each offset that the segment's machine keeps: so it stays as the machine reacts to requests, and as
 -- a controller's job takes a step.
-use Rattle.std.proofs.Common.{◌≡◌, ◌⊎◌, inl, inr, ◌==◌, ℕ, List, map, Option, Some, None, Ok, sym, ◌∙◌, ap, subst, arith, slice_get}
+use Rattle.std.proofs.Common.{◌≡◌, ℕ, List, Option, Some, None, Ok, refl, sym, ◌∙◌, ap, subst, slice_get}
 use Rattle.std.specs.Prelude.{All}
 use Rattle.std.specs.List.{Contains}
-use Rattle.std.proofs.lemmas.List.Elements.{All-contains, All-map, All-weaker}
+use Rattle.std.proofs.lemmas.List.Elements.{All-weaker}
 use Rattle.std.proofs.lemmas.Option.{none-some, same_Some}
 use Rattle.rt_base.specs.declared.numbers.Instance.{Instance}
 use Rattle.rt_base.specs.declared.numbers.Moment.{Moment}
@@ -24,23 +24,12 @@ use Rattle.rt_controller.specs.Working.{job_place, settled, with_stage, work_at,
 use Rattle.rt_controller.specs.declared.segment_machine.SegmentMachine.{SegmentMachine}
 use Rattle.rt_controller.proofs.Keeps.{without}
 use Rattle.rt_controller.proofs.KeepsRequests.{made}
-use Rattle.rt_fsm.specs.Laws.{IsAfterPick, IsLargestNote}
-use Rattle.rt_fsm.proofs.Committer.{before_or_after, not_both, settled as settled_later}
-use Rattle.rt_fsm.proofs.Notes.{instances, left_out_instances, noted_instances, noted_some, winner_largest}
-use Rattle.rt_fsm.proofs.Offsets.{NoteHas}
-use Rattle.rt_fsm.proofs.Opened.{by_opened, Opens}
-use Rattle.rt_fsm.proofs.Pick.{fresh_instances}
-use Rattle.rt_fsm.proofs.Table.{by_test}
+use Rattle.rt_fsm.proofs.Offsets.{kept, keeps_first, Keeps, NoteHas}
 use Rattle.rt_lists.proofs.Lists.{contains_found}
 use Rattle.rt_lists.proofs.Members.{Has-place}
-use Rattle.rt_model.specs.Completion.{decided, first, fresh, goes, left_out, noted, react, with_note, with_pick, Completion, IsBeforePick}
+use Rattle.rt_model.specs.Completion.{first, react, IsBeforePick}
 use Rattle.rt_model.specs.declared.completion.Ask.{Ask}
 use Rattle.rt_model.specs.declared.completion.Ask.TheVariants as ask
-use Rattle.rt_model.specs.declared.completion.Reaction.{Reaction}
-use Rattle.rt_model.specs.declared.completion.Reaction.TheVariants as reaction
-use Rattle.rt_model.specs.declared.completion.Said.TheVariants as said
-use Rattle.rt_model.specs.declared.machine_state.MachineState.{MachineState}
-use Rattle.rt_model.specs.declared.machine_state.MachineState.TheVariants.{CommitterDecided}
 use Rattle.rt_model.specs.declared.job_step.JobStep.{JobStep}
 use Rattle.rt_model.specs.declared.reporter.Reporter.{Reporter}
 use Rattle.rt_model.specs.declared.reply.ReplyStatus.{ReplyStatus}
@@ -59,105 +48,10 @@ use Rattle.rt_heal.proofs.Reaching.{comes_grows}
 
 -- ---- a machine
 
--- each note is so, and the offset for which a committer was picked; and these are the reporters
-pub record MachineKeeps (P : Offset → Type 0) (is : List Instance) (m : Completion) : Type 0 where
-  pub notes : All (λ r. NoteHas P r.note) m.reporters
-  pub offset : IsAfterPick m.state → P m.offset
-  pub replicas : instances m.reporters ≡ is
-
-module _ (P : Offset → Type 0) (replicas : List Instance) where
-  abbrev HasNote : Reporter → Type 0
-  HasNote r = NoteHas P r.note
-
-  abbrev AllSo : List Reporter → Type 0
-  AllSo rs = All HasNote rs
-
-  all_mapped : (f : Reporter → Reporter) (rs : List Reporter) → ((r : Reporter) → HasNote r → HasNote (f r)) → AllSo rs → AllSo (map f rs)
-  all_mapped f rs keeps all = All-map HasNote f rs (All-weaker HasNote (λ r. HasNote (f r)) keeps rs all)
-
-  -- an offset is noted, and a note is left out
-  noted_so : (i : Instance) (x : Offset) (rs : List Reporter) → P x → AllSo rs → AllSo (map (noted i x) rs)
-  noted_so i x rs own = all_mapped (noted i x) rs (λ r has. by_test HasNote (r.instance.0 == i.0) _ r (λ here. own) (λ other. has))
-
-  left_so : (i : Instance) (rs : List Reporter) → AllSo rs → AllSo (map (left_out i) rs)
-  left_so i rs = all_mapped (left_out i) rs (λ r has. by_test HasNote (r.instance.0 == i.0) _ r (λ here. tt) (λ other. has))
-
-  -- so is the largest
-  largest_so : (w : Instance) (o : Offset) (rs : List Reporter) → IsLargestNote w o rs → AllSo rs → P o
-  largest_so w o rs l all =
-      let r = l.noted.1 in
-      let has : HasNote r = All-contains HasNote rs r all (l.noted.0, l.noted.2, l.noted.3) in
-      subst (NoteHas P) l.noted.4.1 has
-
-  -- a committer is picked
-  decided_so : (n : Completion) (i : Instance) (x : Offset) → AllSo n.reporters → P n.offset → instances n.reporters ≡ replicas
-      → MachineKeeps P replicas (decided n i x).1
-  decided_so n i x all own same =
-      by_test Kept (i.0 == n.winner.0) _ _ (λ winner. k)
-      (λ other. by_test Kept (x.0 == n.offset.0) (reaction.Answer said.Hold, goes n CommitterDecided) (reaction.Answer (said.CatchUp n.offset), goes n CommitterDecided) (λ at. k) (λ behind. k))
-    where
-      Kept : Reaction × Completion → Type 0
-      Kept y = MachineKeeps P replicas y.1
-
-      k : {state : MachineState} → MachineKeeps P replicas (goes n state)
-      k = record { notes = all; offset = λ picked. own; replicas = same }
-
-  -- it reacts to a report of such an offset
-  reacts_so : (m : Completion) (i : Instance) (what : Ask) (now : Moment) → ((x : Offset) (why : Reason) → what ≡ ask.Consumed x why → P x)
-      → Contains replicas i → MachineKeeps P replicas m → MachineKeeps P replicas (react m i what now).1
-  reacts_so m i what now reports there k = by_state (before_or_after m.state)
-    where
-      Kept : Reaction × Completion → Type 0
-      Kept y = MachineKeeps P replicas y.1
-
-      noting : (x : Offset) (why : Reason) → what ≡ ask.Consumed x why → AllSo (map (noted i x) m.reporters)
-      noting x why e = noted_so i x m.reporters (reports x why e) k.notes
-
-      opened : IsBeforePick m.state → Opens Kept m i what now
-      opened before =
-          record {
-            stays = λ what_said silent. k;
-            notes = λ x why e beyond. record {
-              notes = noting x why e;
-              offset = λ picked. absurd picked;
-              replicas = noted_instances i x m.reporters ∙ k.replicas;
-            };
-            stops = λ e. record {
-              notes = left_so i m.reporters k.notes;
-              offset = λ picked. absurd (not_both m.state before picked);
-              replicas = left_out_instances i m.reporters ∙ k.replicas;
-            };
-            decides = λ x why e beyond.
-                let n = with_pick (with_note m i x) i x now in
-                let here : Contains (instances m.reporters) i = subst (λ (is : List Instance). Contains is i) (sym k.replicas) there in
-                let largest = winner_largest (with_note m i x).reporters i x (omega (arith, beyond)) (noted_some i x m.reporters here) in
-                decided_so n i x (noting x why e) (largest_so n.winner n.offset n.reporters largest (noting x why e))
-                (noted_instances i x m.reporters ∙ k.replicas);
-          }
-
-      by_state : IsBeforePick m.state ⊎ IsAfterPick m.state → MachineKeeps P replicas (react m i what now).1
-      by_state (inl before) = by_opened Kept m i what now before (opened before)
-      by_state (inr later) =
-          let here = settled_later m i what now later in
-          record {
-            notes = subst AllSo (sym here.reporters) k.notes;
-            offset = λ picked. subst P (sym here.offset) (k.offset later);
-            replicas = ap instances here.reporters ∙ k.replicas;
-          }
-
-  -- and begins with no note
-  first_so : (seen : SeenMeta) (state : MachineState) (made_at : Moment) → IsBeforePick state → MachineKeeps P replicas (first seen replicas state made_at)
-  first_so seen state made_at before =
-      record {
-        notes = All-map HasNote fresh replicas (λ k d l. tt);
-        offset = λ picked. absurd (not_both state before picked);
-        replicas = fresh_instances replicas;
-      }
-
 -- a replica of its segment can come to what it keeps
 abbrev pub MachineReaches : Setup → Past → SegmentMachine → Type 0
 MachineReaches setup past m =
-    MachineKeeps (ComesTo setup past m.partition m.sequence) (replicas_of m.partition setup.table.replication setup.servers) m.machine
+    Keeps (ComesTo setup past m.partition m.sequence) m.machine.seen (replicas_of m.partition setup.table.replication setup.servers) m.machine
 
 -- ---- a past that grows
 
@@ -175,6 +69,7 @@ machine_grows setup a b m g k =
           (λ (r : Reporter). NoteHas (ComesTo setup b m.partition m.sequence) r.note)
           (λ r. note_weaker (ComesTo setup a m.partition m.sequence) (ComesTo setup b m.partition m.sequence) r.note on) m.machine.reporters k.notes;
       offset = λ picked. on m.machine.offset (k.offset picked);
+      segment = refl;
       replicas = k.replicas;
     }
 
@@ -215,9 +110,10 @@ module _ (setup : Setup) (past : Past) (r : Request) (q : IsRequest setup past r
       let own : ComesTo setup past m.partition m.sequence r.offset =
       subst (λ (p : Partition). ComesTo setup past p m.sequence r.offset) (sym at_p)
       (subst (λ (s : Sequence). ComesTo setup past r.partition s r.offset) (sym at_q) comes) in
-      reacts_so (ComesTo setup past m.partition m.sequence) replicas m.machine r.number.instance what now
-      (λ x why is. subst (ComesTo setup past m.partition m.sequence) (reported r.offset r.kind what x why asks is) own)
-      (sender_there m.partition at_p) k
+      let n = kept (ComesTo setup past m.partition m.sequence) m.machine.seen replicas m.machine r.number.instance what now
+      (λ x why is past_start. subst (ComesTo setup past m.partition m.sequence) (reported r.offset r.kind what x why asks is) own)
+      (sender_there m.partition at_p) k in
+      record { notes = n.notes; offset = n.offset; segment = refl; replicas = n.replicas }
 
   -- a machine that is made
   pub first_reaches : (a : Assigned) (seen : SeenMeta) → a ≡ assigned_by setup
@@ -225,8 +121,8 @@ module _ (setup : Setup) (past : Past) (r : Request) (q : IsRequest setup past r
   first_reaches a seen e =
       let replicas = replicas_in a r.partition in
       let same : replicas ≡ replicas_of r.partition setup.table.replication setup.servers = ap (λ (x : Assigned). replicas_in x r.partition) e in
-      subst (λ (is : List Instance). MachineKeeps (ComesTo setup past r.partition r.sequence) is (first seen replicas (first_state what) now)) same
-      (first_so (ComesTo setup past r.partition r.sequence) replicas seen (first_state what) now (before_pick what))
+      subst (λ (is : List Instance). Keeps (ComesTo setup past r.partition r.sequence) seen is (first seen replicas (first_state what) now)) same
+      (keeps_first (ComesTo setup past r.partition r.sequence) seen replicas (first_state what) now (before_pick what))
 
 -- ---- a job's step
 

@@ -456,7 +456,7 @@ round_leaves w v safe up unplanned led h =
     let q = from_quiet (ReplicasTurn false)
     (λ i u. IsLed u → is_server_up u (record { 0 = i }) ≡ true → (s : SegmentAt) → Has (held_in u (record { 0 = i })) s → HasNothing (record { 0 = i }) s u)
     held_quiet 0 y.setup.servers t.told y t.last t.further in
-    let k : IsHealthy w w = record { safe = safe; same = refl; written = refl; up = up; unplanned = unplanned; controllers = refl; reached = ([], refl) } in
+    let k : IsHealthy w w = record { safe = safe; same = refl; log = refl; written = refl; up = up; unplanned = unplanned; controllers = refl; reached = ([], refl) } in
     let calm = servers_quiet w 0 w.setup.servers false w t.between k (λ i n found below. absurd (omega (arith, below)))
     (subst (λ (b : Bool). ServersTurn false w t.between (Ok b)) q.unbusy t.came) in
     let end : v.world ≡ y = ap (λ (x : Reached). x.world) t.whole ∙ ap (λ (x : Reached). x.world) q.same in

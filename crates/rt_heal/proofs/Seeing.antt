@@ -50,6 +50,7 @@ use Rattle.rt_heal.specs.AtRest.{IsUp}
 pub record IsHealthy (from w : State) : Type 0 where
   pub safe : IsSafeWorld w
   pub same : w.setup ≡ from.setup
+  pub log : w.log ≡ from.log
   pub written : w.store.writes ≡ from.store.writes
   pub up : AreAt IsUp w.servers
   pub unplanned : w.store.faults.plan ≡ []
@@ -163,6 +164,7 @@ see_healthy from w i n y outcome k there step s =
     let healthy : IsHealthy from z = record {
       safe = subst IsSafeWorld s.is safe;
       same = k.same;
+      log = k.log;
       written = s.writes ∙ k.written;
       up = at_set IsUp w.servers i.0 s.new (s.up ∙ k.up i.0 n there) k.up;
       unplanned = s.unplanned;

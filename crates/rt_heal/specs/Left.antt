@@ -9,6 +9,8 @@ use Rattle.rt_consumer.specs.declared.stage.Stage.TheVariants.{InitialConsuming,
 use Rattle.rt_entry.specs.declared.entry.Entry.{Entry}
 use Rattle.rt_entry.specs.declared.entry.Entry.TheVariants.{Replica, Committed}
 use Rattle.rt_lists.specs.Members.{Has}
+use Rattle.rt_model.specs.Entries.{entries_of}
+use Rattle.rt_model.specs.declared.ideal_state.IdealEntry.{IdealEntry}
 use Rattle.rt_nodes.specs.declared.server_node.ServerNode.{ServerNode}
 use Rattle.rt_server.specs.Table.{Segment}
 use Rattle.rt_state.specs.declared.state.State.{State}
@@ -81,6 +83,15 @@ left_servers log (n ∷ ns) = left_server log n + left_servers log ns
 -- all that is left to its replicas
 abbrev pub left_in_world : State → ℕ
 left_in_world w = left_servers w.log w.servers
+
+-- for each entry of an ideal state all messages of its partition, and a step
+abbrev pub most_entries : Log → List IdealEntry → ℕ
+most_entries log [] = 0
+most_entries log (e ∷ es) = (length (messages_of log e.partition) + 1) + most_entries log es
+
+-- the most that can be left where servers have what the ideal state asks of them
+abbrev pub most_left : State → ℕ
+most_left w = most_entries w.log (entries_of w.store.writes)
 
 abbrev pub CanFollowEntry : Log → Entry → Type 0
 CanFollowEntry log (Replica r) = CanFollow log r

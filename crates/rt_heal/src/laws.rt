@@ -51,7 +51,7 @@ ghost use Rattle.rt_heal.specs.Calm.{AreAllCalm};
 ghost use Rattle.rt_heal.specs.Dropped.{AreDroppedOut, IsOut};
 ghost use Rattle.rt_heal.specs.GivenUp.{IsConsumable};
 ghost use Rattle.rt_heal.specs.Led.{IsLed};
-ghost use Rattle.rt_heal.specs.Left.{left_in_world, CanAllFollow};
+ghost use Rattle.rt_heal.specs.Left.{left_in_world, most_left, CanAllFollow};
 ghost use Rattle.rt_heal.specs.Mended.{GoesOn, NeedsNoRepair};
 ghost use Rattle.rt_heal.specs.Planned.{AreOnline, IsGivenWhole, NoneDropped};
 ghost use Rattle.rt_heal.specs.Reachable.{ComesTo};
@@ -213,15 +213,17 @@ pub fn settle_ends_where_no_replica_asks()
 {}
 
 /// From any world of a run on in which all servers are up and no fault of a store is planned, one round of `settle` leaves each server
-/// calm, unless a replica asks in it: it has seen the present ideal state, and has nothing to move and no file to get. So `settle`
-/// answers `settled` there as soon as it has two rounds more than there are messages and steps left behind its first, unless a replica
-/// asks a controller.
+/// calm, unless a replica asks in it: it has seen the present ideal state, and has nothing to move and no file to get. So no more is
+/// left than all messages of its partition, and a step, for each entry of the ideal state; and `settle` answers `settled` as soon as it
+/// has two rounds more than that, unless a replica asks a controller.
 pub fn a_round_leaves_all_servers_calm()
     ensures calms { (setup : Setup) (turns : List Turn) (paused : Bool) (w : State) (v : Reached) (told : Bool) → IsSetup setup
         → Runs setup turns w → AreUp w → w.store.faults.plan ≡ [] → w.deep.faults.plan ≡ [] → Round paused w v (Ok told)
         → Asks w v ⊎ AreAllCalm v.world }
+    ensures leaves { (setup : Setup) (turns : List Turn) (paused : Bool) (w : State) (v : Reached) (told : Bool) → IsSetup setup
+        → Runs setup turns w → AreUp w → w.store.faults.plan ≡ [] → w.deep.faults.plan ≡ [] → Round paused w v (Ok told)
+        → Asks w v ⊎ (left_in_world v.world ≤ most_left w) }
     ensures settles { (setup : Setup) (turns : List Turn) (paused : Bool) (rounds : ℕ) (w : State) (u : Reached) (settled : Bool)
         → IsSetup setup → Runs setup turns w → AreUp w → w.store.faults.plan ≡ [] → w.deep.faults.plan ≡ []
-        → ((v : Reached) (told : Bool) → Round paused w v (Ok told) → left_in_world v.world + 1 < rounds)
-        → Settles paused rounds w u (Ok settled) → Asks w u ⊎ (settled ≡ true) }
+        → most_left w + 1 < rounds → Settles paused rounds w u (Ok settled) → Asks w u ⊎ (settled ≡ true) }
 {}

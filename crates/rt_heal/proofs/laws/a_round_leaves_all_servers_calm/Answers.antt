@@ -1,8 +1,11 @@
-use Rattle.rt_heal.proofs.Calming.{round_calms, settle_ends_in_run}
+use Rattle.rt_heal.proofs.Calming.{round_calms, round_most, settle_ends_in_run}
 use Rattle.rt_heal.proofs.laws.a_round_leaves_all_servers_calm.Goals as goal
 
 pub returns-clause-calms : goal.returns-clause-calms
 returns-clause-calms c = round_calms
+
+pub returns-clause-leaves : goal.returns-clause-leaves
+returns-clause-leaves c = round_most
 
 pub returns-clause-settles : goal.returns-clause-settles
 returns-clause-settles c =
