@@ -3,19 +3,19 @@ ghost use Rattle.std.specs.Prelude.{◌≡◌, ◌<◌, ◌≤◌, ◌^◌, ◌�
 ghost use Rattle.rt_model.specs.Aggregate.{key_of, taken};
 ghost use Rattle.rt_model.specs.Match.{passes, value_in};
 ghost use Rattle.rt_agg.specs.Grouped.{AddsUnder, Fits, Holds};
+ghost use Rattle.rt_agg.specs.ValueRef.{value_lent};
 ghost use Rattle.rt_seek.specs.Table.{row_at, rows_by};
 ghost use Rattle.rt_scan.specs.Grouping.{key_by, value_by, AreLeast, IsLeast, Leads};
 
 use crate::group_ids::GroupIds;
 use crate::row_reader::RowReader;
-use rt_agg::Groups;
+use rt_agg::{GroupKey, Groups, ValueRef};
 use rt_lists::Items;
 use rt_model::{ColumnAt, Query};
 use rt_postings::DocSet;
 use rt_schema::Value;
 use rt_seek::ScanColumn;
 use std::alloc::{AllocError, Global};
-use std::slice;
 
 /// The groups of the rows of a set. Fails only where memory is refused.
 pub(crate) fn groups_of<C: ScanColumn>(
@@ -89,7 +89,7 @@ fn add_by_id<C: ScanColumn>(
             Ok(())
         }
         None => {
-            let key = read_key(alloc, slice::from_ref(by), columns, row)?;
+            let key = GroupKey::of_one(alloc, value_in(columns, row, by))?;
             let index = groups.add_new(key, &reader)?;
             met.note_one(id, index)
         }
@@ -130,8 +130,8 @@ fn add_by_ids<C: ScanColumn>(
             Ok(())
         }
         None => {
-            let key = read_key(alloc, by, columns, row)?;
-            let index = groups.add_new(key, &reader)?;
+            let values = read_values(alloc, by, columns, row)?;
+            let index = groups.add_new(GroupKey::of(values), &reader)?;
             met.note(copy_of(alloc, ids)?, index)
         }
     }
@@ -176,36 +176,31 @@ fn id_in<C: ScanColumn>(columns: &[C], row: u32, column: &ColumnAt) -> u32
     }
 }
 
-// The key of a row's group.
-fn read_key<C: ScanColumn>(
+// The values of a row in the columns of GROUP BY.
+fn read_values<C: ScanColumn>(
     alloc: Global,
     by: &[ColumnAt],
     columns: &[C],
     row: u32,
 ) -> Result<Items<Value>, AllocError>
     requires { All (λ column. row < length (C.values column)) columns.now }
-    ensures { IfOk result (λ key. key ≡ key_of by.now (row_at C.values columns.now row)) }
+    ensures { IfOk result (λ values. values ≡ key_of by.now (row_at C.values columns.now row)) }
 {
-    let mut key = Vec::with_capacity(alloc, by.len())?;
+    let mut values = Vec::with_capacity(alloc, by.len())?;
     for column in by {
-        key.push(value_in(alloc, columns, row, column)?)?;
+        values.push(value_in(columns, row, column).copied(alloc)?)?;
     }
-    Ok(Items::of(key))
+    Ok(Items::of(values))
 }
 
-fn value_in<C: ScanColumn>(
-    alloc: Global,
-    columns: &[C],
-    row: u32,
-    column: &ColumnAt,
-) -> Result<Value, AllocError>
+fn value_in<'a, C: ScanColumn>(columns: &'a [C], row: u32, column: &ColumnAt) -> ValueRef<'a>
     requires { All (λ column. row < length (C.values column)) columns.now }
-    ensures { IfOk result (λ value. value ≡ value_in (row_at C.values columns.now row) column.now) }
+    ensures { value_lent result ≡ value_in (row_at C.values columns.now row) column.now }
 {
     let place = column.place as usize;
     if place < columns.len() {
-        columns[place].value(alloc, row)
+        columns[place].value(row)
     } else {
-        Ok(Value::Bool(false))
+        ValueRef::Bool(false)
     }
 }

@@ -3,7 +3,6 @@ use Rattle.std.specs.List.{Contains}
 use Rattle.std.proofs.lemmas.Result.{on_ok_weaker}
 use Rattle.rt_schema.specs.declared.value.Value.{Value}
 use Rattle.rt_model.specs.Aggregate.{key_of}
-use Rattle.rt_model.specs.declared.query_parts.ColumnAt.{ColumnAt}
 use Rattle.rt_agg.specs.Grouped.{AddsUnder, keys_in_order}
 use Rattle.rt_seek.specs.Table.{row_at}
 use Rattle.rt_scan.proofs.Leading.{leads_one, leads_still}
@@ -24,7 +23,7 @@ add_new-requires g c there =
     let row = row_at g.C.ScanColumn.values c.args.columns.now c.args.row in
     c.requires.met.one refl c.id_in-id.result (c.id_in-id.ensures.least, tt)
     (subst (λ (key : List Value). Contains (keys_in_order c.args.groups.now) key)
-    (c.in_ok-key-in-None.ensures {u = tt} ∙ ap (λ (by : List ColumnAt). key_of by row) c.from_ref.ensures.value ∙ ap (λ v. v ∷ []) (sym c.id_in-id.ensures.value)) there)
+    (c.in_ok-key-in-None.ensures {u = tt} ∙ ap (λ v. v ∷ []) c.value_in.ensures ∙ ap (λ v. v ∷ []) (sym c.id_in-id.ensures.value)) there)
     c.in-None.ensures.none
 
 pub returns-in_ok-index-in-None-clause-adds : goal.returns-in_ok-index-in-None-clause-adds
@@ -32,7 +31,7 @@ returns-in_ok-index-in-None-clause-adds g c =
     let row = row_at g.C.ScanColumn.values c.args.columns.now c.args.row in
     on_ok_always c.note_one.result
     (subst (λ (key : List Value). AddsUnder key row c.args.groups.now c.add_new.new.self)
-    (c.in_ok-key-in-None.ensures {u = tt} ∙ ap (λ (by : List ColumnAt). key_of by row) c.from_ref.ensures.value)
+    (c.in_ok-key-in-None.ensures {u = tt} ∙ ap (λ v. v ∷ []) c.value_in.ensures)
     c.in_ok-index-in-None.ensures.adds)
 
 pub returns-in_ok-index-in-None-clause-met : goal.returns-in_ok-index-in-None-clause-met
@@ -41,6 +40,6 @@ returns-in_ok-index-in-None-clause-met g c =
     on_ok_weaker c.note_one.result (λ notes.
     leads_one g.C.ScanColumn.values g.C.ScanColumn.value_of c.args.columns.now (c.args.by.now ∷ []) c.args.groups.now c.add_new.new.self c.args.met.now c.note_one.new.self
     c.requires.met c.in_ok-key-in-None.key c.in_ok-index-in-None.ensures.keys c.in_ok-index-in-None.index c.in_ok-index-in-None.ensures.index c.id_in-id.result refl
-    (ap (λ v. v ∷ []) c.id_in-id.ensures.value ∙ sym (c.in_ok-key-in-None.ensures {u = tt} ∙ ap (λ (by : List ColumnAt). key_of by row) c.from_ref.ensures.value))
+    (ap (λ v. v ∷ []) c.id_in-id.ensures.value ∙ sym (c.in_ok-key-in-None.ensures {u = tt} ∙ ap (λ v. v ∷ []) c.value_in.ensures))
     (c.id_in-id.ensures.least, tt) notes c.note_one.ensures.same)
     c.note_one.ensures.noted
