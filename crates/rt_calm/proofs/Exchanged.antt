@@ -1,0 +1,744 @@
+-- An exchange puts its replica off, or leaves less ahead.
+use Rattle.std.proofs.Common.{◌≡◌, ◌⊎◌, inl, inr, ℕ, zero, suc, ◌<◌, ◌==◌, ◌&&◌, Bool, true, false, cond, List, [], ◌∷◌, length, Option, Some, None, Ok, refl, sym, ◌∙◌, ap, subst, arith, slice_get}
+use Rattle.std.specs.Prelude.{slice_set}
+use Rattle.std.specs.List.{Contains}
+use Rattle.std.proofs.lemmas.Bool.{eq-eqb, true≢false}
+use Rattle.std.proofs.lemmas.Option.{none-some, same_Some}
+use Rattle.rt_base.specs.declared.numbers.ControllerId.{ControllerId}
+use Rattle.rt_base.specs.declared.numbers.Instance.{Instance}
+use Rattle.rt_base.specs.declared.numbers.Offset.{Offset}
+use Rattle.rt_base.specs.declared.numbers.Partition.{Partition}
+use Rattle.rt_base.specs.declared.numbers.Sequence.{Sequence}
+use Rattle.rt_commit.specs.Assignment.{replicas_in, Assigned}
+use Rattle.rt_commit.specs.Job.{commits}
+use Rattle.rt_commit.specs.Lasting.{commit_end, work_end}
+use Rattle.rt_commit.specs.Right.{EndsSo, MetFault, StatusSo}
+use Rattle.rt_commit.specs.declared.job.Job.{Job}
+use Rattle.rt_commit.specs.declared.job.JobStage.{JobStage}
+use Rattle.rt_commit.specs.declared.job.JobStage.TheVariants as stage
+use Rattle.rt_commit.specs.declared.work.Work.{Work}
+use Rattle.rt_commit.specs.declared.work.Work.TheVariants as work
+use Rattle.rt_consumer.specs.Consumer.{cur, end_in, ends_at, is_at}
+use Rattle.rt_consumer.specs.Replies.{answered, replied as answered_by, turned}
+use Rattle.rt_consumer.specs.Requests.{kind_in, Requests as AsksItself}
+use Rattle.rt_consumer.specs.declared.consumer.Consumer.{Consumer}
+use Rattle.rt_consumer.specs.declared.waited.Waited.TheVariants.{Step}
+use Rattle.rt_controller.specs.Controller.{Controlling}
+use Rattle.rt_controller.specs.Lasting.{IsControllerOver, IsMachineOver}
+use Rattle.rt_controller.specs.Right.{job_of, LeavesJob, WorksOver}
+use Rattle.rt_controller.specs.Steps.{Handles as HandlesIt}
+use Rattle.rt_controller.specs.declared.handled.Handled.{Handled}
+use Rattle.rt_controller.specs.declared.handled.Handled.TheVariants as handled
+use Rattle.rt_controller.proofs.CallsOver.{handles_over}
+use Rattle.rt_controller.proofs.JobsStay.{found_job}
+use Rattle.rt_deep.specs.Meaning.{Told as ToldDeep}
+use Rattle.rt_deep.specs.Memory.{means as deep_means}
+use Rattle.rt_entry.specs.declared.entry.Entry.TheVariants.{Replica}
+use Rattle.rt_entry.specs.declared.refused.ServerRefused.TheVariants.{NotDue}
+use Rattle.rt_events.specs.Fits.{Fits as IsFitting}
+use Rattle.rt_events.specs.declared.event.Event.{Event}
+use Rattle.rt_events.specs.declared.event.Event.TheVariants as event
+use Rattle.rt_events.specs.declared.outcome.Outcome.{Outcome}
+use Rattle.rt_events.specs.declared.outcome.Outcome.TheVariants as came
+use Rattle.rt_events.specs.declared.refusal.Refusal.TheVariants.{Limit, NothingToDo}
+use Rattle.rt_base.specs.declared.which.Which.TheVariants.{Events}
+use Rattle.rt_lists.specs.Members.{Has}
+use Rattle.rt_lists.proofs.Lists.{All-found, contains_found}
+use Rattle.rt_lists.proofs.Members.{Has-append_left, Has-append_right, Has-place, Has-push}
+use Rattle.rt_macros.specs.Doing.{Gives, Happens, Reached, after, stays}
+use Rattle.rt_macros.specs.Exchanging.{AfterDelivery, AfterReply, AfterReport, AfterStep, EndsJob, Handles, MakesStep, TakesAnswer}
+use Rattle.rt_macros.specs.Outcomes.{delivered_in, ended_in, ending, replied, state_in}
+use Rattle.rt_macros.specs.declared.exchanging.Exchanged.{Exchanged}
+use Rattle.rt_macros.specs.declared.outcomes.Delivered.{Delivered}
+use Rattle.rt_macros.specs.declared.outcomes.Delivered.TheVariants as delivered
+use Rattle.rt_macros.specs.declared.outcomes.Replied.{Replied}
+use Rattle.rt_model.specs.Messages.{asked_of, same_number}
+use Rattle.rt_model.specs.Metadata.{IsDoneStatus}
+use Rattle.rt_model.specs.declared.job_step.JobStep.{JobStep}
+use Rattle.rt_model.specs.declared.job_step.StepName.{StepName}
+use Rattle.rt_model.specs.declared.node.Seen.{Seen}
+use Rattle.rt_model.specs.declared.reply.Reply.{Reply}
+use Rattle.rt_model.specs.declared.reply.ReplyStatus.{ReplyStatus}
+use Rattle.rt_model.specs.declared.reply.ReplyStatus.TheVariants as status
+use Rattle.rt_model.specs.declared.request.Request.{Request}
+use Rattle.rt_model.specs.declared.request.RequestKind.{RequestKind}
+use Rattle.rt_model.specs.declared.request.RequestKind.TheVariants as kind
+use Rattle.rt_model.specs.declared.request.RequestNumber.{RequestNumber}
+use Rattle.rt_model.specs.declared.replica_state.ReplicaState.{ReplicaState}
+use Rattle.rt_model.specs.declared.seg_meta.SeenMeta.{SeenMeta}
+use Rattle.rt_model.specs.declared.status.Status.{Status}
+use Rattle.rt_msgs.specs.Numbered.{number_at}
+use Rattle.rt_nodes.specs.Messages.{node_took}
+use Rattle.rt_nodes.specs.Requests.{NodeAsks}
+use Rattle.rt_nodes.specs.declared.controller_node.ControllerNode.{ControllerNode}
+use Rattle.rt_nodes.specs.declared.server_node.ServerNode.{ServerNode}
+use Rattle.rt_past.specs.Segments.{IsAssignedTo}
+use Rattle.rt_assign.specs.Placement.{replicas_of}
+use Rattle.rt_safety.proofs.JobsOn.{own_slot}
+use Rattle.rt_safety.proofs.Runs.{leads_safe}
+use Rattle.rt_safety.proofs.SuccessEnds.{success_ends}
+use Rattle.rt_safety.specs.CommitRun.{job_in, open_job}
+use Rattle.rt_safety.specs.Runs.{happens, Leads, Turn}
+use Rattle.rt_server.proofs.LastingAsks.{answered_ok, no_answer}
+use Rattle.rt_server.specs.Calls.{replied_at, ThroughAt}
+use Rattle.rt_server.specs.Table.{put_back, replica_of, Segments}
+use Rattle.rt_state.proofs.Bounds.{few_writes}
+use Rattle.rt_state.specs.Applying.{Next}
+use Rattle.rt_state.specs.Finding.{reply_at, request_at}
+use Rattle.rt_state.specs.IsSafe.{past_of}
+use Rattle.rt_state.specs.IsSafeWorld.{IsSafeWorld}
+use Rattle.rt_state.specs.Jobs.{stepped_by, JobStepsAt, noted_set}
+use Rattle.rt_state.specs.Messages.{after_step, handed, DeliversAt, RepliesAt}
+use Rattle.rt_state.specs.Nodes.{ServerDoesAt}
+use Rattle.rt_state.specs.Requests.{SendsAt}
+use Rattle.rt_state.specs.declared.state.State.{State}
+use Rattle.rt_store.specs.Meaning.{Told}
+use Rattle.rt_store.specs.Memory.{means}
+use Rattle.rt_stream.specs.Log.{Log}
+use Rattle.rt_unrefused.proofs.Answered.{delivers, delivery_leaves, job_leaves, job_steps, Behind as AnswersBehind, Delivers, IsAnswer}
+use Rattle.rt_unrefused.proofs.JobSteps.{is_open_job, over, own_step, there_then, OwnStep, SendsIts}
+use Rattle.rt_unrefused.proofs.Requested.{replica_put, requested, IsRequested}
+use Rattle.rt_world.proofs.KeepsMessages.{request_sent}
+use Rattle.rt_world.specs.Reading.{events_left_in}
+use Rattle.rt_world.specs.Step.{Steps}
+use Rattle.rt_heal.proofs.Dropped.{leads_told, IsToldRightly}
+use Rattle.rt_heal.proofs.Quiet.{IsThen, then_parts, told_not, told_same}
+use Rattle.rt_calm.specs.Ahead.{ahead_in_world, ahead_of, ahead_servers}
+use Rattle.rt_calm.specs.Off.{IsPutOff, PutsOff}
+use Rattle.rt_calm.proofs.Fitting.{hands_out, Fits, HandsOut, Starts}
+use Rattle.rt_calm.proofs.Standing.{answer_falls}
+use Rattle.rt_calm.proofs.Sums.{put_falls, put_still}
+
+-- ---- worlds of a run
+
+-- a safe world in which all that was told is right
+pub record IsGoing (u : State) : Type 0 where
+  pub safe : IsSafeWorld u
+  pub told : IsToldRightly u
+
+pub goes_on : (u v : State) (e : Event) (o : Outcome) → IsGoing u → IsFitting u.setup.schema e → Steps u e v (Ok o) → IsGoing v
+goes_on u v e o k fits steps =
+    let leads : Leads u (happens e o ∷ []) v = (v, (fits, steps), refl) in
+    record { safe = leads_safe u (happens e o ∷ []) v k.safe leads; told = leads_told u (happens e o ∷ []) v k.safe k.told leads }
+
+-- ---- the request
+
+-- a replica that has sent a request, and else stands as it stood
+record HasAsked (w u : State) (i : Instance) (p : Partition) (q : Sequence) (request : Request) : Type 0 where
+  old : ServerNode
+  at : slice_get w.servers i.0 ≡ Some old
+  replica : Consumer
+  found : replica_of old.server.table p q ≡ Some replica
+  kind : kind_in replica.name request.number replica.phase ≡ Some request.kind
+  offset : request.offset ≡ cur replica
+  new : ServerNode
+  servers : u.servers ≡ slice_set w.servers i.0 new
+  table : new.server.table ≡ put_back old.server.table p q (Replica (record replica { waited = Some (Step request.number) }))
+  log : u.log ≡ w.log
+
+abbrev pub came_sent : ℕ → Request → Outcome
+came_sent m request = came.Sent m request
+
+same_sent : (m n : ℕ) (q r : Request) → came_sent m q ≡ came_sent n r → q ≡ r
+same_sent m n q r e = cc
+
+has_asked : (w u : State) (i : Instance) (p : Partition) (q : Sequence) (request : Request) → Steps w (event.Report i p q) u (Ok (came.Sent (length w.sent) request))
+    → HasAsked w u i p q request
+has_asked w u i p q request (cost, due, h) = by_server (slice_get w.servers i.0) refl h
+  where
+    by_server : (n : Option ServerNode) → slice_get w.servers i.0 ≡ n → SendsAt n w i (NodeAsks p q) cost (u, came.Sent (length w.sent) request)
+        → HasAsked w u i p q request
+    by_server None at h = absurd h
+    by_server (Some old) at (new, sent_one, does, is) = by_replica (replica_of old.server.table p q) refl does.0
+      where
+        own : sent_one ≡ request
+        own = same_sent (length w.sent) (length w.sent) sent_one request (sym (ap (λ (x : Next). x.1) is))
+
+        by_replica : (o : Option Consumer) → replica_of old.server.table p q ≡ o
+            → ThroughAt o (new.server.numbers ≡ old.server.numbers)
+            (λ r next answer. AsksItself r next old.server.numbers new.server.numbers answer) old.server.table new.server.table p q (Ok sent_one)
+            → HasAsked w u i p q request
+        by_replica None found through = absurd (no_answer NotDue sent_one through.1)
+        by_replica (Some r) found through =
+            let c : AsksItself r through.0 old.server.numbers new.server.numbers (Ok sent_one) =
+            subst (AsksItself r through.0 old.server.numbers new.server.numbers) (answered_ok through.1 sent_one through.3) through.2 in
+            let number : number_at old.server.numbers old.server.numbers.made ≡ request.number =
+            sym (ap (λ (x : Request). x.number) c.1) ∙ ap (λ (x : Request). x.number) own in
+            record {
+              old = old;
+              at = at;
+              replica = r;
+              found = found;
+              kind =
+                  ap (λ (n : RequestNumber). kind_in r.name n r.phase) (sym number) ∙ c.0
+                  ∙ ap (λ (x : Request). some_kind x.kind) own;
+              offset = ap (λ (x : Request). x.offset) (sym own) ∙ ap (λ (x : Request). x.offset) c.1;
+              new = new;
+              servers = ap (λ (x : Next). x.0.servers) is;
+              table =
+                  through.4
+                  ∙ ap (λ (x : Consumer). put_back old.server.table p q (Replica x))
+                  (c.2 ∙ ap (λ (n : RequestNumber). record r { waited = Some (Step n) }) number);
+              log = ap (λ (x : Next). x.0.log) is;
+            }
+          where
+            some_kind : RequestKind → Option RequestKind
+            some_kind k = Some k
+
+-- ---- a controller's part
+
+-- servers and log stay as they are
+record IsAsking (u z : State) : Type 0 where
+  going : IsGoing z
+  servers : z.servers ≡ u.servers
+  log : z.log ≡ u.log
+
+asking_on : (u z y : State) (e : Event) (o : Outcome) → IsAsking u z → IsFitting z.setup.schema e → Steps z e y (Ok o) → y.servers ≡ z.servers → y.log ≡ z.log
+    → IsAsking u y
+asking_on u z y e o k fits steps servers log =
+    record { going = goes_on z y e o k.going fits steps; servers = servers ∙ k.servers; log = log ∙ k.log }
+
+delivery_log : (w v : State) (m : ℕ) (c : ControllerId) (o : Outcome) → Steps w (event.Deliver m c) v (Ok o) → v.log ≡ w.log
+delivery_log w v m c o (cost, due, h) = by_found (request_at w m) (slice_get w.controllers c.0) h
+  where
+    by_answer : (z : State) (what : Handled) → z.log ≡ w.log → (v, o) ≡ handed z cost what → v.log ≡ w.log
+    by_answer z (handled.Reply y) same is = ap (λ (n : Next). n.0.log) is ∙ same
+    by_answer z (handled.Job j) same is = ap (λ (n : Next). n.0.log) is ∙ same
+
+    by_found : (q : Option Request) (n : Option ControllerNode) → DeliversAt q n w c cost (v, o) → v.log ≡ w.log
+    by_found None n h = absurd h
+    by_found (Some q) None h = absurd h
+    by_found (Some q) (Some n) (new, what, store, deep, handles, is) = by_answer (after_step w c n new store deep) what refl is
+
+job_log : (w v : State) (c : ControllerId) (j : ℕ) (o : Outcome) → Steps w (event.Job c j) v (Ok o) → v.log ≡ w.log
+job_log w v c j o (cost, due, h) = by_node (slice_get w.controllers c.0) h
+  where
+    by_reply : (z : State) (step : JobStep) (r : Option Reply) → z.log ≡ w.log → (v, o) ≡ stepped_by z cost step r → v.log ≡ w.log
+    by_reply z step None same is = ap (λ (n : Next). n.0.log) is ∙ same
+    by_reply z step (Some y) same is = ap (λ (n : Next). n.0.log) is ∙ same
+
+    by_node : (n : Option ControllerNode) → JobStepsAt n w c j cost (v, o) → v.log ≡ w.log
+    by_node None h = absurd h
+    by_node (Some n) (new, step, store, deep, works, is) =
+        by_reply (noted_set (after_step w c n new store deep) cost (length w.store.writes)) step step.reply refl is
+
+-- ---- a job
+
+-- a job that is open for a request
+record IsOpenFor (z : State) (c : ControllerId) (j : ℕ) (q : Request) : Type 0 where
+  job : Job
+  there : open_job z c j ≡ Some job
+  asked : job.asked ≡ asked_of q
+  starts : Starts q.offset q.kind job.stage
+
+starts_on : (x : Offset) (k : RequestKind) (s t : JobStage) → commit_end t ≡ commit_end s → Starts x k s → Starts x k t
+starts_on x (kind.CommitEnd path) s t same starts = same ∙ starts
+starts_on x kind.Stopped s t same starts = same ∙ starts
+starts_on x (kind.Extend millis) s t same starts = tt
+starts_on x (kind.Consumed reason) s t same starts = absurd starts
+starts_on x kind.CommitStart s t same starts = absurd starts
+starts_on x (kind.Upload path bytes) s t same starts = absurd starts
+
+-- a job commits where it has an end
+work_commits : (w : Work) (x : Offset) → work_end w ≡ Some x → commits (stage.IdealRead w []) ≡ true
+work_commits (work.Commit done) x e = refl
+work_commits work.Offline x e = absurd (none-some x e)
+
+does_commit : (s : JobStage) (x : Offset) → commit_end s ≡ Some x → commits s ≡ true
+does_commit (stage.Check from end path) x e = refl
+does_commit (stage.Done from commit) x e = refl
+does_commit (stage.Next done) x e = refl
+does_commit (stage.IdealRead w found) x e = work_commits w x e
+does_commit (stage.IdealSet w found ideal) x e = work_commits w x e
+does_commit stage.Ended x e = absurd (none-some x e)
+
+abbrev some_offset : Offset → Option Offset
+some_offset x = Some x
+
+work_offline : (w : Work) → work_end w ≡ None → commits (stage.IdealRead w []) ≡ false
+work_offline (work.Commit done) e = absurd (none-some _ (sym e))
+work_offline work.Offline e = refl
+
+does_not : (s : JobStage) → commit_end s ≡ None → commits s ≡ false
+does_not (stage.Check from end path) e = absurd (none-some end (sym e))
+does_not (stage.Done from commit) e = absurd (none-some commit.end (sym e))
+does_not (stage.Next done) e = absurd (none-some _ (sym e))
+does_not (stage.IdealRead w found) e = work_offline w e
+does_not (stage.IdealSet w found ideal) e = work_offline w e
+does_not stage.Ended e = refl
+
+-- what a job answers fits its request
+job_fits : (h : List Seen) (p : Partition) (t : Sequence) (rose : Type 0) (n : StepName) (x : Offset) (k : RequestKind) (from : JobStage) (s : ReplyStatus)
+    → Starts x k from → StatusSo h p t rose (commits from) n s
+    → ((seen : SeenMeta) → commit_end from ≡ Some x → s ≡ status.CommitSuccess seen → ends_at x seen ≡ true) → Fits x k s
+job_fits h p t rose n x (kind.CommitEnd path) from s starts so success = by_status s so success
+  where
+    by_status : (s : ReplyStatus) → StatusSo h p t rose (commits from) n s
+        → ((seen : SeenMeta) → commit_end from ≡ Some x → s ≡ status.CommitSuccess seen → ends_at x seen ≡ true) → Fits x (kind.CommitEnd path) s
+    by_status (status.CommitSuccess seen) so success = success seen starts refl
+    by_status (status.Failed cause) so success = tt
+    by_status status.Processed so success = absurd (true≢false (sym (does_commit from x starts) ∙ so))
+    by_status (status.Keep seen) so success = absurd so
+    by_status (status.UploadSuccess shown) so success = absurd so
+    by_status status.Hold so success = absurd so
+    by_status (status.CatchUp o) so success = absurd so
+    by_status status.Discard so success = absurd so
+    by_status (status.Commit o) so success = absurd so
+    by_status status.NotLeader so success = absurd so
+    by_status status.CommitContinue so success = absurd so
+job_fits h p t rose n x kind.Stopped from s starts so success = by_status s so
+  where
+    by_status : (s : ReplyStatus) → StatusSo h p t rose (commits from) n s → Fits x kind.Stopped s
+    by_status (status.CommitSuccess seen) so = absurd (true≢false (sym so.0 ∙ does_not from starts))
+    by_status (status.Failed cause) so = tt
+    by_status status.Processed so = tt
+    by_status (status.Keep seen) so = absurd so
+    by_status (status.UploadSuccess shown) so = absurd so
+    by_status status.Hold so = absurd so
+    by_status (status.CatchUp o) so = absurd so
+    by_status status.Discard so = absurd so
+    by_status (status.Commit o) so = absurd so
+    by_status status.NotLeader so = absurd so
+    by_status status.CommitContinue so = absurd so
+job_fits h p t rose n x (kind.Extend millis) from s starts so success = tt
+job_fits h p t rose n x (kind.Consumed reason) from s starts so success = absurd starts
+job_fits h p t rose n x kind.CommitStart from s starts so success = absurd starts
+job_fits h p t rose n x (kind.Upload path bytes) from s starts so success = absurd starts
+
+-- behind a step it goes on, or it has answered so
+abbrev Behind : State → ControllerId → ℕ → Request → Option Replied → Type 0
+Behind y c j q None = IsOpenFor y c j q
+Behind y c j q (Some r) = IsAnswer y (asked_of q) r × Fits q.offset q.kind r.status
+
+no_ending : (message : Option ℕ) → ending message None ≡ None
+no_ending None = refl
+no_ending (Some m) = refl
+
+step_behind : (z y : State) (c : ControllerId) (j : ℕ) (q : Request) (o : Outcome) → IsSafeWorld z → IsOpenFor z c j q → Steps z (event.Job c j) y (Ok o)
+    → Behind y c j q (ended_in o)
+step_behind z y c j q o safe is steps =
+    subst (λ (x : Outcome). Behind y c j q (ended_in x)) (sym did.told.1)
+    (by_reply did.did.reply refl did.sends its.leaves its.ends
+    (subst (λ (x : Outcome). AnswersBehind y c j (asked_of q) (ended_in x)) did.told.1
+    (job_steps z y c j (asked_of q) o safe (record { job = is.job; there = is.there; asked = is.asked }) steps)))
+  where
+    did : OwnStep z y c j o
+    did = own_step z y c j o steps
+
+    its : WorksOver z.setup (past_of z) z.store did.store z.deep did.deep did.node.controller did.new j did.did
+    its = over z y c j o safe did
+
+    own : its.job ≡ is.job
+    own = is_open_job z y c j o safe did is.job is.there
+
+    starts : Starts q.offset q.kind its.job.stage
+    starts = subst (λ (x : Job). Starts q.offset q.kind x.stage) (sym own) is.starts
+
+    Rose : Type 0
+    Rose = MetFault z.store did.store z.deep did.deep
+
+    success : (reply : Reply) → did.did.reply ≡ Some reply → (seen : SeenMeta) → IsDoneStatus seen.meta.status → commit_end its.job.stage ≡ Some q.offset
+        → reply.status ≡ status.CommitSuccess seen → ends_at q.offset seen ≡ true
+    success reply replies seen done ends told =
+        let at : job_of did.node.controller j ≡ Some its.job = its.open_job in
+        let e = success_ends z.setup (past_of z) (means z.store) (means did.store) (deep_means z.deep) (deep_means did.deep) did.node.controller j z.moment
+        (record { controller = did.new; step = did.did }) its.job q.offset reply seen (safe.safe.controllers c.0 did.node did.at).over did.works at ends replies told done in
+        ap (λ (s : Status). is_at q.offset (end_in s)) e.1 ∙ eq-eqb e.0.end.0 q.offset.0 (ap (λ (x : Offset). x.0) e.2)
+
+    done_so : (h : List Seen) (p : Partition) (t : Sequence) (n : StepName) (b : Bool) (s : ReplyStatus) (seen : SeenMeta) → StatusSo h p t Rose b n s
+        → s ≡ status.CommitSuccess seen → IsDoneStatus seen.meta.status
+    done_so h p t n b s seen so e = (subst (StatusSo h p t Rose b n) e so).1.1
+
+    by_reply : (r : Option Reply) → did.did.reply ≡ r → SendsIts z.sent y did.told.0 r → LeavesJob its.job r (job_of did.new j)
+        → EndsSo did.store.writes its.job.asked.partition its.job.asked.sequence Rose (commits its.job.stage) did.did.step r
+        → AnswersBehind y c j (asked_of q) (ending did.told.0 r) → Behind y c j q (ending did.told.0 r)
+    by_reply None replies sends leaves so behind =
+        subst (Behind y c j q) (sym (no_ending did.told.0))
+        (record {
+          job = leaves.0;
+          there = there_then z y c j o safe did ∙ leaves.1;
+          asked = leaves.3 ∙ ap (λ (x : Job). x.asked) own ∙ is.asked;
+          starts = starts_on q.offset q.kind its.job.stage leaves.0.stage leaves.4 starts;
+        })
+    by_reply (Some reply) replies sends leaves so behind =
+        let at : ending did.told.0 (Some reply) ≡ Some (replied (length z.sent) reply) = ap (λ (m : Option ℕ). ending m (Some reply)) sends.0 in
+        subst (Behind y c j q) (sym at) (
+          subst (AnswersBehind y c j (asked_of q)) at behind,
+          job_fits did.store.writes its.job.asked.partition its.job.asked.sequence Rose did.did.step q.offset q.kind its.job.stage reply.status starts so
+              (λ seen ends told.
+              success reply replies seen
+              (done_so did.store.writes its.job.asked.partition its.job.asked.sequence did.did.step (commits its.job.stage) reply.status seen so told) ends told),
+        )
+
+-- ---- a delivery
+
+-- it is answered so, or a job is open for it
+abbrev DeliversSo : State → ControllerId → Request → Delivered → Type 0
+DeliversSo v c q (delivered.Replied r) = IsAnswer v (asked_of q) r × Fits q.offset q.kind r.status
+DeliversSo v c q (delivered.Started j) = IsOpenFor v c j q
+DeliversSo v c q delivered.Neither = Unit {0}
+
+module _ (w v : State) (m : ℕ) (c : ControllerId) (q : Request) (o : Outcome) (safe : IsSafeWorld w) (asks : request_at w m ≡ Some q)
+    (steps : Steps w (event.Deliver m c) v (Ok o)) where
+  abbrev replicas : Partition → List Instance
+  replicas p = replicas_of p w.setup.table.replication w.setup.servers
+
+  -- the sender is one of the segment's replicas
+  sender : (p : Partition) → p ≡ q.partition → Contains (replicas p) q.number.instance
+  sender p e =
+      let has = subst (λ (x : Partition). IsAssignedTo w.setup x q.number.instance) (sym e) (safe.safe.past.requests q (request_sent w m q asks)).assigned in
+      let place = Has-place (replicas p) q.number.instance has in
+      contains_found (replicas p) place.0 q.number.instance place.1
+
+  delivery_so : DeliversSo v c q (delivered_in o)
+  delivery_so =
+      by_node (slice_get w.controllers c.0) refl
+      (subst (λ (r : Option Request). DeliversAt r (slice_get w.controllers c.0) w c steps.0 (v, o)) asks steps.2)
+    where
+      by_what : (n : ControllerNode) (new : Controlling) (store : Told) (deep : ToldDeep) (what : Handled) → slice_get w.controllers c.0 ≡ Some n
+          → HandlesIt {E = Unit {0}} (means w.store) (means store) (deep_means w.deep) (deep_means deep) n.controller q w.moment new (Ok what)
+          → HandsOut n.controller q new what → (v, o) ≡ handed (after_step w c n new store deep) steps.0 what → DeliversSo v c q (delivered_in o)
+      by_what n new store deep (handled.Reply y) at h so is =
+          let told : o ≡ came.Replied (length w.sent) y = ap (λ (x : Next). x.1) is in
+          subst (λ (x : Outcome). DeliversSo v c q (delivered_in x)) (sym told)
+          (subst (λ (x : Outcome). Delivers v c q (delivered_in x)) told (delivers w v m c q o safe asks steps), so)
+      by_what n new store deep (handled.Job j) at h so is =
+          let told : o ≡ came.Started j = ap (λ (x : Next). x.1) is in
+          let k = handles_over w.setup (past_of w) w.store store w.deep deep n.controller new q w.moment (handled.Job j) safe.safe.setup safe.safe.past
+          (few_writes w safe) refl refl (request_sent w m q asks) (safe.safe.controllers c.0 n at).over h in
+          let has : Has new.jobs so.job = subst (λ (js : List Job). Has js so.job) (sym so.jobs) (Has-push n.controller.jobs so.job) in
+          let there : open_job v c j ≡ Some so.job =
+          ap (λ (z : Next). job_in (slice_get z.0.controllers c.0) j) is
+          ∙ ap (λ (x : Option ControllerNode). job_in x j) (own_slot w.controllers c.0 n (record n { controller = new }) at)
+          ∙ found_job new.jobs new.started j so.job k.over.numbered has so.number in
+          subst (λ (x : Outcome). DeliversSo v c q (delivered_in x)) (sym told) (record { job = so.job; there = there; asked = so.asked; starts = so.starts })
+
+      by_node : (n : Option ControllerNode) → slice_get w.controllers c.0 ≡ n → DeliversAt (Some q) n w c steps.0 (v, o) → DeliversSo v c q (delivered_in o)
+      by_node None at h = absurd h
+      by_node (Some n) at (new, what, store, deep, h, is) =
+          let k : IsControllerOver w.setup (past_of w) n.controller = (safe.safe.controllers c.0 n at).over in
+          by_what n new store deep what at h
+          (hands_out n.controller q w.moment
+          (λ g has of_p.
+          let place = Has-place n.controller.machines g has in
+          let over = All-found (IsMachineOver w.setup (past_of w)) n.controller.machines place.0 g k.machines place.1 in
+          subst (λ (is : List Instance). Contains is q.number.instance) (sym over.replicas) (sender g.partition of_p))
+          (subst (λ (is : List Instance). Contains is q.number.instance)
+          (sym (ap (λ (x : Assigned). replicas_in x q.partition) k.assigned)) (sender q.partition refl))
+          (means w.store) (means store) (deep_means w.deep) (deep_means deep) new what h) is
+
+-- ---- the answer
+
+-- among some turns is one by which this was answered
+record Tells (b : Reached) (r : Replied) : Type 0 where
+  event : Event
+  outcome : Outcome
+  has : Has b.turns (happens event outcome)
+  told : (delivered_in outcome ≡ delivered.Replied r) ⊎ (ended_in outcome ≡ Some r)
+
+tells_first : (b l v : Reached) (r : Replied) → v ≡ after b.turns l → Tells b r → Tells v r
+tells_first b l v r whole t =
+    record {
+      event = t.event;
+      outcome = t.outcome;
+      has =
+          subst (λ (x : Reached). Has x.turns (happens t.event t.outcome)) (sym whole)
+          (Has-append_left b.turns l.turns (happens t.event t.outcome) t.has);
+      told = t.told;
+    }
+
+tells_behind : (b l v : Reached) (r : Replied) → v ≡ after b.turns l → Tells l r → Tells v r
+tells_behind b l v r whole t =
+    record {
+      event = t.event;
+      outcome = t.outcome;
+      has =
+          subst (λ (x : Reached). Has x.turns (happens t.event t.outcome)) (sym whole)
+          (Has-append_right b.turns l.turns (happens t.event t.outcome) t.has);
+      told = t.told;
+    }
+
+-- the request is answered so, in these turns
+record HasAnswered (u : State) (q : Request) (v : Reached) (r : Replied) : Type 0 where
+  asking : IsAsking u v.world
+  answer : IsAnswer v.world (asked_of q) r
+  fits : Fits q.offset q.kind r.status
+  tells : Tells v r
+
+module _ (u : State) (c : ControllerId) (q : Request) where
+  abbrev IsAnswered : Reached → Replied → Type 0
+  IsAnswered v r = HasAnswered u q v r
+
+  answered_behind : (b l v : Reached) (r : Replied) → v ≡ after b.turns l → IsAnswered l r → IsAnswered v r
+  answered_behind b l v r whole k =
+      let at : v.world ≡ l.world = ap (λ (x : Reached). x.world) whole in
+      record {
+        asking = subst (IsAsking u) (sym at) k.asking;
+        answer = subst (λ (x : State). IsAnswer x (asked_of q) r) (sym at) k.answer;
+        fits = k.fits;
+        tells = tells_behind b l v r whole k.tells;
+      }
+
+  ends_job : (j left : ℕ) (z : State) (v : Reached) (r : Replied) → IsAsking u z → IsOpenFor z c j q → EndsJob c j left z v (Ok r) → IsAnswered v r
+  ends_job j zero z v r k is h = absurd (told_not r (Limit Events) h.1)
+  ends_job j (suc left) z v r k is h =
+      by_step t.told t.last (step_behind z s.between.world c j q s.told k.going.safe is s.came.by.0) made t.further t.whole
+      (λ l goes further. ends_job j left t.between.world l r on goes further)
+    where
+      t : IsThen (MakesStep c j) (AfterStep (EndsJob c j left)) z v r
+      t = then_parts (MakesStep c j) (AfterStep (EndsJob c j left)) z v r h
+
+      s : IsThen (Happens (event.Job c j)) (λ outcome. Gives (ended_in outcome)) z t.between t.told
+      s = then_parts (Happens (event.Job c j)) (λ outcome. Gives (ended_in outcome)) z t.between t.told t.came
+
+      made : t.told ≡ ended_in s.told
+      made = told_same t.told (ended_in s.told) s.further.1
+
+      at : t.between.world ≡ s.between.world
+      at = ap (λ (x : Reached). x.world) s.whole ∙ ap (λ (x : Reached). x.world) s.further.0
+
+      on : IsAsking u t.between.world
+      on =
+          subst (IsAsking u) (sym at)
+          (asking_on u z s.between.world (event.Job c j) s.told k tt s.came.by.0 (job_leaves z s.between.world c j s.told s.came.by.0).servers
+          (job_log z s.between.world c j s.told s.came.by.0))
+
+      by_step : (o : Option Replied) (l : Reached) → Behind s.between.world c j q (ended_in s.told) → o ≡ ended_in s.told
+          → AfterStep (EndsJob c j left) o t.between.world l (Ok r) → v ≡ after t.between.turns l
+          → ((l : Reached) → IsOpenFor t.between.world c j q → EndsJob c j left t.between.world l (Ok r) → IsAnswered l r) → IsAnswered v r
+      by_step None l behind same further whole more =
+          answered_behind t.between l v r whole
+          (more l (subst (λ (x : State). IsOpenFor x c j q) (sym at) (subst (Behind s.between.world c j q) (sym same) behind)) further)
+      by_step (Some x) l behind same further whole more =
+          let own = subst (Behind s.between.world c j q) (sym same) behind in
+          let is_r : x ≡ r = sym (told_same r x further.1) in
+          let end : v.world ≡ t.between.world = ap (λ (y : Reached). y.world) whole ∙ ap (λ (y : Reached). y.world) further.0 in
+          let in_turn : Tells s.between x =
+          record {
+            event = event.Job c j;
+            outcome = s.told;
+            has = subst (λ (turns : List Turn). Has turns (happens (event.Job c j) s.told)) (sym s.came.by.1) (inl refl);
+            told = inr (sym same);
+          } in
+          subst (IsAnswered v) is_r
+          (record {
+            asking = subst (IsAsking u) (sym end) on;
+            answer = subst (λ (y : State). IsAnswer y (asked_of q) x) (sym (end ∙ at)) own.0;
+            fits = own.1;
+            tells = tells_first t.between l v x whole (tells_first s.between s.last t.between x s.whole in_turn);
+          })
+
+  handles : (m : ℕ) (v : Reached) (r : Replied) → IsGoing u → request_at u m ≡ Some q → Handles c m u v (Ok r) → IsAnswered v r
+  handles m v r going asks h =
+      by_delivered (delivered_in t.told) refl (delivery_so u t.between.world m c q t.told going.safe asks t.came.by.0) t.last t.further t.whole
+    where
+      t : IsThen (Happens (event.Deliver m c)) (λ outcome. AfterDelivery c (delivered_in outcome)) u v r
+      t = then_parts (Happens (event.Deliver m c)) (λ outcome. AfterDelivery c (delivered_in outcome)) u v r h
+
+      on : IsAsking u t.between.world
+      on =
+          asking_on u u t.between.world (event.Deliver m c) t.told (record { going = going; servers = refl; log = refl }) tt t.came.by.0
+          (delivery_leaves u t.between.world m c t.told t.came.by.0).servers (delivery_log u t.between.world m c t.told t.came.by.0)
+
+      by_delivered : (d : Delivered) → delivered_in t.told ≡ d → DeliversSo t.between.world c q d → (l : Reached) → AfterDelivery c d t.between.world l (Ok r)
+          → v ≡ after t.between.turns l → IsAnswered v r
+      by_delivered (delivered.Replied x) same so l further whole =
+          let is_r : x ≡ r = sym (told_same r x further.1) in
+          let end : v.world ≡ t.between.world = ap (λ (y : Reached). y.world) whole ∙ ap (λ (y : Reached). y.world) further.0 in
+          subst (IsAnswered v) is_r
+          (record {
+            asking = subst (IsAsking u) (sym end) on;
+            answer = subst (λ (y : State). IsAnswer y (asked_of q) x) (sym end) so.0;
+            fits = so.1;
+            tells =
+                tells_first t.between l v x whole
+                (record {
+                  event = event.Deliver m c;
+                  outcome = t.told;
+                  has = subst (λ (turns : List Turn). Has turns (happens (event.Deliver m c) t.told)) (sym t.came.by.1) (inl refl);
+                  told = inl same;
+                });
+          })
+      by_delivered (delivered.Started j) same so l further whole =
+          answered_behind t.between l v r whole (ends_job j (events_left_in t.between.world) t.between.world l r on so further)
+      by_delivered delivered.Neither same so l further whole = absurd (told_not r NothingToDo further.1)
+
+-- ---- the answer is taken
+
+number_is : (n : RequestNumber) → same_number n n ≡ true
+number_is n =
+    ap (λ b. b && (n.incarnation == n.incarnation) && (n.count == n.count)) (eq-eqb n.instance.0 n.instance.0 refl)
+    ∙ ap (λ b. b && (n.count == n.count)) (eq-eqb n.incarnation n.incarnation refl)
+    ∙ eq-eqb n.count n.count refl
+
+-- the servers with the answer taken: the replica puts it in its place
+record HasTaken (z y : State) (i : Instance) (p : Partition) (q : Sequence) (node : ServerNode) (r : Consumer) (reply : Reply) : Type 0 where
+  new : ServerNode
+  servers : y.servers ≡ slice_set z.servers i.0 new
+  table : new.server.table ≡ put_back node.server.table p q (Replica (answered_by r reply))
+  log : y.log ≡ z.log
+
+takes : (z y : State) (m : ℕ) (o : Outcome) (i : Instance) (p : Partition) (q : Sequence) (node : ServerNode) (r : Consumer) (reply : Reply)
+    → reply_at z m ≡ Some reply → reply.number.instance.0 ≡ i.0 → reply.partition ≡ p → reply.sequence ≡ q → slice_get z.servers i.0 ≡ Some node
+    → replica_of node.server.table p q ≡ Some r → Steps z (event.Reply m) y (Ok o) → HasTaken z y i p q node r reply
+takes z y m o i p q node r reply there place of_p of_q stands found (cost, due, h) =
+    by_server (slice_get z.servers reply.number.instance.0) refl (subst (λ (x : Option Reply). RepliesAt x z cost (y, o)) there h)
+  where
+    by_server : (n : Option ServerNode) → slice_get z.servers reply.number.instance.0 ≡ n
+        → ServerDoesAt n z reply.number.instance (λ old new outcome. (outcome, new) ≡ node_took old reply) cost (y, o) → HasTaken z y i p q node r reply
+    by_server None at h = absurd h
+    by_server (Some old) at (new, step, is) =
+        let same : old ≡ node = same_Some old node (sym at ∙ ap (slice_get z.servers) place ∙ stands) in
+        let its : replica_of node.server.table reply.partition reply.sequence ≡ Some r =
+        ap (λ (x : Partition). replica_of node.server.table x reply.sequence) of_p ∙ ap (replica_of node.server.table p) of_q ∙ found in
+        record {
+          new = new;
+          servers = ap (λ (x : State). x.servers) is ∙ ap (λ (k : ℕ). slice_set z.servers k new) place;
+          table =
+              ap (λ (x : Outcome × ServerNode). x.1.server.table) step
+              ∙ ap (λ (x : ServerNode). (node_took x reply).1.server.table) same
+              ∙ ap (λ (x : Option Consumer). (replied_at x node.server.table reply).1) its
+              ∙ ap (λ (x : Partition). put_back node.server.table x reply.sequence (Replica (answered_by r reply))) of_p
+              ∙ ap (λ (x : Sequence). put_back node.server.table p x (Replica (answered_by r reply))) of_q;
+          log = ap (λ (x : State). x.log) is;
+        }
+
+-- ---- an exchange
+
+-- it puts its replica off, or leaves less ahead
+abbrev pub OffOrLess : State → Reached → Type 0
+OffOrLess w v = PutsOff v ⊎ (ahead_in_world v.world < ahead_in_world w)
+
+-- and the run goes on
+pub record HasExchanged (w : State) (v : Reached) : Type 0 where
+  pub going : IsGoing v.world
+  pub less : OffOrLess w v
+
+pub off_first : (b l v : Reached) → v ≡ after b.turns l → PutsOff b → PutsOff v
+off_first b l v whole off =
+    let t = tells_first b l v off.answer whole (record { event = off.event; outcome = off.outcome; has = off.has; told = off.told }) in
+    record { event = t.event; outcome = t.outcome; has = t.has; answer = off.answer; told = t.told; off = off.off }
+
+pub off_behind : (b l v : Reached) → v ≡ after b.turns l → PutsOff l → PutsOff v
+off_behind b l v whole off =
+    let t = tells_behind b l v off.answer whole (record { event = off.event; outcome = off.outcome; has = off.has; told = off.told }) in
+    record { event = t.event; outcome = t.outcome; has = t.has; answer = off.answer; told = t.told; off = off.off }
+
+pub exchanged_behind : (w : State) (b l v : Reached) → v ≡ after b.turns l → HasExchanged w l → HasExchanged w v
+exchanged_behind w b l v whole x =
+    record { going = subst IsGoing (sym at) x.going; less = by_way x.less }
+  where
+    at : v.world ≡ l.world
+    at = ap (λ (y : Reached). y.world) whole
+
+    by_way : OffOrLess w l → OffOrLess w v
+    by_way (inl off) = inl (off_behind b l v whole off)
+    by_way (inr less) = inr (subst (λ (y : State). ahead_in_world y < ahead_in_world w) (sym at) less)
+
+-- nothing comes behind it
+pub exchanged_before : (w : State) (b l : Reached) → l ≡ after b.turns (stays b.world) → HasExchanged w b → HasExchanged w l
+exchanged_before w b l whole x = record { going = subst IsGoing (sym at) x.going; less = by_way x.less }
+  where
+    at : l.world ≡ b.world
+    at = ap (λ (y : Reached). y.world) whole
+
+    by_way : OffOrLess w b → OffOrLess w l
+    by_way (inl off) = inl (off_first b (stays b.world) l whole off)
+    by_way (inr less) = inr (subst (λ (y : State). ahead_in_world y < ahead_in_world w) (sym at) less)
+
+module _ (w u : State) (i : Instance) (p : Partition) (q : Sequence) (request : Request) (asked : HasAsked w u i p q request)
+    (segment : (request.partition ≡ p) × (request.sequence ≡ q)) (own : request.number.instance.0 ≡ i.0) where
+  abbrev waiting : Consumer
+  waiting = record asked.replica { waited = Some (Step request.number) }
+
+  -- no more lies ahead of it than before
+  asked_still : ahead_in_world u ≡ ahead_in_world w
+  asked_still =
+      put_still w u i.0 asked.old asked.new p q asked.replica waiting
+      (record { there = asked.at; found = asked.found; table = asked.table; servers = asked.servers; log = asked.log }) refl
+
+  waits_there : replica_of asked.new.server.table p q ≡ Some waiting
+  waits_there =
+      ap (λ (t : Segments). replica_of t p q) asked.table ∙ replica_put asked.old.server.table p q asked.replica waiting asked.found
+
+  module _ (b : Reached) (r : Replied) (k : HasAnswered u request b r) where
+    stands : slice_get b.world.servers i.0 ≡ Some asked.new
+    stands =
+        ap (λ (ns : List ServerNode). slice_get ns i.0) (k.asking.servers ∙ asked.servers)
+        ∙ own_slot w.servers i.0 asked.old asked.new asked.at
+
+    before : ahead_in_world b.world ≡ ahead_in_world w
+    before =
+        ap (λ (ns : List ServerNode). ahead_servers b.world.log ns) k.asking.servers
+        ∙ ap (λ (l : Log). ahead_servers l u.servers) k.asking.log
+        ∙ asked_still
+
+    turns_so : answered_by waiting k.answer.reply ≡ turned waiting (answered waiting.phase k.answer.reply.status)
+    turns_so =
+        ap (λ (x : Bool). cond x (turned waiting (answered waiting.phase k.answer.reply.status)) waiting)
+        (subst (λ (n : RequestNumber). same_number request.number n ≡ true) (sym k.answer.number) (number_is request.number))
+
+    falls : IsPutOff k.answer.reply.status
+        ⊎ (ahead_of b.world.log (turned waiting (answered waiting.phase k.answer.reply.status)) < ahead_of b.world.log waiting)
+    falls =
+        answer_falls b.world.log waiting request.number request.kind k.answer.reply.status asked.kind
+        (subst (λ (x : Offset). Fits x request.kind k.answer.reply.status) asked.offset
+        (subst (λ (s : ReplyStatus). Fits request.offset request.kind s) k.answer.status k.fits))
+
+    taken_so : (y : State) (o : Outcome) → Steps b.world (event.Reply r.message) y (Ok o) → IsPutOff r.status ⊎ (ahead_in_world y < ahead_in_world w)
+    taken_so y o steps = by_way falls
+      where
+        taken : HasTaken b.world y i p q asked.new waiting k.answer.reply
+        taken =
+            takes b.world y r.message o i p q asked.new waiting k.answer.reply k.answer.there
+            (ap (λ (n : RequestNumber). n.instance.0) k.answer.number ∙ own) (k.answer.partition ∙ segment.0) (k.answer.sequence ∙ segment.1) stands waits_there
+            steps
+
+        by_way : IsPutOff k.answer.reply.status
+            ⊎ (ahead_of b.world.log (turned waiting (answered waiting.phase k.answer.reply.status)) < ahead_of b.world.log waiting)
+            → IsPutOff r.status ⊎ (ahead_in_world y < ahead_in_world w)
+        by_way (inl off) = inl (subst IsPutOff (sym k.answer.status) off)
+        by_way (inr less) =
+            let lt = put_falls b.world y i.0 asked.new taken.new p q waiting (answered_by waiting k.answer.reply)
+            (record { there = stands; found = waits_there; table = taken.table; servers = taken.servers; log = taken.log })
+            (subst (λ (x : Consumer). ahead_of b.world.log x < ahead_of b.world.log waiting) (sym turns_so) less) in
+            inr (omega (arith, lt, before))
+
+    takes_answer : (m : ℕ) (l v : Reached) (x : Exchanged) → v ≡ after b.turns l → TakesAnswer m r b.world l (Ok x) → HasExchanged w v
+    takes_answer m l v x whole h = by_state (state_in t.told) t.further
+      where
+        t : IsThen (Happens (event.Reply r.message)) (λ outcome. AfterReply m r (state_in outcome)) b.world l x
+        t = then_parts (Happens (event.Reply r.message)) (λ outcome. AfterReply m r (state_in outcome)) b.world l x h
+
+        by_less : (y : State) → IsPutOff r.status ⊎ (ahead_in_world t.between.world < ahead_in_world w) → y ≡ t.between.world
+            → PutsOff v ⊎ (ahead_in_world y < ahead_in_world w)
+        by_less y (inl off) e =
+            let told = tells_first b l v r whole k.tells in
+            inl (record { event = told.event; outcome = told.outcome; has = told.has; answer = r; told = told.told; off = off })
+        by_less y (inr less) e = inr (subst (λ (z : State). ahead_in_world z < ahead_in_world w) (sym e) less)
+
+        by_state : (o : Option ReplicaState) → AfterReply m r o t.between.world t.last (Ok x) → HasExchanged w v
+        by_state None g = absurd (told_not x NothingToDo g.1)
+        by_state (Some s) g =
+            let end : v.world ≡ t.between.world =
+            ap (λ (z : Reached). z.world) whole ∙ ap (λ (z : Reached). z.world) t.whole ∙ ap (λ (z : Reached). z.world) g.0 in
+            record {
+              going = subst IsGoing (sym end) (goes_on b.world t.between.world (event.Reply r.message) t.told k.asking.going tt t.came.by.0);
+              less = by_less v.world (taken_so t.between.world t.told t.came.by.0) end;
+            }
+
+-- a request that was sent is answered, and the answer taken
+pub finishes : (w u : State) (i : Instance) (p : Partition) (q : Sequence) (c : ControllerId) (o : Outcome) (v : Reached) (x : Exchanged) → IsGoing w
+    → Steps w (event.Report i p q) u (Ok o) → AfterReport c o u v (Ok x) → HasExchanged w v
+finishes w u i p q c o v x going steps h =
+    let sent_so = then_parts (Handles c m) (TakesAnswer m) u v x (subst (λ (y : Outcome). AfterReport c y u v (Ok x)) its.told h) in
+    takes_answer w u i p q its.request (has_asked w u i p q its.request (subst (λ (y : Outcome). Steps w (event.Report i p q) u (Ok y)) its.told steps)) its.segment
+    its.instance sent_so.between sent_so.told
+    (handles u c its.request m sent_so.between sent_so.told (goes_on w u (event.Report i p q) o going tt steps) its.there sent_so.came) m sent_so.last v x
+    sent_so.whole sent_so.further
+  where
+    its : IsRequested w u i p q o
+    its = requested w u i p q o going.safe steps
+
+    m : ℕ
+    m = length w.sent

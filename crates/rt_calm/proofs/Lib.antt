@@ -1,0 +1,6 @@
+pub mod Exchanged
+pub mod Fitting
+pub mod Rounds
+pub mod Standing
+pub mod Sums
+pub mod Waiting

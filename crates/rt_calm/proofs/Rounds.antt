@@ -1,0 +1,270 @@
+-- A round puts a replica off, or leaves less ahead if anything happened in it.
+use Rattle.std.proofs.Common.{◌≡◌, ◌⊎◌, inl, inr, ℕ, zero, suc, ◌+◌, ◌<◌, ◌≤◌, Bool, true, false, not, List, [], ◌∷◌, Option, Some, None, Result, Ok, Err, refl, sym, ◌∙◌, ap, subst, arith}
+use Rattle.std.proofs.lemmas.Bool.{and_parts, false≢true}
+use Rattle.rt_base.specs.declared.numbers.ControllerId.{ControllerId}
+use Rattle.rt_base.specs.declared.numbers.Instance.{Instance}
+use Rattle.rt_events.specs.declared.event.Event.{Event}
+use Rattle.rt_events.specs.declared.event.Event.TheVariants.{Build, Consume, Report}
+use Rattle.rt_events.specs.declared.outcome.Outcome.{Outcome}
+use Rattle.rt_events.specs.declared.refusal.Refusal.{Refusal}
+use Rattle.rt_events.specs.declared.refusal.Refusal.TheVariants.{NoSuchMessage, NoSuchNode, NodeDown, NothingToDo, Limit, Memory}
+use Rattle.rt_macros.specs.Doing.{Act, Attempted, AttemptedBy, Choose, Each, EachFrom, Gives, HappensBy, Reached, after, stays}
+use Rattle.rt_macros.specs.Exchanging.{AfterReport}
+use Rattle.rt_macros.specs.Settling.{AfterRequest, BuildAndExchange, BuildTurn, ConsumeTurn, ExchangeTurn, ReplicaTurn, ReplicasHeld, ReplicasOfAll, ReplicasTurn, Requests, Round, SegmentAt, ServersTurn, WithLeader, may_consume, waits_in}
+use Rattle.rt_macros.specs.declared.settling.TheConstants.{BATCH}
+use Rattle.rt_model.specs.Setup.{IsSetup}
+use Rattle.rt_model.specs.declared.setup.Setup.{Setup}
+use Rattle.rt_nodes.specs.declared.server_node.ServerNode.{ServerNode}
+use Rattle.rt_server.specs.Table.{ServerState}
+use Rattle.rt_stream.specs.Log.{Log}
+use Rattle.rt_safety.proofs.Later.{runs_are_safe}
+use Rattle.rt_safety.specs.Runs.{Runs, Turn}
+use Rattle.rt_state.specs.Finding.{is_server_up}
+use Rattle.rt_state.specs.declared.state.State.{State}
+use Rattle.rt_world.specs.Reading.{held_in, is_ready_at, leader_in}
+use Rattle.rt_world.specs.Step.{Steps}
+use Rattle.rt_heal.proofs.Dropped.{runs_told, IsToldRightly}
+use Rattle.rt_heal.proofs.Following.{all_follow}
+use Rattle.rt_heal.proofs.LessRounds.{servers_rest, states, HasRested, IsSteady}
+use Rattle.rt_heal.proofs.LessWorld.{builds_made, consumes_made}
+use Rattle.rt_heal.proofs.Quiet.{IsThen, then_parts, told_not, told_same}
+use Rattle.rt_heal.specs.AtRest.{AreUp}
+use Rattle.rt_heal.specs.Calm.{AreAllCalm}
+use Rattle.rt_heal.specs.Left.{CanAllFollow}
+use Rattle.rt_calm.specs.Ahead.{ahead_in_world, ahead_servers, ahead_table}
+use Rattle.rt_calm.specs.Off.{PutsOff}
+use Rattle.rt_calm.proofs.Exchanged.{exchanged_before, exchanged_behind, finishes, goes_on, off_behind, off_first, HasExchanged, IsGoing, OffOrLess}
+use Rattle.rt_calm.proofs.Standing.{batch_falls, build_falls}
+use Rattle.rt_calm.proofs.Sums.{put_falls}
+
+-- no more lies ahead, and less if it is told that something happened and wasn't before
+pub record HasFallen (w : State) (busy : Bool) (v : State) (told : Bool) : Type 0 where
+  pub going : IsGoing v
+  pub most : ahead_in_world v ≤ ahead_in_world w
+  pub less : told ≡ true → (busy ≡ true) ⊎ (ahead_in_world v < ahead_in_world w)
+
+-- a replica is put off, or no more lies ahead
+abbrev pub OffOrFallen : State → Bool → Reached → Bool → Type 0
+OffOrFallen w busy v told = PutsOff v ⊎ HasFallen w busy v.world told
+
+abbrev pub Falls : (Bool → Act Bool) → Type 0
+Falls act = (busy : Bool) (w : State) (v : Reached) (told : Bool) → IsGoing w → act busy w v (Ok told) → OffOrFallen w busy v told
+
+-- nothing happened
+rests : (w : State) (busy : Bool) (v : Reached) (told : Bool) → IsGoing w → v ≡ stays w → told ≡ busy → OffOrFallen w busy v told
+rests w busy v told k same e =
+    inr (subst (λ (x : Reached). HasFallen w busy x.world told) (sym same) (record { going = k; most = omega arith; less = λ t. inl (sym e ∙ t) }))
+
+-- something happened, by which less lies ahead
+falls_by : (w y : State) (busy : Bool) (v : Reached) (told : Bool) → IsGoing y → ahead_in_world y < ahead_in_world w → v.world ≡ y → HasFallen w busy v.world told
+falls_by w y busy v told k lt end =
+    subst (λ (z : State). HasFallen w busy z told) (sym end) (record { going = k; most = omega (arith, lt); less = λ t. inr lt })
+
+two_fall : (w m v : State) (busy mid told : Bool) → HasFallen w busy m mid → HasFallen m mid v told → HasFallen w busy v told
+two_fall w m v busy mid told x y = record { going = y.going; most = omega (arith, x.most, y.most); less = λ t. by_second (y.less t) }
+  where
+    by_first : (busy ≡ true) ⊎ (ahead_in_world m < ahead_in_world w) → (busy ≡ true) ⊎ (ahead_in_world v < ahead_in_world w)
+    by_first (inl e) = inl e
+    by_first (inr lt) = inr (omega (arith, lt, y.most))
+
+    by_second : (mid ≡ true) ⊎ (ahead_in_world v < ahead_in_world m) → (busy ≡ true) ⊎ (ahead_in_world v < ahead_in_world w)
+    by_second (inl e) = by_first (x.less e)
+    by_second (inr lt) = inr (omega (arith, lt, x.most))
+
+pub then_fall : (w : State) (b l v : Reached) (busy mid told : Bool) → v ≡ after b.turns l → OffOrFallen w busy b mid
+    → (IsGoing b.world → OffOrFallen b.world mid l told) → OffOrFallen w busy v told
+then_fall w b l v busy mid told whole (inl off) more = inl (off_first b l v whole off)
+then_fall w b l v busy mid told whole (inr x) more = by_more (more x.going)
+  where
+    by_more : OffOrFallen b.world mid l told → OffOrFallen w busy v told
+    by_more (inl off) = inl (off_behind b l v whole off)
+    by_more (inr y) =
+        inr (subst (λ (z : State). HasFallen w busy z told) (sym (ap (λ (z : Reached). z.world) whole)) (two_fall w b.world l.world busy mid told x y))
+
+-- ---- several turns
+
+act_falls : (first behind act : Bool → Act Bool) → Falls first → Falls behind
+    → ((busy : Bool) (w : State) (v : Reached) (told : Bool) → act busy w v (Ok told) → IsThen (first busy) behind w v told) → Falls act
+act_falls first behind act f g parts busy w v told k h =
+    let t = parts busy w v told h in
+    then_fall w t.between t.last v busy t.told told t.whole (f busy w t.between t.told k t.came) (λ m. g t.told t.between.world t.last told m t.further)
+
+each_falls : {X : Type 0} (act : X → Bool → Act Bool) → ((x : X) → Falls (act x)) → (xs : List X) → Falls (Each act xs)
+each_falls act f [] busy w v told k h = rests w busy v told k h.0 (told_same told busy h.1)
+each_falls act f (x ∷ xs) busy w v told k h =
+    act_falls (act x) (Each act xs) (Each act (x ∷ xs)) (f x) (each_falls act f xs) (λ b u z r g. then_parts (act x b) (Each act xs) u z r g) busy w v told k h
+
+from_falls : (act : ℕ → Bool → Act Bool) → ((i : ℕ) → Falls (act i)) → (first count : ℕ) → Falls (EachFrom act first count)
+from_falls act f first zero busy w v told k h = rests w busy v told k h.0 (told_same told busy h.1)
+from_falls act f first (suc count) busy w v told k h =
+    act_falls (act first) (EachFrom act (first + 1) count) (EachFrom act first (suc count)) (f first) (from_falls act f (first + 1) count)
+    (λ b u z r g. then_parts (act first b) (EachFrom act (first + 1) count) u z r g) busy w v told k h
+
+-- ---- an event
+
+attempt_falls : (e : Event) (busy : Bool) (w : State) (v : Reached) (told : Bool) → IsGoing w
+    → ((y : State) (o : Outcome) → Steps w e y (Ok o) → IsGoing y × (ahead_in_world y < ahead_in_world w)) → Attempted e busy w v (Ok told)
+    → OffOrFallen w busy v told
+attempt_falls e busy w v told k step t = by_told t.between t.told t.last t.came.by t.further t.whole
+  where
+    by_told : (b : Reached) (r : Result Outcome Refusal) (l : Reached) → HappensBy e w b r → AttemptedBy busy r b.world l (Ok told) → v ≡ after b.turns l
+        → OffOrFallen w busy v told
+    by_told b (Ok o) l by further whole =
+        let x = step b.world o by.0 in
+        inr (falls_by w b.world busy v told x.0 x.1 (ap (λ (z : Reached). z.world) whole ∙ ap (λ (z : Reached). z.world) further.0))
+    by_told b (Err NothingToDo) l by further whole =
+        let end : v.world ≡ w =
+        ap (λ (z : Reached). z.world) whole ∙ ap (λ (z : Reached). z.world) further.0 ∙ ap (λ (z : Reached). z.world) by.1 in
+        inr (subst (λ (z : State). HasFallen w busy z told) (sym end)
+        (record { going = k; most = omega arith; less = λ t. inl (sym (told_same told busy further.1) ∙ t) }))
+    by_told b (Err NoSuchMessage) l by further whole = absurd (told_not told NoSuchMessage further.1)
+    by_told b (Err NoSuchNode) l by further whole = absurd (told_not told NoSuchNode further.1)
+    by_told b (Err NodeDown) l by further whole = absurd (told_not told NodeDown further.1)
+    by_told b (Err (Limit which)) l by further whole = absurd (told_not told (Limit which) further.1)
+    by_told b (Err Memory) l by further whole = absurd (told_not told Memory further.1)
+
+can_follow : (w : State) → IsGoing w → CanAllFollow w
+can_follow w k = λ i n there. all_follow w k.safe k.told i n there
+
+consume_falls : (paused : Bool) (i : Instance) (s : SegmentAt) → Falls (ConsumeTurn paused i s)
+consume_falls paused i s busy w v told k h = by_test (may_consume paused w i s) refl h
+  where
+    by_test : (b : Bool) → may_consume paused w i s ≡ b → Choose b (Attempted (Consume i s.0 s.1 BATCH) busy w) (Gives busy w) v (Ok told)
+        → OffOrFallen w busy v told
+    by_test false e g = rests w busy v told k g.0 (told_same told busy g.1)
+    by_test true e t =
+        let ready = (and_parts (is_ready_at w i s.0 s.1) (not (waits_in w paused i s.0 s.1)) e).0 in
+        attempt_falls (Consume i s.0 s.1 BATCH) busy w v told k
+        (λ y o step.
+        let m = consumes_made w y i s.0 s.1 o k.safe (can_follow w k) BATCH (omega arith) ready step in (
+          goes_on w y (Consume i s.0 s.1 BATCH) o k tt step,
+          put_falls w y i.0 m.node m.new s.0 s.1 m.replica m.next
+              (record { there = m.there; found = m.found; table = m.table; servers = m.servers; log = m.log })
+              (batch_falls m.replica w.log w.moment BATCH m.next m.is.phase m.follows m.made.0 m.made.1),
+        )) t
+
+build_turn_falls : (i : Instance) (s : SegmentAt) → Falls (BuildTurn i s)
+build_turn_falls i s busy w v told k t =
+    attempt_falls (Build i s.0 s.1) busy w v told k
+    (λ y o step.
+    let m = builds_made w y i s.0 s.1 o k.safe (can_follow w k) step in (
+      goes_on w y (Build i s.0 s.1) o k tt step,
+      put_falls w y i.0 m.node m.new s.0 s.1 m.replica m.next
+          (record { there = m.there; found = m.found; table = m.table; servers = m.servers; log = m.log }) (build_falls m.replica m.next w.log m.made),
+    )) t
+
+-- ---- an exchange
+
+exchanged_falls : (w : State) (busy : Bool) (v : Reached) (told : Bool) → HasExchanged w v → OffOrFallen w busy v told
+exchanged_falls w busy v told x = by_way x.less
+  where
+    by_way : OffOrLess w v → OffOrFallen w busy v told
+    by_way (inl off) = inl off
+    by_way (inr less) = inr (falls_by w v.world busy v told x.going less refl)
+
+requests_fall : (i : Instance) (s : SegmentAt) (c : ControllerId) (busy : Bool) (w : State) (v : Reached) (told : Bool) → IsGoing w
+    → Requests i s c busy w v (Ok told) → OffOrFallen w busy v told
+requests_fall i s c busy w v told k t = by_told t.between t.told t.last t.came.by t.further t.whole
+  where
+    by_told : (b : Reached) (r : Result Outcome Refusal) (l : Reached) → HappensBy (Report i s.0 s.1) w b r → AfterRequest c busy r b.world l (Ok told)
+        → v ≡ after b.turns l → OffOrFallen w busy v told
+    by_told b (Ok o) l by further whole =
+        let f = then_parts (AfterReport c o) (λ exchanged. Gives true) b.world l told further in
+        let x = finishes w b.world i s.0 s.1 c o f.between f.told k by.0 f.came in
+        let end : l ≡ after f.between.turns (stays f.between.world) = f.whole ∙ ap (after f.between.turns) f.further.0 in
+        exchanged_falls w busy v told (exchanged_behind w b l v whole (exchanged_before w f.between l end x))
+    by_told b (Err NothingToDo) l by further whole =
+        let end : v.world ≡ w =
+        ap (λ (z : Reached). z.world) whole ∙ ap (λ (z : Reached). z.world) further.0 ∙ ap (λ (z : Reached). z.world) by.1 in
+        inr (subst (λ (z : State). HasFallen w busy z told) (sym end)
+        (record { going = k; most = omega arith; less = λ t. inl (sym (told_same told busy further.1) ∙ t) }))
+    by_told b (Err NoSuchMessage) l by further whole = absurd (told_not told NoSuchMessage further.1)
+    by_told b (Err NoSuchNode) l by further whole = absurd (told_not told NoSuchNode further.1)
+    by_told b (Err NodeDown) l by further whole = absurd (told_not told NodeDown further.1)
+    by_told b (Err (Limit which)) l by further whole = absurd (told_not told (Limit which) further.1)
+    by_told b (Err Memory) l by further whole = absurd (told_not told Memory further.1)
+
+pub exchange_falls : (i : Instance) (s : SegmentAt) → Falls (ExchangeTurn i s)
+exchange_falls i s busy w v told k h = by_leader (leader_in w) h
+  where
+    by_leader : (o : Option ControllerId) → WithLeader i s o busy w v (Ok told) → OffOrFallen w busy v told
+    by_leader None g = rests w busy v told k g.0 (told_same told busy g.1)
+    by_leader (Some c) g = requests_fall i s c busy w v told k g
+
+-- ---- replicas
+
+replica_falls : (paused : Bool) (i : Instance) (s : SegmentAt) → Falls (ReplicaTurn paused i s)
+replica_falls paused i s =
+    act_falls (ConsumeTurn paused i s) (BuildAndExchange i s) (ReplicaTurn paused i s) (consume_falls paused i s)
+    (act_falls (BuildTurn i s) (ExchangeTurn i s) (BuildAndExchange i s) (build_turn_falls i s) (exchange_falls i s)
+    (λ busy w v told h. then_parts (BuildTurn i s busy) (ExchangeTurn i s) w v told h))
+    (λ busy w v told h. then_parts (ConsumeTurn paused i s busy) (BuildAndExchange i s) w v told h)
+
+held_fall : (paused : Bool) (i : ℕ) → Falls (ReplicasTurn paused i)
+held_fall paused i busy w v told k h = by_up (is_server_up w (record { 0 = i })) h
+  where
+    by_up : (b : Bool) → Choose b (ReplicasHeld paused (record { 0 = i }) busy w) (Gives busy w) v (Ok told) → OffOrFallen w busy v told
+    by_up true g = each_falls (ReplicaTurn paused (record { 0 = i })) (replica_falls paused (record { 0 = i })) (held_in w (record { 0 = i })) busy w v told k g
+    by_up false g = rests w busy v told k g.0 (told_same told busy g.1)
+
+-- the second part of a round
+pub replicas_fall : (paused : Bool) → Falls (ReplicasOfAll paused)
+replicas_fall paused busy w v told k h = from_falls (ReplicasTurn paused) (held_fall paused) 0 w.setup.servers busy w v told k h
+
+-- ---- a round of calm servers
+
+-- what lies ahead of the replicas of servers that are as they were
+abbrev states_ahead : Log → List ServerState → ℕ
+states_ahead log [] = 0
+states_ahead log (s ∷ ss) = ahead_table log s.table.entries + states_ahead log ss
+
+ahead_states : (log : Log) (ns : List ServerNode) → ahead_servers log ns ≡ states_ahead log (states ns)
+ahead_states log [] = refl
+ahead_states log (n ∷ ns) = ap (λ (x : ℕ). ahead_table log n.server.table.entries + x) (ahead_states log ns)
+
+rested_ahead : (w : State) (busy : Bool) (v : State) (told : Bool) → HasRested w busy v told → ahead_in_world v ≡ ahead_in_world w
+rested_ahead w busy v told x =
+    ap (λ (l : Log). ahead_servers l v.servers) x.log ∙ ahead_states w.log v.servers ∙ ap (states_ahead w.log) x.servers
+    ∙ sym (ahead_states w.log w.servers)
+
+round_falls : (paused : Bool) (w : State) (v : Reached) (told : Bool) → IsSteady w → IsToldRightly w → Round paused w v (Ok told) → OffOrFallen w false v told
+round_falls paused w v told k right h =
+    let t = then_parts (ServersTurn false) (ReplicasOfAll paused) w v told h in
+    let x = servers_rest 0 w.setup.servers false w t.between t.told k t.came in
+    then_fall w t.between t.last v false t.told told t.whole
+    (inr (record {
+      going = record { safe = x.steady.safe; told = x.right right };
+      most = omega (arith, rested_ahead w false t.between.world t.told x);
+      less = λ e. inl (sym x.idle ∙ e);
+    }))
+    (λ m. replicas_fall paused t.told t.between.world t.last told m t.further)
+
+-- ---- in a run
+
+abbrev OffOrAhead : State → Reached → Type 0
+OffOrAhead w v = PutsOff v ⊎ (ahead_in_world v.world < ahead_in_world w)
+
+if_busy : (w : State) (v : Reached) → OffOrFallen w false v true → OffOrAhead w v
+if_busy w v (inl off) = inl off
+if_busy w v (inr x) = by_less (x.less refl)
+  where
+    by_less : (false ≡ true) ⊎ (ahead_in_world v.world < ahead_in_world w) → OffOrAhead w v
+    by_less (inl e) = absurd (false≢true e)
+    by_less (inr lt) = inr lt
+
+module _ (setup : Setup) (turns : List Turn) (w : State) (v : Reached) (is : IsSetup setup) (run : Runs setup turns w) where
+  run_goes : IsGoing w
+  run_goes = record { safe = runs_are_safe setup turns w is run; told = runs_told setup turns w is run }
+
+  pub exchange_in_run : (i : Instance) (s : SegmentAt) → ExchangeTurn i s false w v (Ok true) → PutsOff v ⊎ (ahead_in_world v.world < ahead_in_world w)
+  exchange_in_run i s h = if_busy w v (exchange_falls i s false w v true run_goes h)
+
+  pub replicas_in_run : (paused : Bool) → ReplicasOfAll paused false w v (Ok true) → PutsOff v ⊎ (ahead_in_world v.world < ahead_in_world w)
+  replicas_in_run paused h = if_busy w v (replicas_fall paused false w v true run_goes h)
+
+  pub round_in_run : (paused : Bool) → AreUp w → w.store.faults.plan ≡ [] → AreAllCalm w → Round paused w v (Ok true)
+      → PutsOff v ⊎ (ahead_in_world v.world < ahead_in_world w)
+  round_in_run paused up unplanned calm h =
+      if_busy w v
+      (round_falls paused w v true
+      (record { safe = run_goes.safe; unplanned = unplanned; up = up; calm = calm; follow = can_follow w run_goes }) run_goes.told h)

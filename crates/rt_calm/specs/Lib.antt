@@ -1,0 +1,3 @@
+pub mod Ahead
+pub mod Off
+pub mod Waiting

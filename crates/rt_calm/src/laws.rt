@@ -1,0 +1,45 @@
+//! What lies ahead of replicas, and what takes of it. Each law stands on a function that does nothing: its clause is the law.
+ghost use Rattle.std.specs.Prelude.{◌≡◌, ◌<◌, ◌⊎◌, Bool, List, [], Ok, true, false};
+ghost use Rattle.rt_base.specs.declared.numbers.Instance.{Instance};
+ghost use Rattle.rt_base.specs.declared.numbers.Moment.{Moment};
+ghost use Rattle.rt_macros.specs.Doing.{Reached};
+ghost use Rattle.rt_macros.specs.Settling.{ExchangeTurn, ReplicasOfAll, Round, SegmentAt};
+ghost use Rattle.rt_model.specs.Completion.{react, Completion};
+ghost use Rattle.rt_model.specs.Setup.{IsSetup};
+ghost use Rattle.rt_model.specs.declared.completion.Ask.{Ask};
+ghost use Rattle.rt_model.specs.declared.setup.Setup.{Setup};
+ghost use Rattle.rt_safety.specs.Runs.{Runs, Turn};
+ghost use Rattle.rt_state.specs.declared.state.State.{State};
+ghost use Rattle.rt_heal.specs.AtRest.{AreUp};
+ghost use Rattle.rt_heal.specs.Calm.{AreAllCalm};
+ghost use Rattle.rt_calm.specs.Ahead.{ahead_in_world};
+ghost use Rattle.rt_calm.specs.Off.{PutsOff};
+ghost use Rattle.rt_calm.specs.Waiting.{HoldsOrStays, WaitsFor};
+
+/// A machine that waits for its committer, from COMMIT to the end of its job, stays as it is whatever another replica asks, unless that
+/// one is told HOLD: so a commit that goes on in rounds in which nobody is told HOLD comes to its job.
+#[tactic(auto, using(crate::proofs::Waiting::others_stay))]
+pub fn a_machine_waits_for_its_committer()
+    ensures { (m : Completion) (i : Instance) (what : Ask) (now : Moment) → WaitsFor m.state → (i.0 ≡ m.winner.0 → ⊥)
+        → HoldsOrStays m (react m i what now) }
+{}
+
+/// In each run the exchange of a replica, as `settle` makes it, puts the replica off, by HOLD, NOT_LEADER or FAILED, or leaves less
+/// ahead: what a controller answers fits what it was asked, and leads on. COMMIT and KEEP name the offset that was reported, and
+/// CATCH_UP one ahead of it, so that a replica asks again only behind messages that it takes.
+pub fn an_answer_puts_off_or_leaves_less_ahead()
+    ensures { (setup : Setup) (turns : List Turn) (w : State) (v : Reached) (instance : Instance) (segment : SegmentAt) → IsSetup setup
+        → Runs setup turns w → ExchangeTurn instance segment false w v (Ok true)
+        → PutsOff v ⊎ (ahead_in_world v.world < ahead_in_world w) }
+{}
+
+/// In each run the replicas' part of a round of `settle` puts one of them off, or leaves less ahead if anything happened in it, whether
+/// the run is paused or not: batches and builds do as exchanges do. So does a whole round where all servers are up, have seen the
+/// present ideal state, and have nothing to move and no file to get, and no fault of the store is planned.
+pub fn replicas_are_put_off_or_leave_less_ahead()
+    ensures replicas { (setup : Setup) (turns : List Turn) (paused : Bool) (w : State) (v : Reached) → IsSetup setup → Runs setup turns w
+        → ReplicasOfAll paused false w v (Ok true) → PutsOff v ⊎ (ahead_in_world v.world < ahead_in_world w) }
+    ensures rounds { (setup : Setup) (turns : List Turn) (paused : Bool) (w : State) (v : Reached) → IsSetup setup → Runs setup turns w
+        → AreUp w → w.store.faults.plan ≡ [] → AreAllCalm w → Round paused w v (Ok true)
+        → PutsOff v ⊎ (ahead_in_world v.world < ahead_in_world w) }
+{}
