@@ -55,7 +55,7 @@ use Rattle.rt_heal.specs.Calm.{AreAllCalm, IsCalm}
 use Rattle.rt_heal.specs.GivenUp.{IsConsumable}
 use Rattle.rt_heal.specs.Left.{left_in_world, most_entries, most_left}
 use Rattle.rt_heal.proofs.Clearing.{downloads_loaded, loaded_due, loaded_here, loaded_targets, loaded_wants, transits_due, HasLoaded, IsLessDue}
-use Rattle.rt_heal.proofs.Dropped.{leads_told, runs_told}
+use Rattle.rt_heal.proofs.Dropped.{leads_told, runs_told, IsToldRightly}
 use Rattle.rt_heal.proofs.Following.{all_follow}
 use Rattle.rt_heal.proofs.GivenUp.{consumable}
 use Rattle.rt_heal.proofs.LessRounds.{asks_behind, asks_first, replicas_lower, settles_in, AsksOrLeaves, IsSteady}
@@ -451,42 +451,60 @@ module _ (from : State) (consumes : (e : IdealEntry) → Has (entries_of from.st
 
 -- ---- a round
 
+-- the servers' part leaves all calm, and writes nothing
+pub record HasCalmed (w v : State) : Type 0 where
+  pub steady : IsSteady v
+  pub right : IsToldRightly v
+  pub controllers : v.controllers ≡ w.controllers
+  pub log : v.log ≡ w.log
+  pub written : v.store.writes ≡ w.store.writes
+
+module _ (setup : Setup) (turns : List Turn) (w : State) (b : Reached) (mid : Bool) (is : IsSetup setup) (run : Runs setup turns w) (up : AreUp w)
+    (unplanned : w.store.faults.plan ≡ []) (fetches : w.deep.faults.plan ≡ []) (came : ServersTurn false w b (Ok mid)) where
+  safe : IsSafeWorld w
+  safe = runs_are_safe setup turns w is run
+
+  between_calm : AreCalmUpTo w (0 + w.setup.servers) b.world
+  between_calm =
+      servers_calm w (λ e has consumes. consumable setup turns w e is run has consumes) 0 w.setup.servers false w b mid
+      (record {
+        healthy = record { safe = safe; same = refl; log = refl; written = refl; up = up; unplanned = unplanned; controllers = refl; reached = ([], refl) };
+        fetches = fetches;
+        calm = λ i n found below. absurd (omega (arith, below));
+      }) came
+
+  pub servers_calmed : HasCalmed w b.world
+  servers_calmed =
+      let k = between_calm.healthy in
+      let told_so = leads_told w k.reached.0 b.world safe (runs_told setup turns w is run) k.reached.1 in
+      record {
+        steady = record {
+          safe = k.safe;
+          unplanned = k.unplanned;
+          up = k.up;
+          calm = λ i n there. between_calm.calm i n there (within i n there);
+          follow = λ i n there. all_follow b.world k.safe told_so i n there;
+        };
+        right = told_so;
+        controllers = k.controllers;
+        log = k.log;
+        written = k.written;
+      }
+    where
+      within : (i : ℕ) (n : ServerNode) → slice_get b.world.servers i ≡ Some n → i < 0 + w.setup.servers
+      within i n there =
+          let inside = slice_get_within b.world.servers i n there in
+          let count = between_calm.healthy.safe.safe.all_servers in
+          let same : b.world.setup.servers ≡ w.setup.servers = ap (λ (x : Setup). x.servers) between_calm.healthy.same in
+          omega (arith, inside, count, same)
+
 module _ (setup : Setup) (turns : List Turn) (paused : Bool) (w : State) (v : Reached) (told : Bool) (is : IsSetup setup) (run : Runs setup turns w) (up : AreUp w)
     (unplanned : w.store.faults.plan ≡ []) (fetches : w.deep.faults.plan ≡ []) (h : Round paused w v (Ok told)) where
   abbrev t : IsThen (ServersTurn false) (ReplicasOfAll paused) w v told
   t = then_parts (ServersTurn false) (ReplicasOfAll paused) w v told h
 
-  safe : IsSafeWorld w
-  safe = runs_are_safe setup turns w is run
-
-  -- behind the servers' part all are calm
-  between_calm : AreCalmUpTo w (0 + w.setup.servers) t.between.world
-  between_calm =
-      servers_calm w (λ e has consumes. consumable setup turns w e is run has consumes) 0 w.setup.servers false w t.between t.told
-      (record {
-        healthy = record { safe = safe; same = refl; log = refl; written = refl; up = up; unplanned = unplanned; controllers = refl; reached = ([], refl) };
-        fetches = fetches;
-        calm = λ i n found below. absurd (omega (arith, below));
-      }) t.came
-
-  between_steady : IsSteady t.between.world
-  between_steady =
-      let k = between_calm.healthy in
-      let told_so = leads_told w k.reached.0 t.between.world safe (runs_told setup turns w is run) k.reached.1 in
-      record {
-        safe = k.safe;
-        unplanned = k.unplanned;
-        up = k.up;
-        calm = λ i n there. between_calm.calm i n there (within i n there);
-        follow = λ i n there. all_follow t.between.world k.safe told_so i n there;
-      }
-    where
-      within : (i : ℕ) (n : ServerNode) → slice_get t.between.world.servers i ≡ Some n → i < 0 + w.setup.servers
-      within i n there =
-          let inside = slice_get_within t.between.world.servers i n there in
-          let count = between_calm.healthy.safe.safe.all_servers in
-          let same : t.between.world.setup.servers ≡ w.setup.servers = ap (λ (x : Setup). x.servers) between_calm.healthy.same in
-          omega (arith, inside, count, same)
+  calmed : HasCalmed w t.between.world
+  calmed = servers_calmed setup turns w t.between t.told is run up unplanned fetches t.came
 
   -- and in the replicas' part one asks, or all stay so
   abbrev pub AsksOrSteadies : Type 0
@@ -496,19 +514,19 @@ module _ (setup : Setup) (turns : List Turn) (paused : Bool) (w : State) (v : Re
 
   pub round_steadies : AsksOrSteadies
   round_steadies =
-      by_way (replicas_lower paused t.between.world.setup.servers t.told t.between.world t.last told between_steady t.further)
+      by_way (replicas_lower paused t.between.world.setup.servers t.told t.between.world t.last told calmed.steady t.further)
     where
       end : v.world ≡ t.last.world
       end = ap (λ (x : Reached). x.world) t.whole
 
       by_way : AsksOrLeaves t.between.world t.told t.last told → AsksOrSteadies
-      by_way (inl a) = inl (asks_behind w t.between t.last v t.whole between_calm.healthy.controllers a)
+      by_way (inl a) = inl (asks_behind w t.between t.last v t.whole calmed.controllers a)
       by_way (inr x) =
           inr (
             subst IsSteady (sym end) x.steady,
-            ap (λ (y : State). y.controllers) end ∙ x.controllers ∙ between_calm.healthy.controllers,
-            ap (λ (y : State). y.log) end ∙ x.log ∙ between_calm.healthy.log,
-            ap (λ (y : State). y.store.writes) end ∙ x.written ∙ between_calm.healthy.written,
+            ap (λ (y : State). y.controllers) end ∙ x.controllers ∙ calmed.controllers,
+            ap (λ (y : State). y.log) end ∙ x.log ∙ calmed.log,
+            ap (λ (y : State). y.store.writes) end ∙ x.written ∙ calmed.written,
           )
 
   -- so no more is left than the ideal state asks for

@@ -89,7 +89,7 @@ left_then w m v busy between told x y =
 
 -- ---- an event
 
-still_steady : (w y : State) → IsSteady w → IsSafeWorld y → LeavesLess w y → IsSteady y
+pub still_steady : (w y : State) → IsSteady w → IsSafeWorld y → LeavesLess w y → IsSteady y
 still_steady w y k safe l =
     record {
       safe = safe;

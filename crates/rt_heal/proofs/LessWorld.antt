@@ -138,18 +138,16 @@ consumed_takes r new max now log e = by_count (asked_in r.phase max) refl e
 abbrev some_entry : Entry → Option Entry
 some_entry e = Some e
 
--- what is left, where a replica's entry was put back
-record IsPut (w y : State) (i : ℕ) (n new : ServerNode) (p : Partition) (q : Sequence) (r next : Consumer) : Type 0 where
-  there : slice_get w.servers i ≡ Some n
-  found : replica_of n.server.table p q ≡ Some r
-  table : new.server.table ≡ put_back n.server.table p q (Replica next)
-  numbers : new.server.numbers ≡ n.server.numbers
-  up : new.up ≡ n.up
-  servers : y.servers ≡ slice_set w.servers i new
-  log : y.log ≡ w.log
-  less : left_of w.log next < left_of w.log r
-  follow : CanFollow w.log next
-  shut : is_open (state_of r.phase) ≡ false → is_open (state_of next.phase) ≡ false
+-- a replica's entry was put back, which isn't told of a commit where it wasn't to be before
+pub record IsPut (w y : State) (i : ℕ) (n new : ServerNode) (p : Partition) (q : Sequence) (r next : Consumer) : Type 0 where
+  pub there : slice_get w.servers i ≡ Some n
+  pub found : replica_of n.server.table p q ≡ Some r
+  pub table : new.server.table ≡ put_back n.server.table p q (Replica next)
+  pub instance : new.server.numbers.instance ≡ n.server.numbers.instance
+  pub up : new.up ≡ n.up
+  pub servers : y.servers ≡ slice_set w.servers i new
+  pub log : y.log ≡ w.log
+  pub shut : is_open (state_of r.phase) ≡ false → is_open (state_of next.phase) ≡ false
 
 -- less is left in a world; all servers stay up, and each replica that is sent to a target still can come to it; where all servers were
 -- calm, they are
@@ -201,10 +199,10 @@ module _ (w y : State) (i : ℕ) (n new : ServerNode) (p : Partition) (q : Seque
   there_entry : entry_of t p q ≡ Some (Replica r)
   there_entry = replica_found (entry_of t p q) r k.found
 
-  put_less : left_in_world y < left_in_world w
-  put_less =
+  put_less : left_of w.log next < left_of w.log r → left_in_world y < left_in_world w
+  put_less less =
       let table : left_server w.log new < left_server w.log n =
-      subst (λ (u : Segments). left_entries w.log u.entries < left_server w.log n) (sym k.table) (table_less w.log t p q r next k.found k.less) in
+      subst (λ (u : Segments). left_entries w.log u.entries < left_server w.log n) (sym k.table) (table_less w.log t p q r next k.found less) in
       subst (λ (l : Log). left_servers l y.servers < left_in_world w) (sym k.log)
       (subst (λ (ns : List ServerNode). left_servers w.log ns < left_in_world w) (sym k.servers)
       (servers_less w.log w.servers i n new k.there table))
@@ -213,16 +211,16 @@ module _ (w y : State) (i : ℕ) (n new : ServerNode) (p : Partition) (q : Seque
   put_cases : (j : ℕ) (m : ServerNode) → slice_get y.servers j ≡ Some m → ((j ≡ i) × (m ≡ new)) ⊎ (slice_get w.servers j ≡ Some m)
   put_cases j m at = got_of_set w.servers i j new m (ap (λ (ns : List ServerNode). slice_get ns j) (sym k.servers) ∙ at)
 
-  put_follow : CanAllFollow w → CanAllFollow y
-  put_follow all j m at x has = subst (λ (l : Log). CanFollowEntry l x.1) (sym k.log) (by_place (put_cases j m at))
+  put_follow : CanFollow w.log next → CanAllFollow w → CanAllFollow y
+  put_follow follow all j m at x has = subst (λ (l : Log). CanFollowEntry l x.1) (sym k.log) (by_place (put_cases j m at))
     where
       by_place : ((j ≡ i) × (m ≡ new)) ⊎ (slice_get w.servers j ≡ Some m) → CanFollowEntry w.log x.1
       by_place (inl (here, is)) =
-          put_each (λ s e. CanFollowEntry w.log e) t.entries p q (Replica next) (all i n k.there) k.follow x
+          put_each (λ s e. CanFollowEntry w.log e) t.entries p q (Replica next) (all i n k.there) follow x
           (subst (λ (u : Segments). Has u.entries x) k.table (subst (λ (z : ServerNode). Has z.server.table.entries x) is has))
       by_place (inr old) = all j m old x has
 
-  put_up : AreUp w → AreUp y
+  pub put_up : AreUp w → AreUp y
   put_up up j m at = by_place (put_cases j m at)
     where
       by_place : ((j ≡ i) × (m ≡ new)) ⊎ (slice_get w.servers j ≡ Some m) → m.up ≡ true
@@ -234,7 +232,7 @@ module _ (w y : State) (i : ℕ) (n new : ServerNode) (p : Partition) (q : Seque
       record {
         seen =
             ap (λ (u : Segments). u.targets) k.table ∙ c.seen
-            ∙ ap (λ (z : Numbered). targets_of z.instance (entries_of w.store.writes)) (sym k.numbers);
+            ∙ ap (λ (z : Instance). targets_of z (entries_of w.store.writes)) (sym k.instance);
         moved = λ o s. subst (λ (u : Segments). transit_due u o s ≡ false) (sym k.table) (by_due o s (found o s));
         loaded = λ o s. subst (λ (u : Segments). wants_at (entry_of u o s) ≡ false) (sym k.table) (by_wants o s (found o s));
       }
@@ -258,22 +256,23 @@ module _ (w y : State) (i : ℕ) (n new : ServerNode) (p : Partition) (q : Seque
       by_wants o s (inl same) = ap wants_at same ∙ c.loaded o s
       by_wants o s (inr (is, was)) = ap wants_at is
 
-  put_calm : y.store ≡ w.store → AreAllCalm w → AreAllCalm y
+  pub put_calm : y.store ≡ w.store → AreAllCalm w → AreAllCalm y
   put_calm same all j m at = subst (λ (u : Told). IsCalm u.writes m) (sym same) (by_place (put_cases j m at))
     where
       by_place : ((j ≡ i) × (m ≡ new)) ⊎ (slice_get w.servers j ≡ Some m) → IsCalm w.store.writes m
       by_place (inl (here, is)) = subst (IsCalm w.store.writes) (sym is) (calm_new (all i n k.there))
       by_place (inr old) = all j m old
 
-  put_leaves : y.setup ≡ w.setup → y.controllers ≡ w.controllers → y.store ≡ w.store → LeavesLess w y
-  put_leaves setup controllers store =
+  put_leaves : left_of w.log next < left_of w.log r → CanFollow w.log next → y.setup ≡ w.setup → y.controllers ≡ w.controllers → y.store ≡ w.store
+      → LeavesLess w y
+  put_leaves less follow setup controllers store =
       record {
         setup = setup;
         controllers = controllers;
         store = store;
         log = k.log;
-        less = put_less;
-        follow = put_follow;
+        less = put_less less;
+        follow = put_follow follow;
         up = put_up;
         calm = put_calm store;
       }
@@ -362,14 +361,12 @@ module _ (w y : State) (i : Instance) (p : Partition) (q : Sequence) (o : Outcom
         there = m.there;
         found = m.found;
         table = m.table;
-        numbers = m.numbers;
+        instance = ap (λ (z : Numbered). z.instance) m.numbers;
         up = m.up;
         servers = m.servers;
         log = m.log;
-        less = m.made.1;
-        follow = batch_follows m.replica m.next w.log w.moment max m.follows m.made.0;
         shut = batch_shut m.replica m.next w.log w.moment max m.made.0;
-      }) m.setup m.controllers m.store
+      }) m.made.1 (batch_follows m.replica m.next w.log w.moment max m.follows m.made.0) m.setup m.controllers m.store
 
   -- it builds
   pub builds_made : Steps w (event.Build i p q) y (Ok o) → HasMade (λ r next. Builds r next (Ok tt)) w y i p q
@@ -408,11 +405,9 @@ module _ (w y : State) (i : Instance) (p : Partition) (q : Sequence) (o : Outcom
         there = m.there;
         found = m.found;
         table = m.table;
-        numbers = m.numbers;
+        instance = ap (λ (z : Numbered). z.instance) m.numbers;
         up = m.up;
         servers = m.servers;
         log = m.log;
-        less = build_less m.replica m.next w.log m.made;
-        follow = build_follows m.replica m.next w.log m.made;
         shut = build_shut m.replica m.next m.made;
-      }) m.setup m.controllers m.store
+      }) (build_less m.replica m.next w.log m.made) (build_follows m.replica m.next w.log m.made) m.setup m.controllers m.store

@@ -32,7 +32,7 @@ use Rattle.rt_state.specs.IsSafeWorld.{IsSafeWorld}
 use Rattle.rt_state.specs.declared.state.State.{State}
 use Rattle.rt_stream.specs.Log.{messages_of, Log}
 use Rattle.rt_heal.specs.Calm.{AreAllCalm}
-use Rattle.rt_heal.specs.Left.{left_at, left_entries, left_entry, left_in, left_in_world, left_server, left_servers, most_entries, most_left, CanAllFollow, CanFollowAt, CanFollowEntry, CanFollowIn}
+use Rattle.rt_heal.specs.Left.{left_at, left_entries, left_entry, left_in, left_in_world, left_servers, most_entries, most_left, CanAllFollow, CanFollowAt, CanFollowEntry, CanFollowIn}
 use Rattle.rt_heal.specs.Reachable.{IsReachable}
 use Rattle.rt_heal.proofs.Asked.{mode_asked, IsAsked}
 
@@ -65,31 +65,46 @@ entry_most log s (Replica r) own follows =
     subst (λ (x : Segment). left_entry log (Replica r) ≤ length (messages_of log x.0) + 1) (own r refl) (phase_most log r r.phase follows)
 entry_most log s (Committed c) own follows = omega arith
 
+-- ---- sums
+
+-- of the entries of a table, of the tables of servers, and of the partitions of an ideal state's entries
+abbrev pub table_sum : (Entry → ℕ) → List (Segment × Entry) → ℕ
+table_sum f [] = 0
+table_sum f (e ∷ es) = f e.1 + table_sum f es
+
+abbrev pub servers_sum : (Entry → ℕ) → List ServerNode → ℕ
+servers_sum f [] = 0
+servers_sum f (n ∷ ns) = table_sum f n.server.table.entries + servers_sum f ns
+
+abbrev pub asked_sum : (Partition → ℕ) → List IdealEntry → ℕ
+asked_sum g [] = 0
+asked_sum g (e ∷ es) = g e.partition + asked_sum g es
+
 -- ---- a table
 
 -- one of a list, and the rest of it
-record IsTaken (log : Log) (es : List IdealEntry) (e : IdealEntry) : Type 0 where
+record IsTaken (g : Partition → ℕ) (es : List IdealEntry) (e : IdealEntry) : Type 0 where
   rest : List IdealEntry
-  sum : most_entries log es ≡ (length (messages_of log e.partition) + 1) + most_entries log rest
+  sum : asked_sum g es ≡ (g e.partition) + asked_sum g rest
   others : (a : IdealEntry) → Has es a → (a ≡ e) ⊎ Has rest a
 
-taken : (log : Log) (es : List IdealEntry) (e : IdealEntry) → Has es e → IsTaken log es e
-taken log [] e has = absurd has
-taken log (x ∷ xs) e (inl same) =
+taken : (g : Partition → ℕ) (es : List IdealEntry) (e : IdealEntry) → Has es e → IsTaken g es e
+taken g [] e has = absurd has
+taken g (x ∷ xs) e (inl same) =
     record {
       rest = xs;
-      sum = ap (λ (y : IdealEntry). (length (messages_of log y.partition) + 1) + most_entries log xs) same;
+      sum = ap (λ (y : IdealEntry). (g y.partition) + asked_sum g xs) same;
       others = λ a has. by_place a has;
     }
   where
     by_place : (a : IdealEntry) → (x ≡ a) ⊎ Has xs a → (a ≡ e) ⊎ Has xs a
     by_place a (inl is) = inl (sym is ∙ same)
     by_place a (inr later) = inr later
-taken log (x ∷ xs) e (inr has) =
-    let t = taken log xs e has in
+taken g (x ∷ xs) e (inr has) =
+    let t = taken g xs e has in
     record { rest = x ∷ t.rest; sum = omega (arith, t.sum); others = λ a has_a. by_place t a has_a }
   where
-    by_place : (t : IsTaken log xs e) (a : IdealEntry) → (x ≡ a) ⊎ Has xs a → (a ≡ e) ⊎ Has (x ∷ t.rest) a
+    by_place : (t : IsTaken g xs e) (a : IdealEntry) → (x ≡ a) ⊎ Has xs a → (a ≡ e) ⊎ Has (x ∷ t.rest) a
     by_place t a (inl is) = inr (inl is)
     by_place t a (inr later) = by_rest (t.others a later)
       where
@@ -116,20 +131,20 @@ record IsFor (es : List IdealEntry) (s : Segment) : Type 0 where
   partition : entry.partition ≡ s.0
   sequence : entry.sequence ≡ s.1
 
-covered : (log : Log) (xs : List (Segment × Entry)) (es : List IdealEntry) → Ascending (keys_of xs)
-    → ((x : Segment × Entry) → Has xs x → left_entry log x.1 ≤ length (messages_of log x.0.0) + 1) → ((x : Segment × Entry) → Has xs x → IsFor es x.0)
-    → left_entries log xs ≤ most_entries log es
-covered log [] es up small all = omega arith
-covered log (x ∷ xs) es up small all =
-    let more = covered log xs t.rest (later_ascend x.0 (keys_of xs) up) (λ y has. small y (inr has)) later in
-    let here = ap (λ (p : Partition). length (messages_of log p)) own.partition in
+covered : (f : Entry → ℕ) (g : Partition → ℕ) (xs : List (Segment × Entry)) (es : List IdealEntry) → Ascending (keys_of xs)
+    → ((x : Segment × Entry) → Has xs x → f x.1 ≤ g x.0.0) → ((x : Segment × Entry) → Has xs x → IsFor es x.0)
+    → table_sum f xs ≤ asked_sum g es
+covered f g [] es up small all = omega arith
+covered f g (x ∷ xs) es up small all =
+    let more = covered f g xs t.rest (later_ascend x.0 (keys_of xs) up) (λ y has. small y (inr has)) later in
+    let here = ap (λ (p : Partition). g p) own.partition in
     omega (arith, more, small x (inl refl), t.sum, here)
   where
     own : IsFor es x.0
     own = all x (inl refl)
 
-    t : IsTaken log es own.entry
-    t = taken log es own.entry own.there
+    t : IsTaken g es own.entry
+    t = taken g es own.entry own.there
 
     later : (y : Segment × Entry) → Has xs y → IsFor t.rest y.0
     later y has = by_place (t.others its.entry its.there)
@@ -153,30 +168,30 @@ is_of i e = e.instance.0 == i
 abbrev is_from : ℕ → IdealEntry → Bool
 is_from i e = nat_le i e.instance.0
 
-put_sum : (log : Log) (b : Bool) (e : IdealEntry) (es : List IdealEntry)
-    → most_entries log (cond b (e ∷ es) es) ≡ cond b (length (messages_of log e.partition) + 1) 0 + most_entries log es
-put_sum log true e es = refl
-put_sum log false e es = omega arith
+put_sum : (g : Partition → ℕ) (b : Bool) (e : IdealEntry) (es : List IdealEntry)
+    → asked_sum g (cond b (e ∷ es) es) ≡ cond b (g e.partition) 0 + asked_sum g es
+put_sum g true e es = refl
+put_sum g false e es = omega arith
 
-abbrev weight : Log → IdealEntry → Bool → ℕ
-weight log e b = cond b (length (messages_of log e.partition) + 1) 0
+abbrev weight : (Partition → ℕ) → IdealEntry → Bool → ℕ
+weight g e b = cond b (g e.partition) 0
 
-split_one : (log : Log) (i : ℕ) (e : IdealEntry) → weight log e (is_of i e) + weight log e (is_from (i + 1) e) ≡ weight log e (is_from i e)
-split_one log i e = by_own (is_of i e) refl
+split_one : (g : Partition → ℕ) (i : ℕ) (e : IdealEntry) → weight g e (is_of i e) + weight g e (is_from (i + 1) e) ≡ weight g e (is_from i e)
+split_one g i e = by_own (is_of i e) refl
   where
-    by_own : (b : Bool) → is_of i e ≡ b → weight log e b + weight log e (is_from (i + 1) e) ≡ weight log e (is_from i e)
+    by_own : (b : Bool) → is_of i e ≡ b → weight g e b + weight g e (is_from (i + 1) e) ≡ weight g e (is_from i e)
     by_own true own = by_next (is_from (i + 1) e) refl
       where
         here : e.instance.0 ≡ i
         here = eqb-true e.instance.0 i own
 
-        by_next : (c : Bool) → is_from (i + 1) e ≡ c → weight log e true + weight log e c ≡ weight log e (is_from i e)
+        by_next : (c : Bool) → is_from (i + 1) e ≡ c → weight g e true + weight g e c ≡ weight g e (is_from i e)
         by_next true next = absurd (omega (arith, here, leb-true (i + 1) e.instance.0 next))
         by_next false next =
             let it : is_from i e ≡ true = le-leb i e.instance.0 (omega (arith, here)) in
-            let w : weight log e (is_from i e) ≡ length (messages_of log e.partition) + 1 = ap (weight log e) it in
+            let w : weight g e (is_from i e) ≡ g e.partition = ap (weight g e) it in
             omega (arith, w)
-    by_own false other = omega (arith, ap (weight log e) (by_from (is_from i e) refl))
+    by_own false other = omega (arith, ap (weight g e) (by_from (is_from i e) refl))
       where
         by_from : (c : Bool) → is_from i e ≡ c → is_from (i + 1) e ≡ is_from i e
         by_from true it = by_order (cases_lt i e.instance.0)
@@ -192,41 +207,41 @@ split_one log i e = by_own (is_of i e) refl
                 absurd (true≢false (sym (le-leb i e.instance.0 (omega (arith, leb-true (i + 1) e.instance.0 next))) ∙ none))
             by_next false next = next ∙ sym none
 
-split : (log : Log) (i : ℕ) (es : List IdealEntry)
-    → most_entries log (filter (is_of i) es) + most_entries log (filter (is_from (i + 1)) es) ≡ most_entries log (filter (is_from i) es)
-split log i [] = refl
-split log i (e ∷ es) =
+split : (g : Partition → ℕ) (i : ℕ) (es : List IdealEntry)
+    → asked_sum g (filter (is_of i) es) + asked_sum g (filter (is_from (i + 1)) es) ≡ asked_sum g (filter (is_from i) es)
+split g i [] = refl
+split g i (e ∷ es) =
     omega (
       arith,
-      split log i es,
-      split_one log i e,
-      put_sum log (is_of i e) e (filter (is_of i) es),
-      put_sum log (is_from (i + 1) e) e (filter (is_from (i + 1)) es),
-      put_sum log (is_from i e) e (filter (is_from i) es),
+      split g i es,
+      split_one g i e,
+      put_sum g (is_of i e) e (filter (is_of i) es),
+      put_sum g (is_from (i + 1) e) e (filter (is_from (i + 1)) es),
+      put_sum g (is_from i e) e (filter (is_from i) es),
     )
 
-servers_most : (log : Log) (es : List IdealEntry) (ns : List ServerNode) (i : ℕ)
-    → ((j : ℕ) (n : ServerNode) → slice_get ns j ≡ Some n → left_server log n ≤ most_entries log (filter (is_of (i + j)) es))
-    → left_servers log ns ≤ most_entries log (filter (is_from i) es)
-servers_most log es [] i each = omega arith
-servers_most log es (n ∷ ns) i each =
+servers_most : (f : Entry → ℕ) (g : Partition → ℕ) (es : List IdealEntry) (ns : List ServerNode) (i : ℕ)
+    → ((j : ℕ) (n : ServerNode) → slice_get ns j ≡ Some n → table_sum f n.server.table.entries ≤ asked_sum g (filter (is_of (i + j)) es))
+    → servers_sum f ns ≤ asked_sum g (filter (is_from i) es)
+servers_most f g es [] i each = omega arith
+servers_most f g es (n ∷ ns) i each =
     let own = each 0 n refl in
     let at_i : i + 0 ≡ i = omega arith in
-    let here : most_entries log (filter (is_of (i + 0)) es) ≡ most_entries log (filter (is_of i) es) =
-    ap (λ (k : ℕ). most_entries log (filter (is_of k) es)) at_i in
-    let more = servers_most log es ns (i + 1) (λ j m there. later j m there) in
-    omega (arith, own, here, more, split log i es)
+    let here : asked_sum g (filter (is_of (i + 0)) es) ≡ asked_sum g (filter (is_of i) es) =
+    ap (λ (k : ℕ). asked_sum g (filter (is_of k) es)) at_i in
+    let more = servers_most f g es ns (i + 1) (λ j m there. later j m there) in
+    omega (arith, own, here, more, split g i es)
   where
-    later : (j : ℕ) (m : ServerNode) → slice_get ns j ≡ Some m → left_server log m ≤ most_entries log (filter (is_of ((i + 1) + j)) es)
+    later : (j : ℕ) (m : ServerNode) → slice_get ns j ≡ Some m → table_sum f m.server.table.entries ≤ asked_sum g (filter (is_of ((i + 1) + j)) es)
     later j m there =
         let same : i + suc j ≡ (i + 1) + j = omega arith in
-        subst (λ (k : ℕ). left_server log m ≤ most_entries log (filter (is_of k) es)) same (each (suc j) m there)
+        subst (λ (k : ℕ). table_sum f m.server.table.entries ≤ asked_sum g (filter (is_of k) es)) same (each (suc j) m there)
 
-all_from : (log : Log) (es : List IdealEntry) → most_entries log (filter (is_from 0) es) ≤ most_entries log es
-all_from log [] = omega arith
-all_from log (e ∷ es) = omega (arith, all_from log es, put_sum log (is_from 0 e) e (filter (is_from 0) es), at_most (is_from 0 e))
+all_from : (g : Partition → ℕ) (es : List IdealEntry) → asked_sum g (filter (is_from 0) es) ≤ asked_sum g es
+all_from g [] = omega arith
+all_from g (e ∷ es) = omega (arith, all_from g es, put_sum g (is_from 0 e) e (filter (is_from 0) es), at_most (is_from 0 e))
   where
-    at_most : (b : Bool) → weight log e b ≤ length (messages_of log e.partition) + 1
+    at_most : (b : Bool) → weight g e b ≤ g e.partition
     at_most true = omega arith
     at_most false = omega arith
 
@@ -253,19 +268,16 @@ has_target : (o : Option Mode) (e : Entry) → is_due o (Some e) ≡ false → (
 has_target None e none = absurd (true≢false none)
 has_target (Some m) e none = (m, refl)
 
-module _ (v : State) (safe : IsSafeWorld v) (calm : AreAllCalm v) (follow : CanAllFollow v) where
+module _ (v : State) (safe : IsSafeWorld v) (calm : AreAllCalm v) (f : Entry → ℕ) (g : Partition → ℕ)
+    (small : (i : ℕ) (n : ServerNode) → slice_get v.servers i ≡ Some n → (x : Segment × Entry) → Has n.server.table.entries x → f x.1 ≤ g x.0.0) where
   server_most : (i : ℕ) (n : ServerNode) → slice_get v.servers i ≡ Some n
-      → left_server v.log n ≤ most_entries v.log (filter (is_of i) (entries_of v.store.writes))
+      → table_sum f n.server.table.entries ≤ asked_sum g (filter (is_of i) (entries_of v.store.writes))
   server_most i n there =
-      covered v.log n.server.table.entries (filter (is_of i) (entries_of v.store.writes)) is.over.kept.ascending
-      (λ x has. entry_most v.log x.0 x.1 (λ r own. own_segment x r own has) (follow i n there x has)) (λ x has. asked x has)
+      covered f g n.server.table.entries (filter (is_of i) (entries_of v.store.writes)) is.over.kept.ascending (λ x has. small i n there x has)
+      (λ x has. asked x has)
     where
       is : IsServerAt v.setup (past_of v) i n
       is = safe.safe.servers i n there
-
-      own_segment : (x : Segment × Entry) (r : Consumer) → x.1 ≡ Replica r → Has n.server.table.entries x → segment_of r ≡ x.0
-      own_segment x r own has =
-          (is.over.entries (at x.0 (Replica r)) (subst (λ (e : Entry). Has n.server.table.entries (at x.0 e)) own has)).0
 
       asked : (x : Segment × Entry) → Has n.server.table.entries x → IsFor (filter (is_of i) (entries_of v.store.writes)) x.0
       asked x has =
@@ -287,17 +299,48 @@ module _ (v : State) (safe : IsSafeWorld v) (calm : AreAllCalm v) (follow : CanA
             sequence = a.sequence;
           }
 
-  -- no more is left to all
-  pub calm_most : left_in_world v ≤ most_left v
-  calm_most =
+  -- the sum of all tables is at most that of the ideal state
+  pub calm_sum : servers_sum f v.servers ≤ asked_sum g (entries_of v.store.writes)
+  calm_sum =
       omega (
         arith,
-        servers_most v.log (entries_of v.store.writes) v.servers 0 (λ j n there. each j n there),
-        all_from v.log (entries_of v.store.writes),
+        servers_most f g (entries_of v.store.writes) v.servers 0 (λ j n there. each j n there),
+        all_from g (entries_of v.store.writes),
       )
     where
       each : (j : ℕ) (n : ServerNode) → slice_get v.servers j ≡ Some n
-          → left_server v.log n ≤ most_entries v.log (filter (is_of (0 + j)) (entries_of v.store.writes))
+          → table_sum f n.server.table.entries ≤ asked_sum g (filter (is_of (0 + j)) (entries_of v.store.writes))
       each j n there =
           let same : j ≡ 0 + j = omega arith in
-          subst (λ (k : ℕ). left_server v.log n ≤ most_entries v.log (filter (is_of k) (entries_of v.store.writes))) same (server_most j n there)
+          subst (λ (k : ℕ). table_sum f n.server.table.entries ≤ asked_sum g (filter (is_of k) (entries_of v.store.writes))) same (server_most j n there)
+
+-- ---- what is left
+
+left_table : (log : Log) (es : List (Segment × Entry)) → left_entries log es ≡ table_sum (left_entry log) es
+left_table log [] = refl
+left_table log (e ∷ es) = ap (λ (x : ℕ). left_entry log e.1 + x) (left_table log es)
+
+left_all : (log : Log) (ns : List ServerNode) → left_servers log ns ≡ servers_sum (left_entry log) ns
+left_all log [] = refl
+left_all log (n ∷ ns) = omega (arith, left_table log n.server.table.entries, left_all log ns)
+
+most_asked : (log : Log) (es : List IdealEntry) → most_entries log es ≡ asked_sum (λ p. length (messages_of log p) + 1) es
+most_asked log [] = refl
+most_asked log (e ∷ es) = ap (λ (x : ℕ). (length (messages_of log e.partition) + 1) + x) (most_asked log es)
+
+-- the replica of an entry is one of its segment
+pub own_segment : (v : State) → IsSafeWorld v → (i : ℕ) (n : ServerNode) → slice_get v.servers i ≡ Some n → (x : Segment × Entry) (r : Consumer)
+    → x.1 ≡ Replica r → Has n.server.table.entries x → segment_of r ≡ x.0
+own_segment v safe i n there x r own has =
+    ((safe.safe.servers i n there).over.entries (at x.0 (Replica r)) (subst (λ (e : Entry). Has n.server.table.entries (at x.0 e)) own has)).0
+
+-- no more is left to all
+pub calm_most : (v : State) → IsSafeWorld v → AreAllCalm v → CanAllFollow v → left_in_world v ≤ most_left v
+calm_most v safe calm follow =
+    omega (
+      arith,
+      left_all v.log v.servers,
+      most_asked v.log (entries_of v.store.writes),
+      calm_sum v safe calm (left_entry v.log) (λ p. length (messages_of v.log p) + 1)
+          (λ i n there x has. entry_most v.log x.0 x.1 (λ r own. own_segment v safe i n there x r own has) (follow i n there x has)),
+    )
