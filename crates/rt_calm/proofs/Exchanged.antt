@@ -1,5 +1,5 @@
 -- An exchange puts its replica off, or leaves less ahead.
-use Rattle.std.proofs.Common.{◌≡◌, ◌⊎◌, inl, inr, ℕ, zero, suc, ◌<◌, ◌==◌, ◌&&◌, Bool, true, false, cond, List, [], ◌∷◌, length, Option, Some, None, Ok, refl, sym, ◌∙◌, ap, subst, arith, slice_get}
+use Rattle.std.proofs.Common.{◌≡◌, ◌⊎◌, inl, inr, ℕ, zero, suc, ◌<◌, ◌==◌, ◌&&◌, Bool, true, false, cond, List, [], length, Option, Some, None, Ok, refl, sym, ◌∙◌, ap, subst, arith, slice_get}
 use Rattle.std.specs.Prelude.{slice_set}
 use Rattle.std.specs.List.{Contains}
 use Rattle.std.proofs.lemmas.Bool.{eq-eqb, true≢false}
@@ -18,9 +18,9 @@ use Rattle.rt_commit.specs.declared.job.JobStage.{JobStage}
 use Rattle.rt_commit.specs.declared.job.JobStage.TheVariants as stage
 use Rattle.rt_commit.specs.declared.work.Work.{Work}
 use Rattle.rt_commit.specs.declared.work.Work.TheVariants as work
-use Rattle.rt_consumer.specs.Consumer.{cur, end_in, ends_at, is_at}
+use Rattle.rt_consumer.specs.Consumer.{cur, end_in, ends_at, is_at, state_at, state_of}
 use Rattle.rt_consumer.specs.Replies.{answered, replied as answered_by, turned}
-use Rattle.rt_consumer.specs.Requests.{kind_in, Requests as AsksItself}
+use Rattle.rt_consumer.specs.Requests.{kind_in, Requests as AsksItself, kind_at}
 use Rattle.rt_consumer.specs.declared.consumer.Consumer.{Consumer}
 use Rattle.rt_consumer.specs.declared.waited.Waited.TheVariants.{Step}
 use Rattle.rt_controller.specs.Controller.{Controlling}
@@ -42,9 +42,9 @@ use Rattle.rt_events.specs.declared.outcome.Outcome.{Outcome}
 use Rattle.rt_events.specs.declared.outcome.Outcome.TheVariants as came
 use Rattle.rt_events.specs.declared.refusal.Refusal.TheVariants.{Limit, NothingToDo}
 use Rattle.rt_base.specs.declared.which.Which.TheVariants.{Events}
-use Rattle.rt_lists.specs.Members.{Has}
+use Rattle.rt_lists.specs.Members.{Has, IsFront}
 use Rattle.rt_lists.proofs.Lists.{All-found, contains_found}
-use Rattle.rt_lists.proofs.Members.{Has-append_left, Has-append_right, Has-place, Has-push}
+use Rattle.rt_lists.proofs.Members.{Has-append_left, Has-append_right, Has-place, Has-push, front_same, front_then}
 use Rattle.rt_macros.specs.Doing.{Gives, Happens, Reached, after, stays}
 use Rattle.rt_macros.specs.Exchanging.{AfterDelivery, AfterReply, AfterReport, AfterStep, EndsJob, Handles, MakesStep, TakesAnswer}
 use Rattle.rt_macros.specs.Outcomes.{delivered_in, ended_in, ending, replied, state_in}
@@ -67,7 +67,7 @@ use Rattle.rt_model.specs.declared.request.RequestNumber.{RequestNumber}
 use Rattle.rt_model.specs.declared.replica_state.ReplicaState.{ReplicaState}
 use Rattle.rt_model.specs.declared.seg_meta.SeenMeta.{SeenMeta}
 use Rattle.rt_model.specs.declared.status.Status.{Status}
-use Rattle.rt_msgs.specs.Numbered.{number_at}
+use Rattle.rt_msgs.specs.Numbered.{number_at, Numbered}
 use Rattle.rt_nodes.specs.Messages.{node_took}
 use Rattle.rt_nodes.specs.Requests.{NodeAsks}
 use Rattle.rt_nodes.specs.declared.controller_node.ControllerNode.{ControllerNode}
@@ -75,10 +75,9 @@ use Rattle.rt_nodes.specs.declared.server_node.ServerNode.{ServerNode}
 use Rattle.rt_past.specs.Segments.{IsAssignedTo}
 use Rattle.rt_assign.specs.Placement.{replicas_of}
 use Rattle.rt_safety.proofs.JobsOn.{own_slot}
-use Rattle.rt_safety.proofs.Runs.{leads_safe}
 use Rattle.rt_safety.proofs.SuccessEnds.{success_ends}
 use Rattle.rt_safety.specs.CommitRun.{job_in, open_job}
-use Rattle.rt_safety.specs.Runs.{happens, Leads, Turn}
+use Rattle.rt_safety.specs.Runs.{happens, Turn}
 use Rattle.rt_server.proofs.LastingAsks.{answered_ok, no_answer}
 use Rattle.rt_server.specs.Calls.{replied_at, ThroughAt}
 use Rattle.rt_server.specs.Table.{put_back, replica_of, Segments}
@@ -101,25 +100,22 @@ use Rattle.rt_unrefused.proofs.Requested.{replica_put, requested, IsRequested}
 use Rattle.rt_world.proofs.KeepsMessages.{request_sent}
 use Rattle.rt_world.specs.Reading.{events_left_in}
 use Rattle.rt_world.specs.Step.{Steps}
-use Rattle.rt_heal.proofs.Dropped.{leads_told, IsToldRightly}
 use Rattle.rt_heal.proofs.Quiet.{IsThen, then_parts, told_not, told_same}
+use Rattle.rt_consumer.specs.declared.phase.Phase.{Phase}
+use Rattle.rt_consumer.specs.declared.phase.Phase.TheVariants as phase
+use Rattle.rt_consumer.specs.declared.stage.Stage.{Stage}
+use Rattle.rt_consumer.specs.declared.stage.Stage.TheVariants.{InitialConsuming, CatchingUp, Holding, ConsumingToOnline, Retaining, Building, Starting, Uploading, Ending}
+use Rattle.rt_controller.specs.Requests.{handle_call}
+use Rattle.rt_controller.specs.Working.{work_call}
+use Rattle.rt_controller.proofs.Telling.{told_request, told_work}
+use Rattle.rt_entry.specs.Transition.{is_open}
+use Rattle.rt_heal.proofs.LessWorld.{put_calm, put_up, IsPut}
+use Rattle.rt_calm.proofs.Keeping.{calm_still, can_follow, goes_on, keeps_then, step_grows, step_keeps, unplanned_after, IsGoing, KeepsOn}
 use Rattle.rt_calm.specs.Ahead.{ahead_in_world, ahead_of, ahead_servers}
 use Rattle.rt_calm.specs.Off.{IsPutOff, PutsOff}
 use Rattle.rt_calm.proofs.Fitting.{hands_out, Fits, HandsOut, Starts}
 use Rattle.rt_calm.proofs.Standing.{answer_falls}
 use Rattle.rt_calm.proofs.Sums.{put_falls, put_still}
-
--- ---- worlds of a run
-
--- a safe world in which all that was told is right
-pub record IsGoing (u : State) : Type 0 where
-  pub safe : IsSafeWorld u
-  pub told : IsToldRightly u
-
-pub goes_on : (u v : State) (e : Event) (o : Outcome) → IsGoing u → IsFitting u.setup.schema e → Steps u e v (Ok o) → IsGoing v
-goes_on u v e o k fits steps =
-    let leads : Leads u (happens e o ∷ []) v = (v, (fits, steps), refl) in
-    record { safe = leads_safe u (happens e o ∷ []) v k.safe leads; told = leads_told u (happens e o ∷ []) v k.safe k.told leads }
 
 -- ---- the request
 
@@ -134,7 +130,10 @@ record HasAsked (w u : State) (i : Instance) (p : Partition) (q : Sequence) (req
   new : ServerNode
   servers : u.servers ≡ slice_set w.servers i.0 new
   table : new.server.table ≡ put_back old.server.table p q (Replica (record replica { waited = Some (Step request.number) }))
+  instance : new.server.numbers.instance ≡ old.server.numbers.instance
+  up : new.up ≡ old.up
   log : u.log ≡ w.log
+  store : u.store ≡ w.store
 
 abbrev pub came_sent : ℕ → Request → Outcome
 came_sent m request = came.Sent m request
@@ -179,7 +178,10 @@ has_asked w u i p q request (cost, due, h) = by_server (slice_get w.servers i.0)
                   through.4
                   ∙ ap (λ (x : Consumer). put_back old.server.table p q (Replica x))
                   (c.2 ∙ ap (λ (n : RequestNumber). record r { waited = Some (Step n) }) number);
+              instance = ap (λ (x : Numbered). x.instance) c.3;
+              up = does.2;
               log = ap (λ (x : Next). x.0.log) is;
+              store = ap (λ (x : Next). x.0.store) is;
             }
           where
             some_kind : RequestKind → Option RequestKind
@@ -187,16 +189,61 @@ has_asked w u i p q request (cost, due, h) = by_server (slice_get w.servers i.0)
 
 -- ---- a controller's part
 
--- servers and log stay as they are
+-- servers and log stay as they are, and no fault of the store is planned
 record IsAsking (u z : State) : Type 0 where
   going : IsGoing z
   servers : z.servers ≡ u.servers
   log : z.log ≡ u.log
+  plan : u.store.faults.plan ≡ [] → z.store.faults.plan ≡ []
+  grows : IsFront u.store.writes z.store.writes
 
 asking_on : (u z y : State) (e : Event) (o : Outcome) → IsAsking u z → IsFitting z.setup.schema e → Steps z e y (Ok o) → y.servers ≡ z.servers → y.log ≡ z.log
-    → IsAsking u y
-asking_on u z y e o k fits steps servers log =
-    record { going = goes_on z y e o k.going fits steps; servers = servers ∙ k.servers; log = log ∙ k.log }
+    → (z.store.faults.plan ≡ [] → y.store.faults.plan ≡ []) → IsAsking u y
+asking_on u z y e o k fits steps servers log plan =
+    record {
+      going = goes_on z y e o k.going fits steps;
+      servers = servers ∙ k.servers;
+      log = log ∙ k.log;
+      plan = λ none. plan (k.plan none);
+      grows = front_then u.store.writes z.store.writes y.store.writes k.grows (step_grows z y e o k.going fits steps);
+    }
+
+asking_keeps : (u z : State) → IsAsking u z → KeepsOn u z
+asking_keeps u z k =
+    record {
+      going = k.going;
+      log = k.log;
+      grows = k.grows;
+      steady = λ same s. record {
+        safe = k.going.safe;
+        unplanned = k.plan s.unplanned;
+        up = λ i n there. s.up i n (ap (λ (ns : List ServerNode). slice_get ns i) (sym k.servers) ∙ there);
+        calm = calm_still u z k.servers same s.calm;
+        follow = can_follow z k.going;
+      };
+    }
+
+delivery_plan : (w v : State) (m : ℕ) (c : ControllerId) (o : Outcome) → Steps w (event.Deliver m c) v (Ok o) → w.store.faults.plan ≡ []
+    → v.store.faults.plan ≡ []
+delivery_plan w v m c o (cost, due, h) none = by_found (request_at w m) (slice_get w.controllers c.0) h
+  where
+    by_answer : (z : State) (what : Handled) → z.store.faults.plan ≡ [] → (v, o) ≡ handed z cost what → v.store.faults.plan ≡ []
+    by_answer z (handled.Reply y) same is = ap (λ (n : Next). n.0.store.faults.plan) is ∙ same
+    by_answer z (handled.Job j) same is = ap (λ (n : Next). n.0.store.faults.plan) is ∙ same
+
+    by_found : (q : Option Request) (n : Option ControllerNode) → DeliversAt q n w c cost (v, o) → v.store.faults.plan ≡ []
+    by_found None n h = absurd h
+    by_found (Some q) None h = absurd h
+    by_found (Some q) (Some n) (new, what, store, deep, handles, is) =
+        let x = told_request w.store store w.deep deep n.controller q w.moment (record { controller = new; handled = what }) handles in
+        by_answer (after_step w c n new store deep) what
+        (ap (λ (t : Told). t.faults.plan) x.store ∙ unplanned_after w.store (handle_call n.controller q) none) is
+
+job_plan : (w v : State) (c : ControllerId) (j : ℕ) (o : Outcome) → Steps w (event.Job c j) v (Ok o) → w.store.faults.plan ≡ [] → v.store.faults.plan ≡ []
+job_plan w v c j o steps none =
+    let did = own_step w v c j o steps in
+    let x = told_work w.store did.store w.deep did.deep did.node.controller j w.moment (record { controller = did.new; step = did.did }) did.works in
+    ap (λ (t : Told). t.faults.plan) (did.written ∙ x.store) ∙ unplanned_after w.store (work_call did.node.controller j w.moment) none
 
 delivery_log : (w v : State) (m : ℕ) (c : ControllerId) (o : Outcome) → Steps w (event.Deliver m c) v (Ok o) → v.log ≡ w.log
 delivery_log w v m c o (cost, due, h) = by_found (request_at w m) (slice_get w.controllers c.0) h
@@ -501,7 +548,7 @@ module _ (u : State) (c : ControllerId) (q : Request) where
       on =
           subst (IsAsking u) (sym at)
           (asking_on u z s.between.world (event.Job c j) s.told k tt s.came.by.0 (job_leaves z s.between.world c j s.told s.came.by.0).servers
-          (job_log z s.between.world c j s.told s.came.by.0))
+          (job_log z s.between.world c j s.told s.came.by.0) (λ none. job_plan z s.between.world c j s.told s.came.by.0 none))
 
       by_step : (o : Option Replied) (l : Reached) → Behind s.between.world c j q (ended_in s.told) → o ≡ ended_in s.told
           → AfterStep (EndsJob c j left) o t.between.world l (Ok r) → v ≡ after t.between.turns l
@@ -537,8 +584,10 @@ module _ (u : State) (c : ControllerId) (q : Request) where
 
       on : IsAsking u t.between.world
       on =
-          asking_on u u t.between.world (event.Deliver m c) t.told (record { going = going; servers = refl; log = refl }) tt t.came.by.0
+          asking_on u u t.between.world (event.Deliver m c) t.told
+          (record { going = going; servers = refl; log = refl; plan = λ none. none; grows = front_same u.store.writes }) tt t.came.by.0
           (delivery_leaves u t.between.world m c t.told t.came.by.0).servers (delivery_log u t.between.world m c t.told t.came.by.0)
+          (λ none. delivery_plan u t.between.world m c t.told t.came.by.0 none)
 
       by_delivered : (d : Delivered) → delivered_in t.told ≡ d → DeliversSo t.between.world c q d → (l : Reached) → AfterDelivery c d t.between.world l (Ok r)
           → v ≡ after t.between.turns l → IsAnswered v r
@@ -576,7 +625,10 @@ record HasTaken (z y : State) (i : Instance) (p : Partition) (q : Sequence) (nod
   new : ServerNode
   servers : y.servers ≡ slice_set z.servers i.0 new
   table : new.server.table ≡ put_back node.server.table p q (Replica (answered_by r reply))
+  instance : new.server.numbers.instance ≡ node.server.numbers.instance
+  up : new.up ≡ node.up
   log : y.log ≡ z.log
+  store : y.store ≡ z.store
 
 takes : (z y : State) (m : ℕ) (o : Outcome) (i : Instance) (p : Partition) (q : Sequence) (node : ServerNode) (r : Consumer) (reply : Reply)
     → reply_at z m ≡ Some reply → reply.number.instance.0 ≡ i.0 → reply.partition ≡ p → reply.sequence ≡ q → slice_get z.servers i.0 ≡ Some node
@@ -600,7 +652,11 @@ takes z y m o i p q node r reply there place of_p of_q stands found (cost, due, 
               ∙ ap (λ (x : Option Consumer). (replied_at x node.server.table reply).1) its
               ∙ ap (λ (x : Partition). put_back node.server.table x reply.sequence (Replica (answered_by r reply))) of_p
               ∙ ap (λ (x : Sequence). put_back node.server.table p x (Replica (answered_by r reply))) of_q;
+          instance =
+              ap (λ (x : Outcome × ServerNode). x.1.server.numbers.instance) step ∙ ap (λ (x : ServerNode). x.server.numbers.instance) same;
+          up = ap (λ (x : Outcome × ServerNode). x.1.up) step ∙ ap (λ (x : ServerNode). x.up) same;
           log = ap (λ (x : State). x.log) is;
+          store = ap (λ (x : State). x.store) is;
         }
 
 -- ---- an exchange
@@ -611,7 +667,7 @@ OffOrLess w v = PutsOff v ⊎ (ahead_in_world v.world < ahead_in_world w)
 
 -- and the run goes on
 pub record HasExchanged (w : State) (v : Reached) : Type 0 where
-  pub going : IsGoing v.world
+  pub on : KeepsOn w v.world
   pub less : OffOrLess w v
 
 pub off_first : (b l v : Reached) → v ≡ after b.turns l → PutsOff b → PutsOff v
@@ -626,7 +682,7 @@ off_behind b l v whole off =
 
 pub exchanged_behind : (w : State) (b l v : Reached) → v ≡ after b.turns l → HasExchanged w l → HasExchanged w v
 exchanged_behind w b l v whole x =
-    record { going = subst IsGoing (sym at) x.going; less = by_way x.less }
+    record { on = subst (KeepsOn w) (sym at) x.on; less = by_way x.less }
   where
     at : v.world ≡ l.world
     at = ap (λ (y : Reached). y.world) whole
@@ -637,7 +693,7 @@ exchanged_behind w b l v whole x =
 
 -- nothing comes behind it
 pub exchanged_before : (w : State) (b l : Reached) → l ≡ after b.turns (stays b.world) → HasExchanged w b → HasExchanged w l
-exchanged_before w b l whole x = record { going = subst IsGoing (sym at) x.going; less = by_way x.less }
+exchanged_before w b l whole x = record { on = subst (KeepsOn w) (sym at) x.on; less = by_way x.less }
   where
     at : l.world ≡ b.world
     at = ap (λ (y : Reached). y.world) whole
@@ -645,6 +701,25 @@ exchanged_before w b l whole x = record { going = subst IsGoing (sym at) x.going
     by_way : OffOrLess w b → OffOrLess w l
     by_way (inl off) = inl (off_first b (stays b.world) l whole off)
     by_way (inr less) = inr (subst (λ (y : State). ahead_in_world y < ahead_in_world w) (sym at) less)
+
+-- a replica that asks isn't told of a commit yet
+asks_open_at : (name : List ℕ) (number : RequestNumber) (stage : Stage) (k : RequestKind) → kind_at name number stage ≡ Some k
+    → is_open (state_at stage) ≡ true
+asks_open_at name number (Holding reason) k asks = refl
+asks_open_at name number (Starting reason built) k asks = refl
+asks_open_at name number (Uploading reason built) k asks = refl
+asks_open_at name number (Ending reason built path) k asks = refl
+asks_open_at name number InitialConsuming k asks = absurd (none-some k asks)
+asks_open_at name number (CatchingUp target reason) k asks = absurd (none-some k asks)
+asks_open_at name number (ConsumingToOnline end done) k asks = absurd (none-some k asks)
+asks_open_at name number (Retaining done) k asks = absurd (none-some k asks)
+asks_open_at name number (Building reason) k asks = absurd (none-some k asks)
+
+asks_open : (name : List ℕ) (number : RequestNumber) (ph : Phase) (k : RequestKind) → kind_in name number ph ≡ Some k → is_open (state_of ph) ≡ true
+asks_open name number (phase.Unsealed o) k asks = asks_open_at name number o.stage k asks
+asks_open name number (phase.Discarded d) k asks = refl
+asks_open name number (phase.Retained kept) k asks = absurd (none-some k asks)
+asks_open name number (phase.Committed kept) k asks = absurd (none-some k asks)
 
 module _ (w u : State) (i : Instance) (p : Partition) (q : Sequence) (request : Request) (asked : HasAsked w u i p q request)
     (segment : (request.partition ≡ p) × (request.sequence ≡ q)) (own : request.number.instance.0 ≡ i.0) where
@@ -656,6 +731,23 @@ module _ (w u : State) (i : Instance) (p : Partition) (q : Sequence) (request : 
   asked_still =
       put_still w u i.0 asked.old asked.new p q asked.replica waiting
       (record { there = asked.at; found = asked.found; table = asked.table; servers = asked.servers; log = asked.log }) refl
+
+  asked_keeps : (o : Outcome) → IsGoing w → Steps w (event.Report i p q) u (Ok o) → KeepsOn w u
+  asked_keeps o going steps =
+      let put : IsPut w u i.0 asked.old asked.new p q asked.replica waiting =
+      record {
+        there = asked.at;
+        found = asked.found;
+        table = asked.table;
+        instance = asked.instance;
+        up = asked.up;
+        servers = asked.servers;
+        log = asked.log;
+        shut = λ shut. shut;
+      } in
+      step_keeps w u (event.Report i p q) o going tt steps asked.log (λ none. ap (λ (t : Told). t.faults.plan) asked.store ∙ none)
+      (put_up w u i.0 asked.old asked.new p q asked.replica waiting put)
+      (λ same. put_calm w u i.0 asked.old asked.new p q asked.replica waiting put asked.store)
 
   waits_there : replica_of asked.new.server.table p q ≡ Some waiting
   waits_there =
@@ -685,27 +777,44 @@ module _ (w u : State) (i : Instance) (p : Partition) (q : Sequence) (request : 
         (subst (λ (x : Offset). Fits x request.kind k.answer.reply.status) asked.offset
         (subst (λ (s : ReplyStatus). Fits request.offset request.kind s) k.answer.status k.fits))
 
-    taken_so : (y : State) (o : Outcome) → Steps b.world (event.Reply r.message) y (Ok o) → IsPutOff r.status ⊎ (ahead_in_world y < ahead_in_world w)
-    taken_so y o steps = by_way falls
-      where
-        taken : HasTaken b.world y i p q asked.new waiting k.answer.reply
-        taken =
-            takes b.world y r.message o i p q asked.new waiting k.answer.reply k.answer.there
-            (ap (λ (n : RequestNumber). n.instance.0) k.answer.number ∙ own) (k.answer.partition ∙ segment.0) (k.answer.sequence ∙ segment.1) stands waits_there
-            steps
+    module _ (y : State) (o : Outcome) (steps : Steps b.world (event.Reply r.message) y (Ok o)) where
+      taken : HasTaken b.world y i p q asked.new waiting k.answer.reply
+      taken =
+          takes b.world y r.message o i p q asked.new waiting k.answer.reply k.answer.there
+          (ap (λ (n : RequestNumber). n.instance.0) k.answer.number ∙ own) (k.answer.partition ∙ segment.0) (k.answer.sequence ∙ segment.1) stands waits_there steps
 
-        by_way : IsPutOff k.answer.reply.status
-            ⊎ (ahead_of b.world.log (turned waiting (answered waiting.phase k.answer.reply.status)) < ahead_of b.world.log waiting)
-            → IsPutOff r.status ⊎ (ahead_in_world y < ahead_in_world w)
-        by_way (inl off) = inl (subst IsPutOff (sym k.answer.status) off)
-        by_way (inr less) =
-            let lt = put_falls b.world y i.0 asked.new taken.new p q waiting (answered_by waiting k.answer.reply)
-            (record { there = stands; found = waits_there; table = taken.table; servers = taken.servers; log = taken.log })
-            (subst (λ (x : Consumer). ahead_of b.world.log x < ahead_of b.world.log waiting) (sym turns_so) less) in
-            inr (omega (arith, lt, before))
+      taken_less : IsPutOff r.status ⊎ (ahead_in_world y < ahead_in_world w)
+      taken_less = by_way falls
+        where
+          by_way : IsPutOff k.answer.reply.status
+              ⊎ (ahead_of b.world.log (turned waiting (answered waiting.phase k.answer.reply.status)) < ahead_of b.world.log waiting)
+              → IsPutOff r.status ⊎ (ahead_in_world y < ahead_in_world w)
+          by_way (inl off) = inl (subst IsPutOff (sym k.answer.status) off)
+          by_way (inr less) =
+              let lt = put_falls b.world y i.0 asked.new taken.new p q waiting (answered_by waiting k.answer.reply)
+              (record { there = stands; found = waits_there; table = taken.table; servers = taken.servers; log = taken.log })
+              (subst (λ (x : Consumer). ahead_of b.world.log x < ahead_of b.world.log waiting) (sym turns_so) less) in
+              inr (omega (arith, lt, before))
 
-    takes_answer : (m : ℕ) (l v : Reached) (x : Exchanged) → v ≡ after b.turns l → TakesAnswer m r b.world l (Ok x) → HasExchanged w v
-    takes_answer m l v x whole h = by_state (state_in t.told) t.further
+      taken_keeps : KeepsOn b.world y
+      taken_keeps =
+          let put : IsPut b.world y i.0 asked.new taken.new p q waiting (answered_by waiting k.answer.reply) =
+          record {
+            there = stands;
+            found = waits_there;
+            table = taken.table;
+            instance = taken.instance;
+            up = taken.up;
+            servers = taken.servers;
+            log = taken.log;
+            shut = λ shut. absurd (true≢false (sym (asks_open waiting.name request.number waiting.phase request.kind asked.kind) ∙ shut));
+          } in
+          step_keeps b.world y (event.Reply r.message) o k.asking.going tt steps taken.log (λ none. ap (λ (t : Told). t.faults.plan) taken.store ∙ none)
+          (put_up b.world y i.0 asked.new taken.new p q waiting (answered_by waiting k.answer.reply) put)
+          (λ same. put_calm b.world y i.0 asked.new taken.new p q waiting (answered_by waiting k.answer.reply) put taken.store)
+
+    takes_answer : (m : ℕ) (l v : Reached) (x : Exchanged) → KeepsOn w u → v ≡ after b.turns l → TakesAnswer m r b.world l (Ok x) → HasExchanged w v
+    takes_answer m l v x first whole h = by_state (state_in t.told) t.further
       where
         t : IsThen (Happens (event.Reply r.message)) (λ outcome. AfterReply m r (state_in outcome)) b.world l x
         t = then_parts (Happens (event.Reply r.message)) (λ outcome. AfterReply m r (state_in outcome)) b.world l x h
@@ -722,9 +831,11 @@ module _ (w u : State) (i : Instance) (p : Partition) (q : Sequence) (request : 
         by_state (Some s) g =
             let end : v.world ≡ t.between.world =
             ap (λ (z : Reached). z.world) whole ∙ ap (λ (z : Reached). z.world) t.whole ∙ ap (λ (z : Reached). z.world) g.0 in
+            let kept = keeps_then w b.world t.between.world (keeps_then w u b.world first (asking_keeps u b.world k.asking))
+            (taken_keeps t.between.world t.told t.came.by.0) in
             record {
-              going = subst IsGoing (sym end) (goes_on b.world t.between.world (event.Reply r.message) t.told k.asking.going tt t.came.by.0);
-              less = by_less v.world (taken_so t.between.world t.told t.came.by.0) end;
+              on = subst (KeepsOn w) (sym end) kept;
+              less = by_less v.world (taken_less t.between.world t.told t.came.by.0) end;
             }
 
 -- a request that was sent is answered, and the answer taken
@@ -732,13 +843,15 @@ pub finishes : (w u : State) (i : Instance) (p : Partition) (q : Sequence) (c : 
     → Steps w (event.Report i p q) u (Ok o) → AfterReport c o u v (Ok x) → HasExchanged w v
 finishes w u i p q c o v x going steps h =
     let sent_so = then_parts (Handles c m) (TakesAnswer m) u v x (subst (λ (y : Outcome). AfterReport c y u v (Ok x)) its.told h) in
-    takes_answer w u i p q its.request (has_asked w u i p q its.request (subst (λ (y : Outcome). Steps w (event.Report i p q) u (Ok y)) its.told steps)) its.segment
-    its.instance sent_so.between sent_so.told
+    takes_answer w u i p q its.request asked its.segment its.instance sent_so.between sent_so.told
     (handles u c its.request m sent_so.between sent_so.told (goes_on w u (event.Report i p q) o going tt steps) its.there sent_so.came) m sent_so.last v x
-    sent_so.whole sent_so.further
+    (asked_keeps w u i p q its.request asked its.segment its.instance o going steps) sent_so.whole sent_so.further
   where
     its : IsRequested w u i p q o
     its = requested w u i p q o going.safe steps
 
     m : ℕ
     m = length w.sent
+
+    asked : HasAsked w u i p q its.request
+    asked = has_asked w u i p q its.request (subst (λ (y : Outcome). Steps w (event.Report i p q) u (Ok y)) its.told steps)

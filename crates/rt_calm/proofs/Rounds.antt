@@ -1,5 +1,5 @@
 -- A round puts a replica off, or leaves less ahead if anything happened in it.
-use Rattle.std.proofs.Common.{◌≡◌, ◌⊎◌, inl, inr, ℕ, zero, suc, ◌+◌, ◌<◌, ◌≤◌, Bool, true, false, not, List, [], ◌∷◌, Option, Some, None, Result, Ok, Err, refl, sym, ◌∙◌, ap, subst, arith}
+use Rattle.std.proofs.Common.{◌≡◌, ◌⊎◌, inl, inr, ℕ, zero, suc, ◌+◌, ◌<◌, ◌≤◌, Bool, true, false, not, List, [], ◌∷◌, Option, Some, None, Result, Ok, Err, refl, sym, ◌∙◌, ap, subst, arith, ◌++◌, append_assoc, length}
 use Rattle.std.proofs.lemmas.Bool.{and_parts, false≢true}
 use Rattle.rt_base.specs.declared.numbers.ControllerId.{ControllerId}
 use Rattle.rt_base.specs.declared.numbers.Instance.{Instance}
@@ -8,15 +8,15 @@ use Rattle.rt_events.specs.declared.event.Event.TheVariants.{Build, Consume, Rep
 use Rattle.rt_events.specs.declared.outcome.Outcome.{Outcome}
 use Rattle.rt_events.specs.declared.refusal.Refusal.{Refusal}
 use Rattle.rt_events.specs.declared.refusal.Refusal.TheVariants.{NoSuchMessage, NoSuchNode, NodeDown, NothingToDo, Limit, Memory}
-use Rattle.rt_macros.specs.Doing.{Act, Attempted, AttemptedBy, Choose, Each, EachFrom, Gives, HappensBy, Reached, after, stays}
+use Rattle.rt_macros.specs.Doing.{Act, Attempted, AttemptedBy, Choose, Each, EachFrom, Gives, HappensBy, Reached, after, stays, Refuses}
 use Rattle.rt_macros.specs.Exchanging.{AfterReport}
-use Rattle.rt_macros.specs.Settling.{AfterRequest, BuildAndExchange, BuildTurn, ConsumeTurn, ExchangeTurn, ReplicaTurn, ReplicasHeld, ReplicasOfAll, ReplicasTurn, Requests, Round, SegmentAt, ServersTurn, WithLeader, may_consume, waits_in}
-use Rattle.rt_macros.specs.declared.settling.TheConstants.{BATCH}
+use Rattle.rt_macros.specs.Settling.{AfterRequest, BuildAndExchange, BuildTurn, ConsumeTurn, ExchangeTurn, ReplicaTurn, ReplicasHeld, ReplicasOfAll, ReplicasTurn, Requests, Round, SegmentAt, ServersTurn, WithLeader, may_consume, waits_in, AfterRound, Settles, SettlesIn}
+use Rattle.rt_macros.specs.declared.settling.TheConstants.{BATCH, MOST_ROUNDS}
 use Rattle.rt_model.specs.Setup.{IsSetup}
 use Rattle.rt_model.specs.declared.setup.Setup.{Setup}
 use Rattle.rt_nodes.specs.declared.server_node.ServerNode.{ServerNode}
-use Rattle.rt_server.specs.Table.{ServerState}
-use Rattle.rt_stream.specs.Log.{Log}
+use Rattle.rt_server.specs.Table.{ServerState, segment_of, Segment}
+use Rattle.rt_stream.specs.Log.{Log, messages_of}
 use Rattle.rt_safety.proofs.Later.{runs_are_safe}
 use Rattle.rt_safety.specs.Runs.{Runs, Turn}
 use Rattle.rt_state.specs.Finding.{is_server_up}
@@ -24,22 +24,38 @@ use Rattle.rt_state.specs.declared.state.State.{State}
 use Rattle.rt_world.specs.Reading.{held_in, is_ready_at, leader_in}
 use Rattle.rt_world.specs.Step.{Steps}
 use Rattle.rt_heal.proofs.Dropped.{runs_told, IsToldRightly}
-use Rattle.rt_heal.proofs.Following.{all_follow}
-use Rattle.rt_heal.proofs.LessRounds.{servers_rest, states, HasRested, IsSteady}
-use Rattle.rt_heal.proofs.LessWorld.{builds_made, consumes_made}
+use Rattle.rt_heal.proofs.LessRounds.{servers_rest, states, HasRested, IsSteady, still_steady}
+use Rattle.rt_heal.proofs.LessWorld.{builds_made, consumes_made, builds_less, consumes_less, LeavesLess}
 use Rattle.rt_heal.proofs.Quiet.{IsThen, then_parts, told_not, told_same}
 use Rattle.rt_heal.specs.AtRest.{AreUp}
 use Rattle.rt_heal.specs.Calm.{AreAllCalm}
-use Rattle.rt_heal.specs.Left.{CanAllFollow}
-use Rattle.rt_calm.specs.Ahead.{ahead_in_world, ahead_servers, ahead_table}
+use Rattle.std.specs.Prelude.{◌==◌, ◌||◌, nat_lt}
+use Rattle.std.proofs.lemmas.List.{append-nil}
+use Rattle.rt_base.specs.declared.numbers.Partition.{Partition}
+use Rattle.rt_consumer.specs.declared.consumer.Consumer.{Consumer}
+use Rattle.rt_consumer.specs.declared.phase.Phase.{Phase}
+use Rattle.rt_consumer.specs.declared.phase.Phase.TheVariants as phase
+use Rattle.rt_consumer.specs.declared.stage.Stage.{Stage}
+use Rattle.rt_consumer.specs.declared.stage.Stage.TheVariants.{InitialConsuming, CatchingUp, Holding, ConsumingToOnline, Retaining, Building, Starting, Uploading, Ending}
+use Rattle.rt_entry.specs.declared.entry.Entry.{Entry}
+use Rattle.rt_entry.specs.declared.entry.Entry.TheVariants.{Replica, Committed}
+use Rattle.rt_events.specs.Fits.{Fits as IsFitting}
+use Rattle.rt_model.specs.Entries.{entries_of}
+use Rattle.rt_model.specs.declared.ideal_state.IdealEntry.{IdealEntry}
+use Rattle.rt_model.specs.declared.node.Seen.{Seen}
+use Rattle.rt_heal.proofs.Calming.{servers_calmed, HasCalmed}
+use Rattle.rt_heal.proofs.Most.{asked_sum, calm_sum, own_segment, servers_sum, table_sum}
+use Rattle.rt_calm.proofs.Keeping.{can_follow, goes_on, grown_cases, keeps_still, keeps_then, step_grows, IsGoing, KeepsOn}
+use Rattle.rt_calm.specs.Writes.{HasWritten, WritesInRound}
+use Rattle.rt_calm.specs.Ahead.{ahead_in_world, ahead_servers, ahead_table, ahead_at, ahead_entry, ahead_in, most_ahead, most_ahead_of, stop_ahead}
 use Rattle.rt_calm.specs.Off.{PutsOff}
-use Rattle.rt_calm.proofs.Exchanged.{exchanged_before, exchanged_behind, finishes, goes_on, off_behind, off_first, HasExchanged, IsGoing, OffOrLess}
+use Rattle.rt_calm.proofs.Exchanged.{exchanged_before, exchanged_behind, finishes, off_behind, off_first, HasExchanged, OffOrLess}
 use Rattle.rt_calm.proofs.Standing.{batch_falls, build_falls}
 use Rattle.rt_calm.proofs.Sums.{put_falls}
 
 -- no more lies ahead, and less if it is told that something happened and wasn't before
 pub record HasFallen (w : State) (busy : Bool) (v : State) (told : Bool) : Type 0 where
-  pub going : IsGoing v
+  pub on : KeepsOn w v
   pub most : ahead_in_world v ≤ ahead_in_world w
   pub less : told ≡ true → (busy ≡ true) ⊎ (ahead_in_world v < ahead_in_world w)
 
@@ -53,15 +69,16 @@ Falls act = (busy : Bool) (w : State) (v : Reached) (told : Bool) → IsGoing w 
 -- nothing happened
 rests : (w : State) (busy : Bool) (v : Reached) (told : Bool) → IsGoing w → v ≡ stays w → told ≡ busy → OffOrFallen w busy v told
 rests w busy v told k same e =
-    inr (subst (λ (x : Reached). HasFallen w busy x.world told) (sym same) (record { going = k; most = omega arith; less = λ t. inl (sym e ∙ t) }))
+    inr (subst (λ (x : Reached). HasFallen w busy x.world told) (sym same) (record { on = keeps_still w k; most = omega arith; less = λ t. inl (sym e ∙ t) }))
 
 -- something happened, by which less lies ahead
-falls_by : (w y : State) (busy : Bool) (v : Reached) (told : Bool) → IsGoing y → ahead_in_world y < ahead_in_world w → v.world ≡ y → HasFallen w busy v.world told
+falls_by : (w y : State) (busy : Bool) (v : Reached) (told : Bool) → KeepsOn w y → ahead_in_world y < ahead_in_world w → v.world ≡ y → HasFallen w busy v.world told
 falls_by w y busy v told k lt end =
-    subst (λ (z : State). HasFallen w busy z told) (sym end) (record { going = k; most = omega (arith, lt); less = λ t. inr lt })
+    subst (λ (z : State). HasFallen w busy z told) (sym end) (record { on = k; most = omega (arith, lt); less = λ t. inr lt })
 
 two_fall : (w m v : State) (busy mid told : Bool) → HasFallen w busy m mid → HasFallen m mid v told → HasFallen w busy v told
-two_fall w m v busy mid told x y = record { going = y.going; most = omega (arith, x.most, y.most); less = λ t. by_second (y.less t) }
+two_fall w m v busy mid told x y =
+    record { on = keeps_then w m v x.on y.on; most = omega (arith, x.most, y.most); less = λ t. by_second (y.less t) }
   where
     by_first : (busy ≡ true) ⊎ (ahead_in_world m < ahead_in_world w) → (busy ≡ true) ⊎ (ahead_in_world v < ahead_in_world w)
     by_first (inl e) = inl e
@@ -74,7 +91,7 @@ two_fall w m v busy mid told x y = record { going = y.going; most = omega (arith
 pub then_fall : (w : State) (b l v : Reached) (busy mid told : Bool) → v ≡ after b.turns l → OffOrFallen w busy b mid
     → (IsGoing b.world → OffOrFallen b.world mid l told) → OffOrFallen w busy v told
 then_fall w b l v busy mid told whole (inl off) more = inl (off_first b l v whole off)
-then_fall w b l v busy mid told whole (inr x) more = by_more (more x.going)
+then_fall w b l v busy mid told whole (inr x) more = by_more (more x.on.going)
   where
     by_more : OffOrFallen b.world mid l told → OffOrFallen w busy v told
     by_more (inl off) = inl (off_behind b l v whole off)
@@ -103,7 +120,7 @@ from_falls act f first (suc count) busy w v told k h =
 -- ---- an event
 
 attempt_falls : (e : Event) (busy : Bool) (w : State) (v : Reached) (told : Bool) → IsGoing w
-    → ((y : State) (o : Outcome) → Steps w e y (Ok o) → IsGoing y × (ahead_in_world y < ahead_in_world w)) → Attempted e busy w v (Ok told)
+    → ((y : State) (o : Outcome) → Steps w e y (Ok o) → KeepsOn w y × (ahead_in_world y < ahead_in_world w)) → Attempted e busy w v (Ok told)
     → OffOrFallen w busy v told
 attempt_falls e busy w v told k step t = by_told t.between t.told t.last t.came.by t.further t.whole
   where
@@ -116,15 +133,23 @@ attempt_falls e busy w v told k step t = by_told t.between t.told t.last t.came.
         let end : v.world ≡ w =
         ap (λ (z : Reached). z.world) whole ∙ ap (λ (z : Reached). z.world) further.0 ∙ ap (λ (z : Reached). z.world) by.1 in
         inr (subst (λ (z : State). HasFallen w busy z told) (sym end)
-        (record { going = k; most = omega arith; less = λ t. inl (sym (told_same told busy further.1) ∙ t) }))
+        (record { on = keeps_still w k; most = omega arith; less = λ t. inl (sym (told_same told busy further.1) ∙ t) }))
     by_told b (Err NoSuchMessage) l by further whole = absurd (told_not told NoSuchMessage further.1)
     by_told b (Err NoSuchNode) l by further whole = absurd (told_not told NoSuchNode further.1)
     by_told b (Err NodeDown) l by further whole = absurd (told_not told NodeDown further.1)
     by_told b (Err (Limit which)) l by further whole = absurd (told_not told (Limit which) further.1)
     by_told b (Err Memory) l by further whole = absurd (told_not told Memory further.1)
 
-can_follow : (w : State) → IsGoing w → CanAllFollow w
-can_follow w k = λ i n there. all_follow w k.safe k.told i n there
+-- a step that leaves less to do keeps on
+less_keeps : (w y : State) (e : Event) (o : Outcome) → IsGoing w → IsFitting w.setup.schema e → Steps w e y (Ok o) → LeavesLess w y → KeepsOn w y
+less_keeps w y e o k fits step l =
+    let going = goes_on w y e o k fits step in
+    record {
+      going = going;
+      log = l.log;
+      grows = step_grows w y e o k fits step;
+      steady = λ same s. still_steady w y s going.safe l;
+    }
 
 consume_falls : (paused : Bool) (i : Instance) (s : SegmentAt) → Falls (ConsumeTurn paused i s)
 consume_falls paused i s busy w v told k h = by_test (may_consume paused w i s) refl h
@@ -137,7 +162,7 @@ consume_falls paused i s busy w v told k h = by_test (may_consume paused w i s) 
         attempt_falls (Consume i s.0 s.1 BATCH) busy w v told k
         (λ y o step.
         let m = consumes_made w y i s.0 s.1 o k.safe (can_follow w k) BATCH (omega arith) ready step in (
-          goes_on w y (Consume i s.0 s.1 BATCH) o k tt step,
+          less_keeps w y (Consume i s.0 s.1 BATCH) o k tt step (consumes_less w y i s.0 s.1 o k.safe (can_follow w k) BATCH (omega arith) ready step),
           put_falls w y i.0 m.node m.new s.0 s.1 m.replica m.next
               (record { there = m.there; found = m.found; table = m.table; servers = m.servers; log = m.log })
               (batch_falls m.replica w.log w.moment BATCH m.next m.is.phase m.follows m.made.0 m.made.1),
@@ -148,7 +173,7 @@ build_turn_falls i s busy w v told k t =
     attempt_falls (Build i s.0 s.1) busy w v told k
     (λ y o step.
     let m = builds_made w y i s.0 s.1 o k.safe (can_follow w k) step in (
-      goes_on w y (Build i s.0 s.1) o k tt step,
+      less_keeps w y (Build i s.0 s.1) o k tt step (builds_less w y i s.0 s.1 o k.safe (can_follow w k) step),
       put_falls w y i.0 m.node m.new s.0 s.1 m.replica m.next
           (record { there = m.there; found = m.found; table = m.table; servers = m.servers; log = m.log }) (build_falls m.replica m.next w.log m.made),
     )) t
@@ -160,7 +185,7 @@ exchanged_falls w busy v told x = by_way x.less
   where
     by_way : OffOrLess w v → OffOrFallen w busy v told
     by_way (inl off) = inl off
-    by_way (inr less) = inr (falls_by w v.world busy v told x.going less refl)
+    by_way (inr less) = inr (falls_by w v.world busy v told x.on less refl)
 
 requests_fall : (i : Instance) (s : SegmentAt) (c : ControllerId) (busy : Bool) (w : State) (v : Reached) (told : Bool) → IsGoing w
     → Requests i s c busy w v (Ok told) → OffOrFallen w busy v told
@@ -177,7 +202,7 @@ requests_fall i s c busy w v told k t = by_told t.between t.told t.last t.came.b
         let end : v.world ≡ w =
         ap (λ (z : Reached). z.world) whole ∙ ap (λ (z : Reached). z.world) further.0 ∙ ap (λ (z : Reached). z.world) by.1 in
         inr (subst (λ (z : State). HasFallen w busy z told) (sym end)
-        (record { going = k; most = omega arith; less = λ t. inl (sym (told_same told busy further.1) ∙ t) }))
+        (record { on = keeps_still w k; most = omega arith; less = λ t. inl (sym (told_same told busy further.1) ∙ t) }))
     by_told b (Err NoSuchMessage) l by further whole = absurd (told_not told NoSuchMessage further.1)
     by_told b (Err NoSuchNode) l by further whole = absurd (told_not told NoSuchNode further.1)
     by_told b (Err NodeDown) l by further whole = absurd (told_not told NodeDown further.1)
@@ -227,17 +252,230 @@ rested_ahead w busy v told x =
     ap (λ (l : Log). ahead_servers l v.servers) x.log ∙ ahead_states w.log v.servers ∙ ap (states_ahead w.log) x.servers
     ∙ sym (ahead_states w.log w.servers)
 
+rested_keeps : (w : State) (busy : Bool) (v : State) (told : Bool) → IsToldRightly w → HasRested w busy v told → KeepsOn w v
+rested_keeps w busy v told right x =
+    record {
+      going = record { safe = x.steady.safe; told = x.right right };
+      log = x.log;
+      grows = ([], x.written ∙ sym (append-nil w.store.writes));
+      steady = λ same s. x.steady;
+    }
+
 round_falls : (paused : Bool) (w : State) (v : Reached) (told : Bool) → IsSteady w → IsToldRightly w → Round paused w v (Ok told) → OffOrFallen w false v told
 round_falls paused w v told k right h =
     let t = then_parts (ServersTurn false) (ReplicasOfAll paused) w v told h in
     let x = servers_rest 0 w.setup.servers false w t.between t.told k t.came in
     then_fall w t.between t.last v false t.told told t.whole
     (inr (record {
-      going = record { safe = x.steady.safe; told = x.right right };
+      on = rested_keeps w false t.between.world t.told right x;
       most = omega (arith, rested_ahead w false t.between.world t.told x);
       less = λ e. inl (sym x.idle ∙ e);
     }))
     (λ m. replicas_fall paused t.told t.between.world t.last told m t.further)
+
+-- ---- rounds up to one in which nothing happens
+
+-- a replica is put off, or a controller writes in one of the rounds, or it has settled
+abbrev OffOrWritten : Bool → Reached → Bool → Type 0
+OffOrWritten paused v settled = PutsOff v ⊎ WritesInRound paused v ⊎ (settled ≡ true)
+
+written_behind : (paused : Bool) (b l v : Reached) → v ≡ after b.turns l → WritesInRound paused l → WritesInRound paused v
+written_behind paused b l v whole x =
+    record {
+      from = x.from;
+      to = x.to;
+      before = b.turns ++ x.before;
+      behind = x.behind;
+      part =
+          ap (λ (y : Reached). y.turns) whole ∙ ap (λ (ts : List Turn). b.turns ++ ts) x.part
+          ∙ sym (append_assoc b.turns x.before (x.to.turns ++ x.behind));
+      round = x.round;
+      written = x.written;
+    }
+
+settled_behind : (paused : Bool) (b l v : Reached) (settled : Bool) → v ≡ after b.turns l → OffOrWritten paused l settled → OffOrWritten paused v settled
+settled_behind paused b l v settled whole (inl off) = inl (off_behind b l v whole off)
+settled_behind paused b l v settled whole (inr (inl x)) = inr (inl (written_behind paused b l v whole x))
+settled_behind paused b l v settled whole (inr (inr e)) = inr (inr e)
+
+-- the first of some rounds writes
+written_first : (paused : Bool) (w : State) (b l v : Reached) → v ≡ after b.turns l → Round paused w b (Ok true) → HasWritten w b.world → WritesInRound paused v
+written_first paused w b l v whole came written =
+    record {
+      from = w;
+      to = b;
+      before = [];
+      behind = l.turns;
+      part = ap (λ (y : Reached). y.turns) whole;
+      round = came;
+      written = written;
+    }
+
+settles_calmly : (paused : Bool) (rounds : ℕ) (w : State) (v : Reached) (settled : Bool) → IsSteady w → IsToldRightly w → ahead_in_world w < rounds
+    → SettlesIn paused rounds w v (Ok settled) → OffOrWritten paused v settled
+settles_calmly paused zero w v settled k right few h = absurd (omega (arith, few))
+settles_calmly paused (suc rounds) w v settled k right few h =
+    let t = then_parts (Round paused) (AfterRound (SettlesIn paused rounds)) w v settled h in
+    by_told t.between t.last t.told t.came t.further t.whole
+    (λ x l steady going less rest. settles_calmly paused rounds x l settled steady going less rest)
+  where
+    by_told : (b l : Reached) (told : Bool) → Round paused w b (Ok told) → AfterRound (SettlesIn paused rounds) told b.world l (Ok settled)
+        → v ≡ after b.turns l
+        → ((x : State) (y : Reached) → IsSteady x → IsToldRightly x → ahead_in_world x < rounds → SettlesIn paused rounds x y (Ok settled)
+        → OffOrWritten paused y settled)
+        → OffOrWritten paused v settled
+    by_told b l false came further whole more = inr (inr (told_same settled true further.1))
+    by_told b l true came further whole more = by_way (round_falls paused w b true k right came)
+      where
+        by_growth : HasFallen w false b.world true → ahead_in_world b.world < ahead_in_world w
+            → (b.world.store.writes ≡ w.store.writes) ⊎ HasWritten w b.world → OffOrWritten paused v settled
+        by_growth x lt (inl same) =
+            settled_behind paused b l v settled whole (more b.world l (x.on.steady same k) x.on.going.told (omega (arith, few, lt)) further)
+        by_growth x lt (inr grown) = inr (inl (written_first paused w b l v whole came grown))
+
+        by_less : HasFallen w false b.world true → (false ≡ true) ⊎ (ahead_in_world b.world < ahead_in_world w) → OffOrWritten paused v settled
+        by_less x (inl e) = absurd (false≢true e)
+        by_less x (inr lt) = by_growth x lt (grown_cases w b.world x.on.grows)
+
+        by_way : OffOrFallen w false b true → OffOrWritten paused v settled
+        by_way (inl off) = inl (off_first b l v whole off)
+        by_way (inr x) = by_less x (x.less refl)
+
+-- ---- what lies ahead at most
+
+phase_most : (ph : Phase) (size : ℕ) → ahead_in ph size ≤ size + size + 10
+phase_most (phase.Unsealed o) size = stage_most o.stage o.rows.end.0 size
+  where
+    stage_most : (stage : Stage) (x size : ℕ) → ahead_at stage x size ≤ size + size + 10
+    stage_most InitialConsuming x size = omega arith
+    stage_most (CatchingUp target reason) x size = omega arith
+    stage_most (Holding reason) x size = omega arith
+    stage_most (ConsumingToOnline end done) x size = omega arith
+    stage_most (Retaining done) x size = omega arith
+    stage_most (Building reason) x size = omega arith
+    stage_most (Starting reason built) x size = omega arith
+    stage_most (Uploading reason built) x size = omega arith
+    stage_most (Ending reason built path) x size = omega arith
+phase_most (phase.Retained kept) size = omega arith
+phase_most (phase.Committed kept) size = omega arith
+phase_most (phase.Discarded d) size = stop_most d.stopped
+  where
+    stop_most : (b : Bool) → stop_ahead b ≤ size + size + 10
+    stop_most true = omega arith
+    stop_most false = omega arith
+
+abbrev twice : Log → Partition → ℕ
+twice log p = length (messages_of log p) + length (messages_of log p) + 10
+
+entry_most : (log : Log) (s : Segment) (e : Entry) → ((r : Consumer) → e ≡ Replica r → segment_of r ≡ s) → ahead_entry log e ≤ twice log s.0
+entry_most log s (Replica r) own =
+    subst (λ (x : Segment). ahead_entry log (Replica r) ≤ twice log x.0) (own r refl) (phase_most r.phase (length (messages_of log r.partition)))
+entry_most log s (Committed c) own = omega arith
+
+table_ahead : (log : Log) (es : List (Segment × Entry)) → ahead_table log es ≡ table_sum (ahead_entry log) es
+table_ahead log [] = refl
+table_ahead log (e ∷ es) = ap (λ (x : ℕ). ahead_entry log e.1 + x) (table_ahead log es)
+
+servers_ahead : (log : Log) (ns : List ServerNode) → ahead_servers log ns ≡ servers_sum (ahead_entry log) ns
+servers_ahead log [] = refl
+servers_ahead log (n ∷ ns) = omega (arith, table_ahead log n.server.table.entries, servers_ahead log ns)
+
+asked_ahead : (log : Log) (es : List IdealEntry) → most_ahead_of log es ≡ asked_sum (twice log) es
+asked_ahead log [] = refl
+asked_ahead log (e ∷ es) = ap (λ (x : ℕ). twice log e.partition + x) (asked_ahead log es)
+
+-- where servers are calm, what the ideal state asks for
+calm_ahead : (v : State) → IsSteady v → ahead_in_world v ≤ most_ahead v
+calm_ahead v k =
+    omega (
+      arith,
+      servers_ahead v.log v.servers,
+      asked_ahead v.log (entries_of v.store.writes),
+      calm_sum v k.safe k.calm (ahead_entry v.log) (twice v.log)
+          (λ i n there x has. entry_most v.log x.0 x.1 (λ r own. own_segment v k.safe i n there x r own has)),
+    )
+
+-- ---- from any world of a run on
+
+module _ (setup : Setup) (turns : List Turn) (paused : Bool) (w : State) (is : IsSetup setup) (run : Runs setup turns w) (up : AreUp w)
+    (unplanned : w.store.faults.plan ≡ []) (fetches : w.deep.faults.plan ≡ []) where
+  -- a round leaves the servers calm, unless a replica is put off or a controller writes
+  pub record HasSteadied (v : State) : Type 0 where
+    pub steady : IsSteady v
+    pub told : IsToldRightly v
+    pub log : v.log ≡ w.log
+    pub written : v.store.writes ≡ w.store.writes
+
+  pub round_steadies : (v : Reached) (told : Bool) → Round paused w v (Ok told) → PutsOff v ⊎ HasWritten w v.world ⊎ HasSteadied v.world
+  round_steadies v told h = by_way (replicas_fall paused t.told t.between.world t.last told going t.further)
+    where
+      t : IsThen (ServersTurn false) (ReplicasOfAll paused) w v told
+      t = then_parts (ServersTurn false) (ReplicasOfAll paused) w v told h
+
+      c : HasCalmed w t.between.world
+      c = servers_calmed setup turns w t.between t.told is run up unplanned fetches t.came
+
+      going : IsGoing t.between.world
+      going = record { safe = c.steady.safe; told = c.right }
+
+      end : v.world ≡ t.last.world
+      end = ap (λ (x : Reached). x.world) t.whole
+
+      by_growth : HasFallen t.between.world t.told t.last.world told
+          → (t.last.world.store.writes ≡ t.between.world.store.writes) ⊎ HasWritten t.between.world t.last.world
+          → HasWritten w v.world ⊎ HasSteadied v.world
+      by_growth x (inl same) =
+          inr (subst HasSteadied (sym end)
+          (record { steady = x.on.steady same c.steady; told = x.on.going.told; log = x.on.log ∙ c.log; written = same ∙ c.written }))
+      by_growth x (inr grown) =
+          inl (record {
+            first = grown.first;
+            rest = grown.rest;
+            is =
+                ap (λ (y : State). y.store.writes) end ∙ grown.is ∙ ap (λ (ss : List Seen). ss ++ grown.first ∷ grown.rest) c.written;
+          })
+
+      by_way : OffOrFallen t.between.world t.told t.last told → PutsOff v ⊎ HasWritten w v.world ⊎ HasSteadied v.world
+      by_way (inl off) = inl (off_behind t.between t.last v t.whole off)
+      by_way (inr x) = inr (by_growth x (grown_cases t.between.world t.last.world x.on.grows))
+
+  settles_from : (rounds : ℕ) (u : Reached) (settled : Bool) → most_ahead w + 1 < rounds → SettlesIn paused rounds w u (Ok settled)
+      → OffOrWritten paused u settled
+  settles_from zero u settled few h = absurd (omega (arith, few))
+  settles_from (suc rounds) u settled few h = by_told t.between t.last t.told t.came t.further t.whole
+    where
+      t : IsThen (Round paused) (AfterRound (SettlesIn paused rounds)) w u settled
+      t = then_parts (Round paused) (AfterRound (SettlesIn paused rounds)) w u settled h
+
+      by_told : (b l : Reached) (told : Bool) → Round paused w b (Ok told) → AfterRound (SettlesIn paused rounds) told b.world l (Ok settled)
+          → u ≡ after b.turns l → OffOrWritten paused u settled
+      by_told b l false came further whole = inr (inr (told_same settled true further.1))
+      by_told b l true came further whole = by_way (round_steadies b true came)
+        where
+          by_way : PutsOff b ⊎ HasWritten w b.world ⊎ HasSteadied b.world → OffOrWritten paused u settled
+          by_way (inl off) = inl (off_first b l u whole off)
+          by_way (inr (inl grown)) = inr (inl (written_first paused w b l u whole came grown))
+          by_way (inr (inr x)) =
+              let log = ap (λ (y : Log). most_ahead_of y (entries_of b.world.store.writes)) x.log in
+              let writes = ap (λ (hs : List Seen). most_ahead_of w.log (entries_of hs)) x.written in
+              settled_behind paused b l u settled whole
+              (settles_calmly paused rounds b.world l settled x.steady x.told (omega (arith, few, calm_ahead b.world x.steady, log, writes)) further)
+
+  pub calms_in_run : (v : Reached) (told : Bool) → Round paused w v (Ok told) → PutsOff v ⊎ HasWritten w v.world ⊎ AreAllCalm v.world
+  calms_in_run v told h = by_way (round_steadies v told h)
+    where
+      by_way : PutsOff v ⊎ HasWritten w v.world ⊎ HasSteadied v.world → PutsOff v ⊎ HasWritten w v.world ⊎ AreAllCalm v.world
+      by_way (inl off) = inl off
+      by_way (inr (inl grown)) = inr (inl grown)
+      by_way (inr (inr x)) = inr (inr x.steady.calm)
+
+  pub settles_in_run : (rounds : ℕ) (u : Reached) (settled : Bool) → most_ahead w + 1 < rounds → Settles paused rounds w u (Ok settled)
+      → PutsOff u ⊎ WritesInRound paused u ⊎ (settled ≡ true)
+  settles_in_run rounds u settled few h = by_test ((rounds == 0) || nat_lt MOST_ROUNDS rounds) h
+    where
+      by_test : (b : Bool) → Choose b (Refuses NothingToDo w) (SettlesIn paused rounds w) u (Ok settled) → OffOrWritten paused u settled
+      by_test true g = absurd (told_not settled NothingToDo g.1)
+      by_test false g = settles_from rounds u settled few g
 
 -- ---- in a run
 

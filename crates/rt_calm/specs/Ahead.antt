@@ -7,6 +7,8 @@ use Rattle.rt_consumer.specs.declared.stage.Stage.{Stage}
 use Rattle.rt_consumer.specs.declared.stage.Stage.TheVariants.{InitialConsuming, CatchingUp, Holding, ConsumingToOnline, Retaining, Building, Starting, Uploading, Ending}
 use Rattle.rt_entry.specs.declared.entry.Entry.{Entry}
 use Rattle.rt_entry.specs.declared.entry.Entry.TheVariants.{Replica, Committed}
+use Rattle.rt_model.specs.Entries.{entries_of}
+use Rattle.rt_model.specs.declared.ideal_state.IdealEntry.{IdealEntry}
 use Rattle.rt_nodes.specs.declared.server_node.ServerNode.{ServerNode}
 use Rattle.rt_server.specs.Table.{Segment}
 use Rattle.rt_state.specs.declared.state.State.{State}
@@ -58,3 +60,12 @@ ahead_servers log (n ∷ ns) = ahead_table log n.server.table.entries + ahead_se
 -- of all its replicas
 abbrev pub ahead_in_world : State → ℕ
 ahead_in_world w = ahead_servers w.log w.servers
+
+-- for each entry of an ideal state twice the messages of its partition, and all steps
+abbrev pub most_ahead_of : Log → List IdealEntry → ℕ
+most_ahead_of log [] = 0
+most_ahead_of log (e ∷ es) = (length (messages_of log e.partition) + length (messages_of log e.partition) + 10) + most_ahead_of log es
+
+-- the most that can lie ahead where servers have what the ideal state asks of them
+abbrev pub most_ahead : State → ℕ
+most_ahead w = most_ahead_of w.log (entries_of w.store.writes)

@@ -1,3 +1,4 @@
 pub mod Ahead
 pub mod Off
 pub mod Waiting
+pub mod Writes

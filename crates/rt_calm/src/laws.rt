@@ -1,9 +1,9 @@
 //! What lies ahead of replicas, and what takes of it. Each law stands on a function that does nothing: its clause is the law.
-ghost use Rattle.std.specs.Prelude.{◌≡◌, ◌<◌, ◌⊎◌, Bool, List, [], Ok, true, false};
+ghost use Rattle.std.specs.Prelude.{◌≡◌, ◌+◌, ◌<◌, ◌⊎◌, ℕ, Bool, List, [], Ok, true, false};
 ghost use Rattle.rt_base.specs.declared.numbers.Instance.{Instance};
 ghost use Rattle.rt_base.specs.declared.numbers.Moment.{Moment};
 ghost use Rattle.rt_macros.specs.Doing.{Reached};
-ghost use Rattle.rt_macros.specs.Settling.{ExchangeTurn, ReplicasOfAll, Round, SegmentAt};
+ghost use Rattle.rt_macros.specs.Settling.{ExchangeTurn, ReplicasOfAll, Round, SegmentAt, Settles};
 ghost use Rattle.rt_model.specs.Completion.{react, Completion};
 ghost use Rattle.rt_model.specs.Setup.{IsSetup};
 ghost use Rattle.rt_model.specs.declared.completion.Ask.{Ask};
@@ -12,9 +12,10 @@ ghost use Rattle.rt_safety.specs.Runs.{Runs, Turn};
 ghost use Rattle.rt_state.specs.declared.state.State.{State};
 ghost use Rattle.rt_heal.specs.AtRest.{AreUp};
 ghost use Rattle.rt_heal.specs.Calm.{AreAllCalm};
-ghost use Rattle.rt_calm.specs.Ahead.{ahead_in_world};
+ghost use Rattle.rt_calm.specs.Ahead.{ahead_in_world, most_ahead};
 ghost use Rattle.rt_calm.specs.Off.{PutsOff};
 ghost use Rattle.rt_calm.specs.Waiting.{HoldsOrStays, WaitsFor};
+ghost use Rattle.rt_calm.specs.Writes.{HasWritten, WritesInRound};
 
 /// A machine that waits for its committer, from COMMIT to the end of its job, stays as it is whatever another replica asks, unless that
 /// one is told HOLD: so a commit that goes on in rounds in which nobody is told HOLD comes to its job.
@@ -42,4 +43,17 @@ pub fn replicas_are_put_off_or_leave_less_ahead()
     ensures rounds { (setup : Setup) (turns : List Turn) (paused : Bool) (w : State) (v : Reached) → IsSetup setup → Runs setup turns w
         → AreUp w → w.store.faults.plan ≡ [] → AreAllCalm w → Round paused w v (Ok true)
         → PutsOff v ⊎ (ahead_in_world v.world < ahead_in_world w) }
+{}
+
+/// From any world of a run on in which all servers are up and no fault of a store is planned, one round of `settle` leaves each server
+/// calm, unless it puts a replica off or a controller writes in it. So `settle` answers `settled` as soon as it has two rounds more than
+/// what lies ahead at most by the ideal state, unless a replica is put off or a controller writes in one of its rounds: commits and
+/// stops alone write there.
+pub fn settle_ends_where_nobody_is_put_off_and_nothing_written()
+    ensures calms { (setup : Setup) (turns : List Turn) (paused : Bool) (w : State) (v : Reached) (told : Bool) → IsSetup setup
+        → Runs setup turns w → AreUp w → w.store.faults.plan ≡ [] → w.deep.faults.plan ≡ [] → Round paused w v (Ok told)
+        → PutsOff v ⊎ HasWritten w v.world ⊎ AreAllCalm v.world }
+    ensures settles { (setup : Setup) (turns : List Turn) (paused : Bool) (rounds : ℕ) (w : State) (u : Reached) (settled : Bool)
+        → IsSetup setup → Runs setup turns w → AreUp w → w.store.faults.plan ≡ [] → w.deep.faults.plan ≡ []
+        → most_ahead w + 1 < rounds → Settles paused rounds w u (Ok settled) → PutsOff u ⊎ WritesInRound paused u ⊎ (settled ≡ true) }
 {}
