@@ -1,12 +1,12 @@
 -- What the lines of a script tell of commits agrees with one range of each segment.
-use Rattle.std.proofs.Common.{◌≡◌, ◌<◌, ◌==◌, ◌||◌, ℕ, true, false, cond, List, [], ◌∷◌, ◌++◌, Option, Some, None, Ok, nat_lt, refl, sym, ◌∙◌, ap, subst, ⊎_elim}
+use Rattle.std.proofs.Common.{◌≡◌, ◌<◌, ◌≤◌, ◌==◌, ◌||◌, ℕ, true, false, cond, List, [], ◌∷◌, ◌++◌, Option, Some, None, Ok, nat_lt, refl, sym, ◌∙◌, ap, subst, arith, ⊎_elim}
 use Rattle.std.specs.Prelude.{Bool, IfSome}
 use Rattle.rt_base.specs.declared.numbers.ControllerId.{ControllerId}
 use Rattle.rt_base.specs.declared.numbers.Instance.{Instance}
 use Rattle.rt_base.specs.declared.numbers.Partition.{Partition}
 use Rattle.rt_base.specs.declared.numbers.Sequence.{Sequence}
 use Rattle.rt_desk.specs.Saying.{EventLineTold, EventTold, LineTold, MacroTold, UnlessHeld, held_by}
-use Rattle.rt_desk.specs.Telling.{told}
+use Rattle.rt_desk.specs.Telling.{Counts, told}
 use Rattle.rt_desk.specs.declared.desk.Desk.{Desk}
 use Rattle.rt_events.specs.Fits.{Fits}
 use Rattle.rt_events.specs.declared.event.Event.{Event}
@@ -23,22 +23,25 @@ use Rattle.rt_model.specs.Tiled.{mark_of}
 use Rattle.rt_model.specs.declared.setup.Setup.{Setup}
 use Rattle.rt_play.proofs.EventNotes.{noted, tells}
 use Rattle.rt_play.proofs.ExchangeLines.{TellsExchange, exchange_told}
+use Rattle.rt_play.proofs.BesideKept.{beside_keeps, counts_keeps, further_keeps}
+use Rattle.rt_play.proofs.JobsKept.{Works, exchange_works, force_works, passing_works, settle_works}
 use Rattle.rt_play.proofs.Keeping.{Keeps, choose_keeps, each_from_keeps, passed_keeps, stay_keeps, then_keeps}
 use Rattle.rt_play.proofs.Known.{IsKnown, known_committed}
 use Rattle.rt_play.proofs.Leading.{leads_then}
 use Rattle.rt_play.proofs.LineReads.{beside, same_told, was_then}
-use Rattle.rt_play.proofs.Noted.{Holds, WasCommitted, job_kept, none_at_work, stays_and_more, stays_with_jobs}
+use Rattle.rt_play.proofs.Noted.{Holds, WasCommitted, job_kept, stays_and_more, stays_with_jobs}
 use Rattle.rt_play.proofs.NotedAnswers.{names_so}
 use Rattle.rt_play.proofs.QueryLines.{query_answer}
 use Rattle.rt_play.proofs.Ranged.{AreRanged, are_ranged, range_in}
 use Rattle.rt_play.proofs.ScriptRuns.{line_leads, lines_lead}
 use Rattle.rt_play.specs.Beginning.{going_from}
 use Rattle.rt_play.specs.Going.{Going}
-use Rattle.rt_play.specs.Ledger.{AllTellSo, CommitsStay, IsTold, LineTells, Notes, Ranges, Segment, event_noted, exchange_noted, is_success_status, knows_commit, no_notes}
+use Rattle.rt_play.specs.Ledger.{AllTellSo, CommitsStay, IsTold, LineTells, Marks, Notes, Ranges, Segment, Working, event_noted, exchange_noted, is_success_status, knows_commit, no_notes}
 use Rattle.rt_play.specs.Report.{FrontRuns, RunAll, Runs as LineRuns, said_at}
 use Rattle.rt_play.specs.declared.beginning.Beginning.{Beginning}
+use Rattle.rt_report.specs.BrokerTexts.{noquery_text}
 use Rattle.rt_report.specs.Outcome.{outcome_text}
-use Rattle.rt_safety.proofs.Later.{leads_on, runs_are_safe}
+use Rattle.rt_safety.proofs.Later.{committed_stays, leads_on, runs_are_safe}
 use Rattle.rt_safety.proofs.Marks.{mark_stays}
 use Rattle.rt_safety.specs.GoesOn.{GoesOn}
 use Rattle.rt_safety.specs.Runs.{Runs, Turn}
@@ -58,11 +61,8 @@ use Rattle.rt_world.specs.Step.{Steps}
 
 -- what a line tells, where all that is said behind it follows from what is then noted
 abbrev Says : Ranges → State → State → Notes → Option Line → List ℕ → Type 1
-Says ranges w v notes said text = (later : Notes → Type 0) → ((more : Notes) → Holds ranges v more → later more) → LineTells w.setup ranges notes said text later
-
--- a partition's mark is 0 where nothing is retired
-abbrev KeepsMarks : State → Type 0
-KeepsMarks w = (p : Partition) → p.0 < w.setup.partitions → w.setup.retention ≡ None → mark_of w.store.writes p ≡ 0
+Says ranges w v notes said text =
+    (later : Notes → Type 0) → ((more : Notes) → Holds ranges v more → later more) → LineTells w.setup ranges (mark_of w.store.writes) notes said text later
 
 -- a segment alone
 abbrev only : Partition → Sequence → List Segment
@@ -105,7 +105,7 @@ fill_keeps w p count =
 
 -- ---- any line
 
-module _ (ranges : Ranges) (w : State) (notes : Notes) (safe : IsSafeWorld w) (marks : KeepsMarks w) (k : Holds ranges w notes) where
+module _ (ranges : Ranges) (w : State) (notes : Notes) (safe : IsSafeWorld w) (k : Holds ranges w notes) where
   of_world : (u v : State) (said : Option Line) (text : List ℕ) → v ≡ u → Says ranges w u notes said text → Says ranges w v notes said text
   of_world u v said text same s = subst (λ (x : State). Says ranges w x notes said text) (sym same) s
 
@@ -129,13 +129,13 @@ module _ (ranges : Ranges) (w : State) (notes : Notes) (safe : IsSafeWorld w) (m
   unless_says (Some at) e paused u text fits goes ranged held h =
       of_world w u.world (Some (line.Event e)) text (ap (λ (x : Reached). x.world) h.0) (held_says ranges w notes e paused text at held k)
 
-  -- where no job is known any more
-  none_known : (v : State) (later : Notes → Type 0) → GoesOn w v → ((more : Notes) → Holds ranges v more → later more) → later (record notes { jobs = [] })
-  none_known v later goes f = f (record notes { jobs = [] }) (none_at_work ranges w v notes goes k)
+  -- where each known job goes on, all that was noted holds
+  holds_on : (v : State) → GoesOn w v → ((x : Working) → Works x w → Works x v) → Holds ranges v notes
+  holds_on v goes f = stays_with_jobs ranges w v notes goes (λ x has at. (f x (record { safe = safe; at = at })).at) k
 
-  exchange_says : (i : Instance) (p : Partition) (q : Sequence) (c : ControllerId) (v : State) (text : List ℕ) → GoesOn w v
+  exchange_says : (i : Instance) (p : Partition) (q : Sequence) (c : ControllerId) (v : State) (text : List ℕ) → Holds ranges v notes
       → AreRanged (starting_of v.setup) v.store.writes ranges → TellsExchange v p q text → Says ranges w v notes (Some (line.Macro (macro.Exchange i p q c))) text
-  exchange_says i p q c v text goes ranged t later f =
+  exchange_says i p q c v text holds ranged t later f =
       let x = t.exchanged in
       record {
         request = x.request;
@@ -146,19 +146,16 @@ module _ (ranges : Ranges) (w : State) (notes : Notes) (safe : IsSafeWorld w) (m
         behind = f (exchange_noted p q x.status x.state notes) (by_test (is_success_status x.status) (knows_commit x.state) t.is.success t.is.knows);
       }
     where
-      none : Holds ranges v (record notes { jobs = [] })
-      none = none_at_work ranges w v notes goes k
-
-      more : IsKnown v p q → Holds ranges v (record notes { jobs = []; committed = only p q ++ notes.committed })
+      more : IsKnown v p q → Holds ranges v (record notes { committed = only p q ++ notes.committed })
       more known =
-          stays_and_more ranges v (record notes { jobs = [] }) (only p q) none
+          stays_and_more ranges v notes (only p q) holds
           (λ s has. ⊎_elim (λ same. subst (WasCommitted ranges v) same (known_committed ranges v p q ranged known)) (λ none. absurd none) has)
 
       by_test : (a b : Bool) → (a ≡ true → IsKnown v p q) → (b ≡ true → IsKnown v p q)
-          → Holds ranges v (record notes { jobs = []; committed = cond (a || b) (only p q ++ notes.committed) notes.committed })
+          → Holds ranges v (record notes { committed = cond (a || b) (only p q ++ notes.committed) notes.committed })
       by_test true b success knows = more (success refl)
       by_test false true success knows = more (knows refl)
-      by_test false false success knows = none
+      by_test false false success knows = holds
 
   line_says : (said : Line) (desk after : Desk) (v : Reached) (text : List ℕ) → FitsLine w.setup.schema said → GoesOn w v.world
       → AreRanged (starting_of v.world.setup) v.world.store.writes ranges → LineTold said desk w v (Ok (told after text)) → Says ranges w v.world notes (Some said) text
@@ -174,7 +171,7 @@ module _ (ranges : Ranges) (w : State) (notes : Notes) (safe : IsSafeWorld w) (m
       λ later f. record {
         answer = a.answer;
         told = a.told;
-        so = names_so ranges w b.between.world notes a.answer safe k a.found marks;
+        so = names_so ranges w b.between.world notes a.answer safe k a.found;
         behind = f notes (stays_with_jobs ranges w v.world notes goes (λ x has at. job_kept w v.world x goes same at) k);
       }
   line_says (line.Macro (macro.Fill p count)) desk after v text fits goes ranged h =
@@ -183,25 +180,33 @@ module _ (ranges : Ranges) (w : State) (notes : Notes) (safe : IsSafeWorld w) (m
       λ later f. f notes (stays_with_jobs ranges w v.world notes goes (λ x has at. job_kept w v.world x goes same at) k)
   line_says (line.Macro (macro.Exchange i p q c)) desk after v text fits goes ranged h =
       let b = beside (MacroTold desk.pause (macro.Exchange i p q c)) desk after w v text h in
-      let told = exchange_told i p q c w b.between text safe b.came in
-      exchange_says i p q c v.world text goes ranged (subst (λ (x : State). TellsExchange x p q text) (sym b.same) told)
-  line_says (line.Macro (macro.Settle rounds)) desk after v text fits goes ranged h = λ later f. none_known v.world later goes f
-  line_says (line.NoQuery number) desk after v text fits goes ranged h = λ later f. none_known v.world later goes f
-  line_says (line.Further further) desk after v text fits goes ranged h = λ later f. none_known v.world later goes f
+      let tells = exchange_told i p q c w b.between text safe b.came in
+      exchange_says i p q c v.world text
+      (holds_on v.world goes
+      (λ x on. beside_keeps (Works x) desk (MacroTold desk.pause (macro.Exchange i p q c)) (exchange_works x i p q c) w v (Ok (told after text)) on h))
+      ranged (subst (λ (x : State). TellsExchange x p q text) (sym b.same) tells)
+  line_says (line.Macro (macro.Settle rounds)) desk after v text fits goes ranged h = λ later f.
+      f notes
+      (holds_on v.world goes
+      (λ x on. beside_keeps (Works x) desk (MacroTold desk.pause (macro.Settle rounds)) (settle_works x desk.pause rounds) w v (Ok (told after text)) on h))
+  line_says (line.NoQuery number) desk after v text fits goes ranged h = λ later f.
+      f notes
+      (holds_on v.world goes
+      (λ x on. beside_keeps (Works x) desk (Counts (noquery_text number)) (counts_keeps (Works x) (passing_works x) (noquery_text number)) w v (Ok (told after text)) on h))
+  line_says (line.Further further) desk after v text fits goes ranged h = λ later f.
+      f notes
+      (holds_on v.world goes (λ x on. further_keeps (Works x) (passing_works x) (force_works x) further desk w v (Ok (told after text)) on h))
 
-said_says : (ranges : Ranges) (o : Option Line) (g : Going) (turns : List Turn) (h : Going) (text : List ℕ) (notes : Notes) → IsSafeWorld g.world → KeepsMarks g.world
+said_says : (ranges : Ranges) (o : Option Line) (g : Going) (turns : List Turn) (h : Going) (text : List ℕ) (notes : Notes) → IsSafeWorld g.world
     → Holds ranges g.world notes → IfSome o (FitsLine g.world.setup.schema) → GoesOn g.world h.world → AreRanged (starting_of h.world.setup) h.world.store.writes ranges
     → LineRuns o g turns h text → Says ranges g.world h.world notes o text
-said_says ranges None g turns h text notes safe marks k fits goes ranged run = absurd run
-said_says ranges (Some said) g turns h text notes safe marks k fits goes ranged run =
-    line_says ranges g.world notes safe marks k said g.desk h.desk (reached turns h.world) text fits goes ranged run
+said_says ranges None g turns h text notes safe k fits goes ranged run = absurd run
+said_says ranges (Some said) g turns h text notes safe k fits goes ranged run =
+    line_says ranges g.world notes safe k said g.desk h.desk (reached turns h.world) text fits goes ranged run
 
 -- ---- all lines
 
 module _ (setup : Setup) (is : IsSetup setup) (ranges : Ranges) where
-  marks_kept : (turns : List Turn) (w : State) → Runs setup turns w → w.setup ≡ setup → KeepsMarks w
-  marks_kept turns w run same p within none = mark_stays setup turns w p is (sym (ap (λ (s : Setup). s.retention) same) ∙ none) run within
-
   -- what holds of the Done writes of a later world does of those of an earlier one
   ranged_before : (w v : State) → w.setup ≡ setup → GoesOn w v → AreRanged (starting_of setup) v.store.writes ranges
       → AreRanged (starting_of w.setup) w.store.writes ranges
@@ -209,11 +214,12 @@ module _ (setup : Setup) (is : IsSetup setup) (ranges : Ranges) where
       subst (λ (s : Setup). AreRanged (starting_of s) w.store.writes ranges) (sym same)
       (λ p q write within has of done. ranged p q write within (Has-front w.store.writes v.store.writes write goes.past.history has) of done)
 
-  lines_say : (lines rest : List NumberedLine) (before : List Turn) (g : Going) (turns : List Turn) (h : Going) (texts : List (List ℕ)) (notes : Notes)
-      → Runs setup before g.world → g.world.setup ≡ setup → Holds ranges g.world notes → RunAll lines g turns h texts
-      → AreRanged (starting_of setup) h.world.store.writes ranges → AllTellSo setup ranges notes (lines ++ rest) texts
-  lines_say [] rest before g turns h texts notes started same k run ranged = subst (AllTellSo setup ranges notes rest) (sym run.2) tt
-  lines_say (first ∷ lines) rest before g turns h texts notes started same k run ranged =
+  lines_say : (lines rest : List NumberedLine) (before : List Turn) (g : Going) (turns : List Turn) (h : Going) (texts : List (List ℕ)) (marks : Marks) (notes : Notes)
+      → Runs setup before g.world → g.world.setup ≡ setup → ((p : Partition) → p.0 < setup.partitions → marks p ≤ mark_of g.world.store.writes p)
+      → Holds ranges g.world notes → RunAll lines g turns h texts → AreRanged (starting_of setup) h.world.store.writes ranges
+      → AllTellSo setup ranges marks notes (lines ++ rest) texts
+  lines_say [] rest before g turns h texts marks notes started same low k run ranged = subst (AllTellSo setup ranges marks notes rest) (sym run.2) tt
+  lines_say (first ∷ lines) rest before g turns h texts marks notes started same low k run ranged =
       let safe = runs_are_safe setup before g.world is started in
       let led = line_leads first g run.own run.between run.text run.first in
       let goes = leads_on g.world run.own run.between.world safe led in
@@ -222,14 +228,23 @@ module _ (setup : Setup) (is : IsSetup setup) (ranges : Ranges) where
       let same_then : run.between.world.setup ≡ setup = goes.setup ∙ same in
       let further = leads_on run.between.world run.more h.world next (lines_lead lines run.between run.more h run.others run.then_others) in
       let said : said_at g first ≡ line_in setup first.1 = ap (λ (s : Setup). line_in s first.1) same in
-      let says = said_says ranges (said_at g first) g run.own run.between run.text notes safe (marks_kept before g.world started same) k
+      let within : (p : Partition) → p.0 < setup.partitions → p.0 < g.world.setup.partitions = λ p lt. subst (λ (s : Setup). p.0 < s.partitions) (sym same) lt in
+      let here : Marks = mark_of g.world.store.writes in
+      let says = said_says ranges (said_at g first) g run.own run.between run.text notes safe k
       (line_fits g.world.setup.schema g.world.setup.table.name first.1) goes (ranged_before run.between.world h.world same_then further ranged) run.first in
-      let later : Notes → Type 0 = λ more. AllTellSo setup ranges more (lines ++ rest) run.others in
+      let later : Notes → Type 0 = λ more. AllTellSo setup ranges here more (lines ++ rest) run.others in
       let told = says later
-      (λ more holds. lines_say lines rest (before ++ run.own) run.between run.more h run.others more now same_then holds run.then_others ranged) in
-      subst (AllTellSo setup ranges notes (first ∷ (lines ++ rest))) (sym run.whole)
-      (subst (λ (o : Option Line). LineTells setup ranges notes o run.text later) said
-      (subst (λ (s : Setup). LineTells s ranges notes (said_at g first) run.text later) same told))
+      (λ more holds. lines_say lines rest (before ++ run.own) run.between run.more h run.others here more now same_then
+      (λ p lt. (committed_stays g.world run.own run.between.world p safe (within p lt) led).mark) holds run.then_others ranged) in
+      subst (AllTellSo setup ranges marks notes (first ∷ (lines ++ rest))) (sym run.whole)
+      (record {
+        now = here;
+        rise = low;
+        first = λ p lt none. mark_stays setup before g.world p is none started (within p lt);
+        so =
+            subst (λ (o : Option Line). LineTells setup ranges here notes o run.text later) said
+            (subst (λ (s : Setup). LineTells s ranges here notes (said_at g first) run.text later) same told);
+      })
 
 -- nothing was noted before the first line
 none_noted : (ranges : Ranges) (w : State) → Holds ranges w no_notes
@@ -248,9 +263,10 @@ front_commits beginning lines texts is front =
     record {
       ranges = range_in h;
       all =
-          subst (λ ls. AllTellSo setup (range_in h) no_notes ls texts) (sym front.whole)
-          (lines_say setup is (range_in h) front.front front.rest [] first front.turns front.last texts no_notes refl refl (none_noted (range_in h) (start setup)) front.run ranged);
+          subst (λ ls. AllTellSo setup (range_in h) (λ p. 0) no_notes ls texts) (sym front.whole)
+          (lines_say setup is (range_in h) front.front front.rest [] first front.turns front.last texts (λ p. 0) no_notes refl refl (λ p lt. omega arith)
+          (none_noted (range_in h) (start setup)) front.run ranged);
     }
 
 pub none_told : (setup : Setup) (lines : List NumberedLine) (texts : List (List ℕ)) → texts ≡ [] → CommitsStay setup lines texts
-none_told setup lines texts e = record { ranges = range_in []; all = subst (AllTellSo setup (range_in []) no_notes lines) (sym e) tt }
+none_told setup lines texts e = record { ranges = range_in []; all = subst (AllTellSo setup (range_in []) (λ p. 0) no_notes lines) (sym e) tt }

@@ -35,21 +35,23 @@ touching k r s e (le, a) (more, b) = (omega (arith, le, more, e), by_places a b)
     by_places (inr (inr (first, last))) (inr (inl behind)) = inr (inr (first, omega (arith, last, e, more)))
     by_places (inr (inr (first, last))) (inr (inr whole)) = inr (inr (first, whole.1))
 
-joined_good : (k r : Range) (rs : List Range) → Good k r → Each (Good k) rs → Each (Good k) (joined r rs)
-joined_good k r [] good rest = (good, tt)
-joined_good k r (s ∷ rest) good (first, others) = by_test (r.end.0 == s.start.0) refl
-  where
-    by_test : (b : Bool) → (r.end.0 == s.start.0) ≡ b → Each (Good k) (cond b (record { start = r.start; end = s.end } ∷ rest) (r ∷ (s ∷ rest)))
-    by_test true e = (touching k r s (eqb-true r.end.0 s.start.0 e) good first, others)
-    by_test false e = (good, (first, others))
+-- what is true of each range, and of what two make that touch, is true of each that is merged
+module _ (P : Range → Type 0) (touch : (r s : Range) → r.end.0 ≡ s.start.0 → P r → P s → P (record { start = r.start; end = s.end })) where
+  joined_each : (r : Range) (rs : List Range) → P r → Each P rs → Each P (joined r rs)
+  joined_each r [] own rest = (own, tt)
+  joined_each r (s ∷ rest) own (first, others) = by_test (r.end.0 == s.start.0) refl
+    where
+      by_test : (b : Bool) → (r.end.0 == s.start.0) ≡ b → Each P (cond b (record { start = r.start; end = s.end } ∷ rest) (r ∷ (s ∷ rest)))
+      by_test true e = (touch r s (eqb-true r.end.0 s.start.0 e) own first, others)
+      by_test false e = (own, (first, others))
 
-merged_good : (k : Range) (rs : List Range) → Each (Good k) rs → Each (Good k) (merged rs)
-merged_good k [] h = tt
-merged_good k (r ∷ rest) (good, others) = by_test (r.start.0 == r.end.0) (merged_good k rest others)
-  where
-    by_test : (b : Bool) → Each (Good k) (merged rest) → Each (Good k) (cond b (merged rest) (joined r (merged rest)))
-    by_test true further = further
-    by_test false further = joined_good k r (merged rest) good further
+  merged_each : (rs : List Range) → Each P rs → Each P (merged rs)
+  merged_each [] h = tt
+  merged_each (r ∷ rest) (own, others) = by_test (r.start.0 == r.end.0) (merged_each rest others)
+    where
+      by_test : (b : Bool) → Each P (merged rest) → Each P (cond b (merged rest) (joined r (merged rest)))
+      by_test true further = further
+      by_test false further = joined_each r (merged rest) own further
 
 -- ---- what was served of a plan
 
@@ -144,7 +146,7 @@ piece_good from (a ∷ rest) k x ps (fits, others) (inr has) of = by_end a.piece
         by_served end a.served e (omega (arith, le, ap (λ (y : Offset). y.0) of.0)) fits (further end.0 next.1)
 
 spared : (k : Range) (rs : List Range) → Each (Good k) rs → Each (Spares k) (merged rs)
-spared k rs h = each_weaker (Good k) (Spares k) (merged rs) (λ r g. g.1) (merged_good k rs h)
+spared k rs h = each_weaker (Good k) (Spares k) (merged rs) (λ r g. g.1) (merged_each (Good k) (touching k) rs h)
 
 -- what is named of a plan spares each range of the plan, and each below it
 pub names_pieces : (from : ℕ) (xs : List AskedPiece) (k : Range) (x : Piece) → Pieces from (pieces xs) → AreFit xs → Has (pieces xs) x → IsOf k x
@@ -154,6 +156,12 @@ names_pieces from xs k x ps fit has of = spared k (served_ranges xs) (piece_good
 pub names_above : (from : ℕ) (xs : List AskedPiece) (k : Range) → Pieces from (pieces xs) → AreFit xs → k.end.0 ≤ from
     → Each (Spares k) (merged (served_ranges xs))
 names_above from xs k ps fit le = spared k (served_ranges xs) (below_good from xs k ps fit le)
+
+-- nothing is named below the plan
+pub named_above : (from : ℕ) (xs : List AskedPiece) → Pieces from (pieces xs) → AreFit xs → Each (λ r. from ≤ r.start.0) (merged (served_ranges xs))
+named_above from xs ps fit =
+    merged_each (λ r. from ≤ r.start.0) (λ r s e own other. own) (served_ranges xs)
+    (each_weaker (Rises from) (λ r. from ≤ r.start.0) (served_ranges xs) (λ r h. h.0) (rises from xs ps fit))
 
 -- ---- a plan of which nothing is missing
 

@@ -1,6 +1,7 @@
 -- What is noted of an event holds behind it, and what it tells agrees with the ranges.
-use Rattle.std.proofs.Common.{◌≡◌, ◌<◌, ◌==◌, ◌&&◌, ◌||◌, ℕ, Bool, true, false, cond, not, is_none, List, [], ◌∷◌, ◌++◌, length, Option, Some, None, Ok, refl, sym, ◌∙◌, ap, subst, slice_get, ⊎_elim, inl, inr}
+use Rattle.std.proofs.Common.{◌≡◌, ◌<◌, ◌≤◌, ◌==◌, ◌&&◌, ◌||◌, ℕ, Bool, true, false, cond, not, is_none, List, [], ◌∷◌, ◌++◌, length, Option, Some, None, Ok, refl, sym, ◌∙◌, ap, subst, slice_get, ⊎_elim, inl, inr, arith}
 use Rattle.std.specs.List.{filter}
+use Rattle.std.specs.Prelude.{IfSome}
 use Rattle.std.proofs.lemmas.Bool.{and_parts, eq-eqb, eqb-true, false≢true, ltb-true, ne_eqb}
 use Rattle.rt_base.specs.declared.numbers.ControllerId.{ControllerId}
 use Rattle.rt_base.specs.declared.numbers.Instance.{Instance}
@@ -28,6 +29,7 @@ use Rattle.rt_model.proofs.Kept.{last_write-Has}
 use Rattle.rt_model.specs.History.{value_of}
 use Rattle.rt_model.specs.Messages.{asked_of}
 use Rattle.rt_model.specs.Metadata.{IsDone, IsDoneStatus, IsFinal, IsFinalStatus, node_key}
+use Rattle.rt_model.specs.Tiled.{mark_of}
 use Rattle.rt_model.specs.declared.node.Node.{Node}
 use Rattle.rt_model.specs.declared.node.Node.TheVariants as node
 use Rattle.rt_model.specs.declared.node.Seen.{Seen}
@@ -45,10 +47,11 @@ use Rattle.rt_model.specs.declared.status.Status.TheVariants.{Abandoned, Done, I
 use Rattle.rt_nodes.specs.declared.controller_node.ControllerNode.{ControllerNode}
 use Rattle.rt_play.proofs.JobLines.{IsDoneTo, goes_on, sets_done, succeeds}
 use Rattle.rt_play.proofs.Known.{IsKnown, known_committed, taken_knows}
-use Rattle.rt_play.proofs.Noted.{Holds, IsAtWork, IsPosted, WasCommitted, committed_stays, job_stays, posted_stays, stays_and_more, stays_but_jobs, stays_with_jobs, still_works}
-use Rattle.rt_play.proofs.Ranged.{AreRanged}
+use Rattle.rt_play.proofs.Noted.{Holds, IsAtWork, IsPosted, WasCommitted, committed_stays, its_range, job_stays, posted_stays, stands_from, stays_and_more, stays_but_jobs, stays_with_jobs, still_works}
+use Rattle.rt_play.proofs.Ranged.{AreRanged, node_range}
+use Rattle.rt_play.proofs.Retired.{gone_below, there_above}
 use Rattle.rt_play.proofs.ShownStays.{node_of, stays_or_gone}
-use Rattle.rt_play.specs.Ledger.{IsDoneOver, Notes, Posted, Ranges, SaysDone, Segment, ShowsDone, TellsSo, Working, event_noted, is_commit_end, is_done_node, is_done_status, is_done_step, is_job, is_success, is_success_status, knows_commit, left_open, opens, segments_of, sent_noted, shows_done, shown_noted, started_noted, stepped_noted, tells_commit, took_noted}
+use Rattle.rt_play.specs.Ledger.{IsDoneOver, Notes, Posted, Ranges, SaysDone, Segment, ShowsDone, StandFrom, TellsSo, Working, event_noted, is_commit_end, is_done_node, is_done_status, is_done_step, is_job, is_success, is_success_status, knows_commit, left_open, opens, segments_of, sent_noted, shows_done, shown_noted, started_noted, stepped_noted, tells_commit, took_noted}
 use Rattle.rt_safety.proofs.CommitOpens.{commit_opens}
 use Rattle.rt_safety.proofs.Runs.{leads_safe}
 use Rattle.rt_safety.specs.CommitRun.{IsOpen}
@@ -339,10 +342,10 @@ module _ (ranges : Ranges) (w v : State) (notes : Notes) (safe : IsSafeWorld w) 
         by_test true e holds = stays_and_more ranges v now (segments_of c j notes.jobs) holds (λ s has. all_commit s has e)
         by_test false e holds = holds
 
-    job_tells : TellsSo ranges notes (event.Job c j) o
+    job_tells : TellsSo ranges (mark_of w.store.writes) notes (event.Job c j) o
     unfolding done_to commits did committed_by
     job_tells =
-        subst (λ (x : Outcome). TellsSo ranges notes (event.Job c j) x) (sym did.told.1)
+        subst (λ (x : Outcome). TellsSo ranges (mark_of w.store.writes) notes (event.Job c j) x) (sym did.told.1)
         (λ x tells has e.
         let d = done_to x has e tells in
         range_ends (ranges x.segment.partition x.segment.sequence) d.write.node (commits x has e tells).done ∙ d.ends)
@@ -389,20 +392,39 @@ module _ (ranges : Ranges) (w v : State) (notes : Notes) (safe : IsSafeWorld w) 
   says_final r node.Boot says = absurd says
   says_final r node.Gone says = absurd says
 
-  -- a segment that was committed is shown so, or gone
-  shows_committed : (p : Partition) (q : Sequence) → WasCommitted ranges w (record { partition = p; sequence = q }) → ShowsDone (ranges p q) (node_of w p q)
+  abbrev ShownDone : Partition → Sequence → Option Seen → Type 0
+  ShownDone p q seen = ShowsDone (ranges p q) (mark_of w.store.writes p) seen
+
+  -- a DONE node lies above the mark
+  done_above : (p : Partition) (q : Sequence) (seen : Seen) → p.0 < w.setup.partitions → node_of w p q ≡ Some seen → Has w.store.writes seen → seen.key ≡ node_key p q.0
+      → SaysDone (ranges p q) seen.node → mark_of w.store.writes p ≤ (ranges p q).start.0
+  done_above p q seen within there has of says =
+      there_above (starting_of w.setup) w.store.writes p safe.safe.past.lawful within q.0 q.0 seen seen (ranges p q) there (omega arith) has of
+      (node_range (ranges p q) seen.node says)
+
+  -- a segment that was committed is shown so, above the mark, or gone, below it
+  shows_committed : (p : Partition) (q : Sequence) → WasCommitted ranges w (record { partition = p; sequence = q }) → ShownDone p q (node_of w p q)
   shows_committed p q c =
-      ⊎_elim (λ is. subst (ShowsDone (ranges p q)) (sym is) c.done) (λ none. subst (ShowsDone (ranges p q)) (sym none) tt)
+      ⊎_elim (λ is. subst (ShownDone p q) (sym is) (c.done, done_above p q c.write c.within is c.has c.of c.done))
+      (λ none. subst (ShownDone p q) (sym none)
+      (gone_below (starting_of w.setup) w.store.writes p safe.safe.past.lawful c.within q.0 c.write (ranges p q) none c.has c.of
+      (its_range ranges w (record { partition = p; sequence = q }) c)))
       (stays_or_gone w p q c.write safe
       (record { within = c.within; ending = record { has = c.has; is_of = c.of; final = says_final (ranges p q) c.write.node c.done } }))
 
   -- and so is one that is DONE
-  shows_itself : (p : Partition) (q : Sequence) (seen : Option Seen) → p.0 < w.setup.partitions → seen ≡ node_of w p q → shows_done seen ≡ true → ShowsDone (ranges p q) seen
-  shows_itself p q None within at e = tt
+  shows_itself : (p : Partition) (q : Sequence) (seen : Option Seen) → p.0 < w.setup.partitions → seen ≡ node_of w p q → shows_done seen ≡ true → ShownDone p q seen
+  shows_itself p q None within at e = absurd (false≢true e)
   shows_itself p q (Some seen) within at e =
       let has = last_write-Has w.store.writes (node_key p q.0) seen (value_of-last w.store.writes (node_key p q.0) seen (sym at)).0 in
-      ranged p q seen (subst (λ (s : Setup). p.0 < s.partitions) (sym goes.setup) within)
-      (Has-front w.store.writes v.store.writes seen goes.past.history has.0) has.1 (says_done seen.node e)
+      let says = ranged p q seen (subst (λ (s : Setup). p.0 < s.partitions) (sym goes.setup) within)
+      (Has-front w.store.writes v.store.writes seen goes.past.history has.0) has.1 (says_done seen.node e) in
+      (says, done_above p q seen within (sym at) has.0 has.1 says)
+
+  -- where a node is shown, no later segment is gone
+  shows_later : (p : Partition) (q : Sequence) (seen : Option Seen) → seen ≡ node_of w p q → IfSome seen (λ node. StandFrom ranges (mark_of w.store.writes) notes p q)
+  shows_later p q None at = tt
+  shows_later p q (Some seen) at = stands_from ranges w notes p q seen safe k (sym at)
 
   module _ (p : Partition) (q : Sequence) (o : Outcome) (steps : Steps w (event.ShowMeta p q) v (Ok o)) where
     shown : o ≡ came.Shown (node_of w p q)
@@ -411,10 +433,13 @@ module _ (ranges : Ranges) (w v : State) (notes : Notes) (safe : IsSafeWorld w) 
     in_cluster : p.0 < w.setup.partitions
     in_cluster = ltb-true p.0 w.setup.partitions (only_passed (has_partition w p) NoSuchNode (priced w no_cost) steps.0 steps.1).0
 
-    show_tells : TellsSo ranges notes (event.ShowMeta p q) o
+    show_tells : TellsSo ranges (mark_of w.store.writes) notes (event.ShowMeta p q) o
     show_tells =
-        subst (λ (x : Outcome). TellsSo ranges notes (event.ShowMeta p q) x) (sym shown)
-        (λ has. shows_committed p q (k.committed (record { partition = p; sequence = q }) has), shows_itself p q (node_of w p q) in_cluster refl)
+        subst (λ (x : Outcome). TellsSo ranges (mark_of w.store.writes) notes (event.ShowMeta p q) x) (sym shown) (
+          λ has. shows_committed p q (k.committed (record { partition = p; sequence = q }) has),
+          shows_itself p q (node_of w p q) in_cluster refl,
+          shows_later p q (node_of w p q) refl,
+        )
 
     show_noted : ((x : Working) → Has notes.jobs x → IsAtWork v x) → Holds ranges v (shown_noted p q o notes)
     show_noted jobs =
@@ -456,7 +481,7 @@ module _ (ranges : Ranges) (w v : State) (notes : Notes) (safe : IsSafeWorld w) 
   noted e o fits steps =
       stays_with_jobs ranges w v notes goes (λ x has at. job_stays w v x e o safe goes fits steps refl (λ f. cc) at) k
 
-  pub tells : (e : Event) (o : Outcome) → Fits w.setup.schema e → Steps w e v (Ok o) → TellsSo ranges notes e o
+  pub tells : (e : Event) (o : Outcome) → Fits w.setup.schema e → Steps w e v (Ok o) → TellsSo ranges (mark_of w.store.writes) notes e o
   tells (event.Job c j) o fits steps = job_tells c j fits o steps
   tells (event.ShowMeta p q) o fits steps = show_tells p q o steps
   tells e o fits steps = tt

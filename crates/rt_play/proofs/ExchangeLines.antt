@@ -11,7 +11,7 @@ use Rattle.rt_events.specs.declared.event.Event.TheVariants as event
 use Rattle.rt_events.specs.declared.outcome.Outcome.{Outcome}
 use Rattle.rt_events.specs.declared.outcome.Outcome.TheVariants as came
 use Rattle.rt_macros.specs.Doing.{Gives, Happens, Reached}
-use Rattle.rt_macros.specs.Exchanging.{AfterDelivery, AfterReply, AfterReport, AfterStep, EndsJob, ExchangeTold, Exchanges, Handles as HandlesRequest, IfDue, MakesStep, ReportsAndFinishes, TakesAnswer, exchange_due, exchange_text}
+use Rattle.rt_macros.specs.Exchanging.{AfterDelivery, AfterReply, AfterReport, AfterStep, EndsJob, ExchangeTold, Exchanges, Handles as HandlesRequest, IfDue, MakesStep, ReportsAndFinishes, SendsAndTakes, TakesAnswer, exchange_due, exchange_text}
 use Rattle.rt_macros.specs.Outcomes.{delivered_in, ended_in, state_in}
 use Rattle.rt_macros.specs.declared.exchanging.Exchanged.{Exchanged}
 use Rattle.rt_macros.specs.declared.outcomes.Delivered.{Delivered}
@@ -164,6 +164,13 @@ takes_answer request p q a y w v x own k h =
 
 -- ---- an exchange
 
+sends_and_takes : (c : ControllerId) (m : ℕ) (p : Partition) (q : Sequence) (request : Request) (w : State) (v : Reached) (x : Exchanged) → IsSafeWorld w
+    → request_at w m ≡ Some request → ((asked_of request).partition ≡ p) × ((asked_of request).sequence ≡ q) → SendsAndTakes c m w v (Ok x) → IsExchanged v.world p q x
+sends_and_takes c m p q request w v x safe asks own h =
+    let t = was_then (HandlesRequest c m) (TakesAnswer m) w v x h in
+    subst (λ (z : State). IsExchanged z p q x) (sym (ap world_of t.whole))
+    (takes_answer m p q (asked_of request) t.told t.between.world t.last x own (handles_request c m request w t.between t.told safe asks t.came) t.further)
+
 exchanges : (i : Instance) (p : Partition) (q : Sequence) (c : ControllerId) (w : State) (v : Reached) (x : Exchanged) → IsSafeWorld w
     → ReportsAndFinishes (event.Report i p q) c w v (Ok x) → IsExchanged v.world p q x
 exchanges i p q c w v x safe h =
@@ -171,12 +178,9 @@ exchanges i p q c w v x safe h =
     let t = was_then (Happens report) (AfterReport c) w v x h in
     let u = t.between.world in
     let its = requested w u i p q t.told safe t.came.by.0 in
-    let m = length w.sent in
-    let sends = subst (λ (o : Outcome). AfterReport c o u t.last (Ok x)) its.told t.further in
-    let s = was_then (HandlesRequest c m) (TakesAnswer m) u t.last x sends in
-    let answers = handles_request c m its.request u s.between s.told (happened_safe w u report t.told safe tt t.came.by.0) its.there s.came in
-    subst (λ (z : State). IsExchanged z p q x) (sym (ap world_of t.whole ∙ ap world_of s.whole))
-    (takes_answer m p q (asked_of its.request) s.told s.between.world s.last x its.segment answers s.further)
+    subst (λ (z : State). IsExchanged z p q x) (sym (ap world_of t.whole))
+    (sends_and_takes c (length w.sent) p q its.request u t.last x (happened_safe w u report t.told safe tt t.came.by.0) its.there its.segment
+    (subst (λ (o : Outcome). AfterReport c o u t.last (Ok x)) its.told t.further))
 
 if_due : (f : Found) (report : Event) (c : ControllerId) (w : State) (v : Reached) (x : Exchanged) → IfDue f (ReportsAndFinishes report c) w v (Ok x)
     → ReportsAndFinishes report c w v (Ok x)

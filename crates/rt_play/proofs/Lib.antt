@@ -1,5 +1,6 @@
 pub mod AnswerTexts
 pub mod Beginnings
+pub mod BesideKept
 pub mod Coming
 pub mod ComingLines
 pub mod ComingMacros
@@ -20,6 +21,7 @@ pub mod Headlines
 pub mod HybridTables
 pub mod InputLimits
 pub mod JobLines
+pub mod JobsKept
 pub mod Keeping
 pub mod Known
 pub mod Laid
@@ -36,6 +38,7 @@ pub mod Playing
 pub mod QueryLines
 pub mod Ranged
 pub mod Readings
+pub mod Retired
 pub mod Rights
 pub mod ScriptRuns
 pub mod ShownStays

@@ -94,7 +94,7 @@ module _ (w v : State) (answer : Answer) (f : IsFound w v answer) (p : Partition
         refused = λ i is. refuses w f.answered.asked.query x i (piece_given w f.answered.asked.query xs x plan.given has) (refused i is);
       }
 
-  missed_piece : Has answer.missing (p, Some s) → IsMissedIn w p s
+  pub missed_piece : Has answer.missing (p, Some s) → IsMissedIn w p s
   missed_piece has =
       planned_route (route_at f.answered.asked p) refl (f.answered.missing p (Some s) has)
       (missed_by (route_at f.answered.asked p) (f.gathers.routes f.answered.asked f.answered.there p))

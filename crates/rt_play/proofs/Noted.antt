@@ -1,20 +1,26 @@
 -- What is noted of a script's lines holds in the world behind them.
-use Rattle.std.proofs.Common.{◌≡◌, ◌<◌, ℕ, false, List, [], ◌∷◌, ◌++◌, Option, Some, None, Ok, refl, sym, ◌∙◌, ap, subst, slice_get, ⊎_elim}
+use Rattle.std.proofs.Common.{◌≡◌, ◌<◌, ◌≤◌, ℕ, false, List, [], ◌∷◌, ◌++◌, Option, Some, None, Ok, refl, sym, ◌∙◌, ap, subst, slice_get, ⊎_elim}
 use Rattle.rt_events.specs.Fits.{Fits}
 use Rattle.rt_events.specs.declared.event.Event.{Event}
 use Rattle.rt_events.specs.declared.event.Event.TheVariants as event
 use Rattle.rt_events.specs.declared.outcome.Outcome.{Outcome}
 use Rattle.rt_lists.proofs.Members.{Has-append_cases, Has-front, slice_get-append}
 use Rattle.rt_lists.specs.Members.{Has}
+use Rattle.rt_base.specs.declared.numbers.Partition.{Partition}
+use Rattle.rt_base.specs.declared.numbers.Sequence.{Sequence}
+use Rattle.rt_model.specs.History.{value_of}
 use Rattle.rt_model.specs.Messages.{asked_of}
 use Rattle.rt_model.specs.Metadata.{node_key}
+use Rattle.rt_model.specs.Tiled.{done_range, mark_of}
 use Rattle.rt_model.specs.declared.node.Seen.{Seen}
 use Rattle.rt_model.specs.declared.request.Request.{Request}
 use Rattle.rt_model.specs.declared.request.RequestKind.TheVariants as kind
 use Rattle.rt_model.specs.declared.sent.Sent.{Sent}
 use Rattle.rt_model.specs.declared.setup.Setup.{Setup}
 use Rattle.rt_nodes.specs.declared.controller_node.ControllerNode.{ControllerNode}
-use Rattle.rt_play.specs.Ledger.{Notes, Posted, Ranges, SaysDone, Segment, Working}
+use Rattle.rt_play.proofs.Ranged.{node_range}
+use Rattle.rt_play.proofs.Retired.{there_above}
+use Rattle.rt_play.specs.Ledger.{Notes, Posted, Ranges, SaysDone, Segment, StandFrom, Working}
 use Rattle.rt_safety.proofs.CommitRuns.{commit_runs}
 use Rattle.rt_safety.specs.CommitRun.{IsOpen, is_crash, job_in}
 use Rattle.rt_safety.specs.GoesOn.{GoesOn}
@@ -22,6 +28,7 @@ use Rattle.rt_safety.specs.Runs.{happens}
 use Rattle.rt_state.specs.Finding.{request_at, request_in}
 use Rattle.rt_state.specs.IsSafeWorld.{IsSafeWorld}
 use Rattle.rt_state.specs.declared.state.State.{State}
+use Rattle.rt_store.specs.Contents.{starting_of}
 use Rattle.rt_world.specs.Step.{Steps}
 
 -- ---- what holds
@@ -134,9 +141,6 @@ stays_but_jobs ranges w v notes jobs goes k at = record {
   committed = λ s has. committed_stays ranges w v s goes (k.committed s has);
 }
 
-pub none_at_work : (ranges : Ranges) (w v : State) (notes : Notes) → GoesOn w v → Holds ranges w notes → Holds ranges v (record notes { jobs = [] })
-none_at_work ranges w v notes goes k = stays_but_jobs ranges w v notes [] goes k (λ x has. absurd has)
-
 pub stays_with_jobs : (ranges : Ranges) (w v : State) (notes : Notes) → GoesOn w v → ((x : Working) → Has notes.jobs x → IsAtWork w x → IsAtWork v x)
     → Holds ranges w notes → Holds ranges v notes
 stays_with_jobs ranges w v notes goes at k = stays_but_jobs ranges w v notes notes.jobs goes k (λ x has. at x has (k.jobs x has))
@@ -149,3 +153,18 @@ stays_and_more ranges w notes more k new = record {
   jobs = k.jobs;
   committed = λ s has. ⊎_elim (new s) (k.committed s) (Has-append_cases more notes.committed s has);
 }
+
+-- ---- where segments stand that were committed
+
+-- the range of its Done write is the segment's
+pub its_range : (ranges : Ranges) (w : State) (s : Segment) (c : WasCommitted ranges w s) → done_range c.write.node ≡ Some (ranges s.partition s.sequence)
+its_range ranges w s c = node_range (ranges s.partition s.sequence) c.write.node c.done
+
+-- where a node is there, each that isn't before it lies above the mark
+pub stands_from : (ranges : Ranges) (w : State) (notes : Notes) (p : Partition) (q : Sequence) (seen : Seen) → IsSafeWorld w → Holds ranges w notes
+    → value_of w.store.writes (node_key p q.0) ≡ Some seen → StandFrom ranges (mark_of w.store.writes) notes p q
+stands_from ranges w notes p q seen safe k there s has same le =
+    let c = k.committed s has in
+    subst (λ (x : Partition). mark_of w.store.writes x ≤ (ranges s.partition s.sequence).start.0) same
+    (there_above (starting_of w.setup) w.store.writes s.partition safe.safe.past.lawful c.within q.0 s.sequence.0 seen c.write (ranges s.partition s.sequence)
+    (subst (λ (x : Partition). value_of w.store.writes (node_key x q.0) ≡ Some seen) (sym same) there) le c.has c.of (its_range ranges w s c))

@@ -222,3 +222,18 @@ plan_pieces h p o = chain_pieces p (mark_of h p) (metadata_of h p) (listed_chain
 pub plan_ranges : (h : List Seen) (p : Partition) (r : Range) → InOrder h p → Has (committed_of h p) r
     → (x : Piece) × Has (plan_of p (metadata_of h p)) x × IsOf r x
 plan_ranges h p r o has = chain_range p (mark_of h p) (metadata_of h p) r (listed_chain h p o) has
+
+-- each piece is that of a node that is listed
+abbrev IsListed : List Listed → Piece → Type 0
+IsListed ls x = (l : Listed) × Has ls l × (l.sequence ≡ x.sequence)
+
+pub piece_listed : (p : Partition) (ls : List Listed) (x : Piece) → Has (plan_of p ls) x → IsListed ls x
+piece_listed p [] x has = absurd has
+piece_listed p (l ∷ ls) x has = by_status l.seen.meta.status has (λ k. let n = piece_listed p ls x k in (n.0, inr n.1, n.2))
+  where
+    by_status : (s : Status) → Has (planned p l s (plan_of p ls)) x → (Has (plan_of p ls) x → IsListed (l ∷ ls) x) → IsListed (l ∷ ls) x
+    by_status InProgress (inl same) further = (l, inl refl, ap (λ (y : Piece). y.sequence) same)
+    by_status InProgress (inr none) further = absurd none
+    by_status (Done d) (inl same) further = (l, inl refl, ap (λ (y : Piece). y.sequence) same)
+    by_status (Done d) (inr k) further = further k
+    by_status Abandoned k further = further k

@@ -36,7 +36,7 @@ status_range r m (Done commit) k =
     ap (λ x. Some (one x)) (sym k.0) ∙ ap (λ x. Some (other x)) (sym k.1)
 status_range r m Abandoned k = absurd k
 
-node_range : (r : Range) (n : Node) → SaysDone r n → done_range n ≡ Some r
+pub node_range : (r : Range) (n : Node) → SaysDone r n → done_range n ≡ Some r
 node_range r (node.Meta m) k = status_range r m m.status k
 node_range r (node.Ideal i) k = absurd k
 node_range r node.Boot k = absurd k

@@ -1,6 +1,6 @@
--- What the report of a script tells of commits, by the script and the report alone: what was committed stays, and an answer that misses
--- nothing of a partition goes without a gap through all of it.
-use Rattle.std.specs.Prelude.{◌≡◌, ◌<◌, ◌≤◌, ◌⊎◌, ◌==◌, ◌&&◌, ◌||◌, not, is_none, ℕ, Bool, true, false, List, [], ◌∷◌, ◌++◌, map, Option, None, Some, if◌then◌else◌}
+-- What the report of a script tells of commits, by the script and the report alone: what was committed stays until it is gone, which it is from
+-- the front on and for good; and an answer that misses nothing of a partition goes without a gap through all that is kept of it.
+use Rattle.std.specs.Prelude.{IfSome, ◌≡◌, ◌<◌, ◌≤◌, ◌⊎◌, ◌==◌, ◌&&◌, ◌||◌, not, is_none, ℕ, Bool, true, false, List, [], ◌∷◌, ◌++◌, map, Option, None, Some, if◌then◌else◌}
 use Rattle.std.specs.List.{filter}
 use Rattle.rt_base.specs.declared.numbers.ControllerId.{ControllerId}
 use Rattle.rt_base.specs.declared.numbers.Offset.{Offset}
@@ -191,23 +191,25 @@ event_noted (CrashController controller) outcome notes =
 event_noted (ShowMeta partition sequence) outcome notes = shown_noted partition sequence outcome notes
 event_noted event outcome notes = notes
 
--- an exchange may make steps of jobs that it doesn't tell, so that behind it no job is known to go on. It tells of a commit of its segment by
--- the reply, a COMMIT_SUCCESS, or by where the replica then stands
+-- an exchange tells of a commit of its segment by the reply, a COMMIT_SUCCESS, or by where the replica then stands
 abbrev pub exchange_noted : Partition → Sequence → ReplyStatus → ReplicaState → Notes → Notes
 exchange_noted partition sequence status stands notes =
     record notes {
-      jobs = [];
       committed =
           if is_success_status status || knows_commit stands
           then record { partition = partition; sequence = sequence } ∷ notes.committed
           else notes.committed;
     }
 
--- ---- what a line tells, by the ranges of the segments
+-- ---- what a line tells, by the ranges of the segments and the marks of the partitions
 
 -- the range with which each segment was committed, if it was
 abbrev pub Ranges : Type 0
 Ranges = Partition → Sequence → Range
+
+-- the mark of each partition: what was committed below it is gone, and what was committed above it is there
+abbrev pub Marks : Type 0
+Marks = Partition → ℕ
 
 -- metadata that says DONE, over this range, which has an offset
 abbrev pub IsDoneOver : Range → SegMeta → Status → Type 0
@@ -221,17 +223,24 @@ SaysDone range (node.Ideal state) = ⊥
 SaysDone range node.Boot = ⊥
 SaysDone range node.Gone = ⊥
 
--- the node that is shown says so, or none is there: the segment was retired
-abbrev pub ShowsDone : Range → Option Seen → Type 0
-ShowsDone range None = Unit {0}
-ShowsDone range (Some seen) = SaysDone range seen.node
+-- the node that is shown says so, and the range lies above the mark; or none is there, and the range lies below the mark
+abbrev pub ShowsDone : Range → ℕ → Option Seen → Type 0
+ShowsDone range mark None = range.end.0 ≤ mark
+ShowsDone range mark (Some seen) = SaysDone range seen.node × (mark ≤ range.start.0)
 
--- so it is of a segment that was told to be committed, and of one that is shown DONE now
-abbrev pub ShowsSo : Ranges → Notes → Partition → Sequence → Outcome → Type 0
-ShowsSo ranges notes p q (Shown seen) =
-    (Has notes.committed (record { partition = p; sequence = q }) → ShowsDone (ranges p q) seen)
-    × (shows_done seen ≡ true → ShowsDone (ranges p q) seen)
-ShowsSo ranges notes p q other = Unit {0}
+-- each segment that was told to be committed lies above the mark, from this one on
+abbrev pub StandFrom : Ranges → Marks → Notes → Partition → Sequence → Type 0
+StandFrom ranges marks notes p q =
+    (s : Segment) → Has notes.committed s → s.partition ≡ p → q.0 ≤ s.sequence.0 → marks p ≤ (ranges s.partition s.sequence).start.0
+
+-- so it is shown of a segment that was told to be committed, and of one that is shown DONE now; and where a node is there, whatever it says, no
+-- later segment is gone
+abbrev pub ShowsSo : Ranges → Marks → Notes → Partition → Sequence → Outcome → Type 0
+ShowsSo ranges marks notes p q (Shown seen) =
+    (Has notes.committed (record { partition = p; sequence = q }) → ShowsDone (ranges p q) (marks p) seen)
+    × (shows_done seen ≡ true → ShowsDone (ranges p q) (marks p) seen)
+    × IfSome seen (λ node. StandFrom ranges marks notes p q)
+ShowsSo ranges marks notes p q other = Unit {0}
 
 -- a job commits its segment up to the offset of its commitEnd
 abbrev pub StepsSo : Ranges → Notes → ControllerId → ℕ → Outcome → Type 0
@@ -243,29 +252,29 @@ StepsSo ranges notes c j other = Unit {0}
 abbrev pub MissesNothing : Answer → Partition → Type 0
 MissesNothing answer p = (s : Option Sequence) → Has answer.missing (p, s) → ⊥
 
--- what an answer names of a partition goes from one offset to another without a gap, through every segment that was told to be committed but
--- those that lie before it, which were retired; in a table without a retention it goes from the first offset on
-pub record GoesThrough (setup : Setup) (ranges : Ranges) (notes : Notes) (p : Partition) (named : List Range) : Type 0 where
-  pub from : ℕ
+-- what an answer names of a partition goes from the mark on without a gap, through every segment that was told to be committed but those below
+-- the mark
+pub record GoesThrough (ranges : Ranges) (marks : Marks) (notes : Notes) (p : Partition) (named : List Range) : Type 0 where
   pub to : ℕ
-  pub up : from ≤ to
-  pub one : named ≡ span from to
+  pub up : marks p ≤ to
+  pub one : named ≡ span (marks p) to
   pub all : (s : Segment) → Has notes.committed s → s.partition ≡ p
-      → ((ranges s.partition s.sequence).end.0 ≤ from)
-      ⊎ ((from ≤ (ranges s.partition s.sequence).start.0) × ((ranges s.partition s.sequence).end.0 ≤ to))
-  pub first : setup.retention ≡ None → from ≡ 0
+      → ((ranges s.partition s.sequence).end.0 ≤ marks p)
+      ⊎ ((marks p ≤ (ranges s.partition s.sequence).start.0) × ((ranges s.partition s.sequence).end.0 ≤ to))
 
--- an answer names the whole of a segment that was told to be committed, or nothing of it; and where it misses nothing of a partition it goes
--- through all of it
-pub record NamesSo (setup : Setup) (ranges : Ranges) (notes : Notes) (answer : Answer) : Type 0 where
+-- an answer names the whole of a segment that was told to be committed, or nothing of it; it names nothing below the mark, and what it misses
+-- isn't gone; and where it misses nothing of a partition it goes through all of it
+pub record NamesSo (setup : Setup) (ranges : Ranges) (marks : Marks) (notes : Notes) (answer : Answer) : Type 0 where
   pub whole : (s : Segment) → Has notes.committed s → Each (Spares (ranges s.partition s.sequence)) (ranges_at s.partition answer.ranges)
-  pub through : (p : Partition) → p.0 < setup.partitions → MissesNothing answer p → GoesThrough setup ranges notes p (ranges_at p answer.ranges)
+  pub above : (p : Partition) → p.0 < setup.partitions → Each (λ r. marks p ≤ r.start.0) (ranges_at p answer.ranges)
+  pub missed : (p : Partition) (q : Sequence) → Has answer.missing (p, Some q) → StandFrom ranges marks notes p q
+  pub through : (p : Partition) → p.0 < setup.partitions → MissesNothing answer p → GoesThrough ranges marks notes p (ranges_at p answer.ranges)
 
 -- what an event tells
-abbrev pub TellsSo : Ranges → Notes → Event → Outcome → Type 0
-TellsSo ranges notes (ShowMeta p q) outcome = ShowsSo ranges notes p q outcome
-TellsSo ranges notes (Job c j) outcome = StepsSo ranges notes c j outcome
-TellsSo ranges notes event outcome = Unit {0}
+abbrev pub TellsSo : Ranges → Marks → Notes → Event → Outcome → Type 0
+TellsSo ranges marks notes (ShowMeta p q) outcome = ShowsSo ranges marks notes p q outcome
+TellsSo ranges marks notes (Job c j) outcome = StepsSo ranges notes c j outcome
+TellsSo ranges marks notes event outcome = Unit {0}
 
 -- ---- a report
 
@@ -275,16 +284,16 @@ IsTold (Consume instance partition sequence max) text outcome = Unit {0}
 IsTold event text outcome = text ≡ outcome_text event outcome
 
 -- an event tells so, and the lines behind it do with what is then noted
-pub record EventTells (ranges : Ranges) (notes : Notes) (event : Event) (text : List ℕ) (later : Notes → Type 0) : Type 0 where
+pub record EventTells (ranges : Ranges) (marks : Marks) (notes : Notes) (event : Event) (text : List ℕ) (later : Notes → Type 0) : Type 0 where
   pub outcome : Outcome
   pub told : IsTold event text outcome
-  pub so : TellsSo ranges notes event outcome
+  pub so : TellsSo ranges marks notes event outcome
   pub behind : later (event_noted event outcome notes)
 
-pub record QueryTells (setup : Setup) (ranges : Ranges) (notes : Notes) (text : List ℕ) (later : Notes → Type 0) : Type 0 where
+pub record QueryTells (setup : Setup) (ranges : Ranges) (marks : Marks) (notes : Notes) (text : List ℕ) (later : Notes → Type 0) : Type 0 where
   pub answer : Answer
   pub told : text ≡ answer_line answer
-  pub so : NamesSo setup ranges notes answer
+  pub so : NamesSo setup ranges marks notes answer
   pub behind : later notes
 
 pub record ExchangeTells (notes : Notes) (p : Partition) (q : Sequence) (text : List ℕ) (later : Notes → Type 0) : Type 0 where
@@ -295,22 +304,28 @@ pub record ExchangeTells (notes : Notes) (p : Partition) (q : Sequence) (text : 
   pub told : text ≡ exchanged_text request reply status stands
   pub behind : later (exchange_noted p q status stands notes)
 
--- a `settle` makes steps of jobs that no text tells, so that behind it no job is known to go on, nor behind any other line
-abbrev pub LineTells : Setup → Ranges → Notes → Option Line → List ℕ → (Notes → Type 0) → Type 0
-LineTells setup ranges notes (Some (line.Event event)) text later = EventTells ranges notes event text later
-LineTells setup ranges notes (Some (line.Macro (macro.Query query))) text later = QueryTells setup ranges notes text later
-LineTells setup ranges notes (Some (line.Macro (macro.Fill partition count))) text later = later notes
-LineTells setup ranges notes (Some (line.Macro (macro.Exchange instance p q controller))) text later = ExchangeTells notes p q text later
-LineTells setup ranges notes other text later = later (record notes { jobs = [] })
+-- an `exchange` and a `settle` make steps of no jobs but those that they start, so that the known ones go on
+abbrev pub LineTells : Setup → Ranges → Marks → Notes → Option Line → List ℕ → (Notes → Type 0) → Type 0
+LineTells setup ranges marks notes (Some (line.Event event)) text later = EventTells ranges marks notes event text later
+LineTells setup ranges marks notes (Some (line.Macro (macro.Query query))) text later = QueryTells setup ranges marks notes text later
+LineTells setup ranges marks notes (Some (line.Macro (macro.Exchange instance p q controller))) text later = ExchangeTells notes p q text later
+LineTells setup ranges marks notes other text later = later notes
+
+-- no mark falls, and each is 0 in a table without a retention; with these marks a line tells so
+pub record Risen (setup : Setup) (marks : Marks) (tells : Marks → Type 0) : Type 0 where
+  pub now : Marks
+  pub rise : (p : Partition) → p.0 < setup.partitions → marks p ≤ now p
+  pub first : (p : Partition) → p.0 < setup.partitions → setup.retention ≡ None → now p ≡ 0
+  pub so : tells now
 
 -- so it is of each line that has a text
-abbrev pub AllTellSo : Setup → Ranges → Notes → List NumberedLine → List (List ℕ) → Type 0
-AllTellSo setup ranges notes lines [] = Unit {0}
-AllTellSo setup ranges notes [] (text ∷ texts) = ⊥
-AllTellSo setup ranges notes (line ∷ lines) (text ∷ texts) =
-    LineTells setup ranges notes (line_in setup line.1) text (λ more. AllTellSo setup ranges more lines texts)
+abbrev pub AllTellSo : Setup → Ranges → Marks → Notes → List NumberedLine → List (List ℕ) → Type 0
+AllTellSo setup ranges marks notes lines [] = Unit {0}
+AllTellSo setup ranges marks notes [] (text ∷ texts) = ⊥
+AllTellSo setup ranges marks notes (line ∷ lines) (text ∷ texts) =
+    Risen setup marks (λ now. LineTells setup ranges now notes (line_in setup line.1) text (λ more. AllTellSo setup ranges now more lines texts))
 
--- each segment has one range, as far as it was committed, with which all lines agree
+-- each segment has one range, as far as it was committed, with which all lines agree; and each partition has its mark at each line
 pub record CommitsStay (setup : Setup) (lines : List NumberedLine) (texts : List (List ℕ)) : Type 0 where
   pub ranges : Ranges
-  pub all : AllTellSo setup ranges no_notes lines texts
+  pub all : AllTellSo setup ranges (λ p. 0) no_notes lines texts
