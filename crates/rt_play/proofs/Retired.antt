@@ -9,10 +9,12 @@ use Rattle.rt_base.specs.declared.range.Range.{Range}
 use Rattle.rt_lists.specs.Members.{Has}
 use Rattle.rt_model.proofs.Histories.{Has-writes_of}
 use Rattle.rt_model.proofs.Lawful.{has_chains, nodes_are_in_order}
+use Rattle.rt_model.proofs.Listings.{has_listings}
+use Rattle.rt_model.proofs.Partitions.{deleted_over}
 use Rattle.rt_model.specs.Chain.{InOrder, IsLife, IsLinked, deletions_of, start_by, start_in}
 use Rattle.rt_model.specs.History.{value_of}
 use Rattle.rt_model.specs.Lawful.{IsLawfulHistory}
-use Rattle.rt_model.specs.Metadata.{Ends, Follows, IsInProgress, IsOpen, IsEndFrom, StartsAfter, life_of, node_key, sequences_of}
+use Rattle.rt_model.specs.Metadata.{Ends, Follows, IsDeleted, IsInProgress, IsOpen, IsEndFrom, StartsAfter, life_of, node_key, sequences_of}
 use Rattle.rt_model.specs.Starting.{Starting}
 use Rattle.rt_model.specs.Tiled.{done_range, mark_of, range_by}
 use Rattle.rt_model.specs.declared.node.Node.{Node}
@@ -148,13 +150,31 @@ module _ (s : Starting) (h : List Seen) (p : Partition) (lawful : IsLawfulHistor
       by_place (inl lt) = lt
       by_place (inr le) = absurd ((has_chains s h lawful p within).uncreated q w le has of)
 
+  -- one that has no value any more is one of those that were deleted
+  gone_low : (q : ℕ) (w : Seen) → value_of h (node_key p q) ≡ None → Has h w → w.key ≡ node_key p q → q < deletions_of h p
+  gone_low q w none has of = by_place (cases_lt q (deletions_of h p))
+    where
+      by_place : (q < deletions_of h p) ⊎ (deletions_of h p ≤ q) → q < deletions_of h p
+      by_place (inl low) = low
+      by_place (inr high) = absurd (false≢true (subst IsSome none (((has_chains s h lawful p within).present q).1 (high, written_below q w has of))))
+
+  pub gone_deleted : (q : ℕ) (w : Seen) → value_of h (node_key p q) ≡ None → Has h w → w.key ≡ node_key p q → IsDeleted h p q
+  gone_deleted q w none has of = (has_listings s h lawful p within).below q (gone_low q w none has of)
+
+  -- and what was deleted has none
+  pub deleted_gone : (q : ℕ) → IsDeleted h p q → value_of h (node_key p q) ≡ None
+  deleted_gone q deleted = by_value (value_of h (node_key p q)) refl
+    where
+      by_value : (o : Option Seen) → value_of h (node_key p q) ≡ o → value_of h (node_key p q) ≡ None
+      by_value None e = e
+      by_value (Some seen) e =
+          let order = nodes_are_in_order s h lawful p within in
+          let high = (((has_chains s h lawful p within).present q).0 (subst IsSome (sym e) refl)).0 in
+          absurd (omega (arith, order.present q high, deleted_over h p q order deleted))
+
   -- a committed segment whose node is gone lies below the mark
   pub gone_below : (q : ℕ) (w : Seen) (r : Range) → value_of h (node_key p q) ≡ None → Has h w → w.key ≡ node_key p q → done_range w.node ≡ Some r → r.end.0 ≤ mark_of h p
-  gone_below q w r none has of is = by_place (cases_lt q (deletions_of h p))
-    where
-      by_place : (q < deletions_of h p) ⊎ (deletions_of h p ≤ q) → r.end.0 ≤ mark_of h p
-      by_place (inl low) = below_mark h p (nodes_are_in_order s h lawful p within) q w r low has of is
-      by_place (inr high) = absurd (false≢true (subst IsSome none (((has_chains s h lawful p within).present q).1 (high, written_below q w has of))))
+  gone_below q w r none has of is = below_mark h p (nodes_are_in_order s h lawful p within) q w r (gone_low q w none has of) has of is
 
   -- a committed segment at a node that is there, or behind it, lies above the mark
   pub there_above : (q n : ℕ) (seen w : Seen) (r : Range) → value_of h (node_key p q) ≡ Some seen → q ≤ n → Has h w → w.key ≡ node_key p n → done_range w.node ≡ Some r

@@ -1,6 +1,7 @@
--- A node that is shown DONE or abandoned stays as it is, until it is gone.
+-- A node that is shown DONE or abandoned stays as it is, until it is gone; and what is gone stays so.
 use Rattle.std.proofs.Common.{◌≡◌, ◌⊎◌, inl, inr, ◌<◌, ℕ, List, [], ◌∷◌, ◌++◌, Option, Some, None, Ok, refl, sym, ◌∙◌, ap, subst}
 use Rattle.std.proofs.lemmas.Bool.{ltb-true}
+use Rattle.std.proofs.lemmas.Option.{none-some, same_Some}
 use Rattle.rt_base.specs.declared.numbers.Partition.{Partition}
 use Rattle.rt_base.specs.declared.numbers.Sequence.{Sequence}
 use Rattle.rt_desk.specs.Saying.{EventLineTold, EventTold}
@@ -10,27 +11,30 @@ use Rattle.rt_events.specs.declared.outcome.Outcome.{Outcome}
 use Rattle.rt_events.specs.declared.refusal.Refusal.TheVariants.{NoSuchNode}
 use Rattle.rt_lines.specs.Header.{NumberedLine}
 use Rattle.rt_lists.proofs.Members.{Has-front}
+use Rattle.rt_lists.specs.Members.{Has}
 use Rattle.rt_macros.specs.Doing.{Gives, Happens, Reached, reached}
 use Rattle.rt_model.proofs.Histories.{value_of-last}
 use Rattle.rt_model.proofs.Kept.{last_write-Has}
 use Rattle.rt_model.proofs.Lawful.{has_endings}
 use Rattle.rt_model.specs.History.{last_write, value_by, value_in, value_of}
 use Rattle.rt_model.specs.Laws.{IsEnding, IsGoneLast}
-use Rattle.rt_model.specs.Metadata.{IsFinal, node_key}
+use Rattle.rt_model.specs.Metadata.{IsDeleted, IsFinal, node_key}
 use Rattle.rt_model.specs.declared.node.Node.{Node}
 use Rattle.rt_model.specs.declared.node.Node.TheVariants as node
 use Rattle.rt_model.specs.declared.node.Seen.{Seen}
 use Rattle.rt_model.specs.declared.setup.Setup.{Setup}
 use Rattle.rt_play.proofs.LineReads.{was_then, same_told}
+use Rattle.rt_play.proofs.Retired.{deleted_gone, gone_deleted}
 use Rattle.rt_play.proofs.ScriptRuns.{line_keeps, line_leads}
 use Rattle.rt_play.specs.Beginning.{going_from}
 use Rattle.rt_play.specs.Going.{Going}
 use Rattle.rt_play.specs.Report.{FrontRuns, RunAll, Runs, said_at}
-use Rattle.rt_play.specs.Shown.{AllShown, EndedStays, EndsShown, IsShown, StayShown, shows}
+use Rattle.rt_play.specs.Shown.{AllShown, EndedStays, IsShown, KeepsShown, ShowsLater, StayGone, StayShown, shows}
 use Rattle.rt_play.specs.declared.beginning.Beginning.{Beginning}
 use Rattle.rt_report.specs.BrokerTexts.{shown_text}
 use Rattle.rt_report.specs.Outcome.{outcome_text}
 use Rattle.rt_safety.proofs.Later.{leads_on}
+use Rattle.rt_safety.specs.GoesOn.{GoesOn}
 use Rattle.rt_safety.specs.Runs.{Turn, Leads}
 use Rattle.rt_script.specs.Line.{line_in}
 use Rattle.rt_script.specs.declared.line.Line.{Line}
@@ -54,19 +58,6 @@ pub record HasEnded (w : State) (p : Partition) (q : Sequence) (seen : Seen) : T
   pub within : p.0 < w.setup.partitions
   pub ending : IsEnding w.store.writes p q.0 seen
 
-ended_now : (w : State) (p : Partition) (q : Sequence) (seen : Seen) → p.0 < w.setup.partitions → node_of w p q ≡ Some seen → IsFinal seen.node → HasEnded w p q seen
-ended_now w p q seen within is final =
-    let has = last_write-Has w.store.writes (node_key p q.0) seen (value_of-last w.store.writes (node_key p q.0) seen is).0 in
-    record { within = within; ending = record { has = has.0; is_of = has.1; final = final } }
-
-ended_later : (w v : State) (turns : List Turn) (p : Partition) (q : Sequence) (seen : Seen) → IsSafeWorld w → Leads w turns v → HasEnded w p q seen → HasEnded v p q seen
-ended_later w v turns p q seen safe led h =
-    let goes = leads_on w turns v safe led in
-    record {
-      within = subst (λ (s : Setup). p.0 < s.partitions) (sym goes.setup) h.within;
-      ending = record { has = Has-front w.store.writes v.store.writes seen goes.past.history h.ending.has; is_of = h.ending.is_of; final = h.ending.final };
-    }
-
 shown_final : (n : Node) (seen : Seen) → IsFinal n → value_by n seen ≡ Some seen
 shown_final (node.Meta m) seen final = refl
 shown_final (node.Ideal i) seen final = absurd final
@@ -80,6 +71,54 @@ stays_or_gone w p q seen safe h = by_last ((has_endings (starting_of w.setup) w.
     by_last : (last_write w.store.writes (node_key p q.0) ≡ Some seen) ⊎ IsGoneLast w.store.writes p q.0 → (node_of w p q ≡ Some seen) ⊎ (node_of w p q ≡ None)
     by_last (inl last) = inl (ap value_in last ∙ shown_final seen.node seen h.ending.final)
     by_last (inr (gone, last, is)) = inr (ap value_in last ∙ ap (λ n. value_by n gone) is)
+
+-- a node of a segment of the cluster was written
+record HasBeen (w : State) (p : Partition) (q : Sequence) (seen : Seen) : Type 0 where
+  within : p.0 < w.setup.partitions
+  has : Has w.store.writes seen
+  is_of : seen.key ≡ node_key p q.0
+
+been_now : (w : State) (p : Partition) (q : Sequence) (seen : Seen) → p.0 < w.setup.partitions → node_of w p q ≡ Some seen → HasBeen w p q seen
+been_now w p q seen within is =
+    let has = last_write-Has w.store.writes (node_key p q.0) seen (value_of-last w.store.writes (node_key p q.0) seen is).0 in
+    record { within = within; has = has.0; is_of = has.1 }
+
+abbrev IsDeletedIn : State → Partition → Sequence → Type 0
+IsDeletedIn w p q = IsDeleted w.store.writes p q.0
+
+-- it is shown, the very one if it has ended; or none is, and it was deleted
+shows_later : (w : State) (p : Partition) (q : Sequence) (seen : Seen) (gone : Type 0) → IsSafeWorld w → HasBeen w p q seen → (IsDeletedIn w p q → gone)
+    → ShowsLater seen (node_of w p q) gone
+shows_later w p q seen gone safe been f = by_node (node_of w p q) refl
+  where
+    by_node : (o : Option Seen) → node_of w p q ≡ o → ShowsLater seen o gone
+    by_node None e = f (gone_deleted (starting_of w.setup) w.store.writes p safe.safe.past.lawful been.within q.0 seen e been.has been.is_of)
+    by_node (Some next) e = λ final.
+        by_place
+        (stays_or_gone w p q seen safe (record { within = been.within; ending = record { has = been.has; is_of = been.is_of; final = final } }))
+      where
+        by_place : (node_of w p q ≡ Some seen) ⊎ (node_of w p q ≡ None) → next ≡ seen
+        by_place (inl same) = same_Some next seen (sym e ∙ same)
+        by_place (inr none) = absurd (none-some next (sym none ∙ e))
+
+-- ---- in a later world
+
+module _ (w v : State) (turns : List Turn) (p : Partition) (q : Sequence) (safe : IsSafeWorld w) (led : Leads w turns v) where
+  abbrev goes : GoesOn w v
+  goes = leads_on w turns v safe led
+
+  within_later : p.0 < w.setup.partitions → p.0 < v.setup.partitions
+  within_later within = subst (λ (s : Setup). p.0 < s.partitions) (sym goes.setup) within
+
+  been_later : (seen : Seen) → HasBeen w p q seen → HasBeen v p q seen
+  been_later seen been = record {
+    within = within_later been.within;
+    has = Has-front w.store.writes v.store.writes seen goes.past.history been.has;
+    is_of = been.is_of;
+  }
+
+  deleted_later : IsDeletedIn w p q → IsDeletedIn v p q
+  deleted_later d = (d.0, Has-front w.store.writes v.store.writes d.0 goes.past.history d.1, d.2, d.3)
 
 -- ---- a line
 
@@ -118,17 +157,38 @@ abbrev shown_by : (lines : List NumberedLine) (g : Going) (turns : List Turn) (h
 shown_by [] g turns h texts run = []
 shown_by (first ∷ lines) g turns h texts run = seen_by (said_at g first) g.world ∷ shown_by lines run.between run.more h run.others run.then_others
 
-stays_over : (lines rest : List NumberedLine) (setup : Setup) (g : Going) (turns : List Turn) (h : Going) (texts : List (List ℕ)) (p : Partition) (q : Sequence) (seen : Seen)
-    → g.world.setup ≡ setup → IsSafeWorld g.world → HasEnded g.world p q seen → (run : RunAll lines g turns h texts)
-    → StayShown setup p q seen (lines ++ rest) (shown_by lines g turns h texts run)
-stays_over [] rest setup g turns h texts p q seen same safe ended run = tt
-stays_over (first ∷ lines) rest setup g turns h texts p q seen same safe ended run =
+abbrev same_line : (setup : Setup) (g : Going) (first : NumberedLine) → g.world.setup ≡ setup → said_at g first ≡ line_in setup first.1
+same_line setup g first same = ap (λ (s : Setup). line_in s first.1) same
+
+gone_over : (lines rest : List NumberedLine) (setup : Setup) (g : Going) (turns : List Turn) (h : Going) (texts : List (List ℕ)) (p : Partition) (q : Sequence)
+    → g.world.setup ≡ setup → IsSafeWorld g.world → p.0 < g.world.setup.partitions → IsDeletedIn g.world p q → (run : RunAll lines g turns h texts)
+    → StayGone setup p q (lines ++ rest) (shown_by lines g turns h texts run)
+gone_over [] rest setup g turns h texts p q same safe within deleted run = tt
+gone_over (first ∷ lines) rest setup g turns h texts p q same safe within deleted run =
     let keeps = line_keeps first g run.own run.between run.text safe run.first in
     let led = line_leads first g run.own run.between run.text run.first in (
-      λ said. subst (λ (o : Option Line). (seen_by o g.world ≡ Some seen) ⊎ (seen_by o g.world ≡ None))
-          (sym (ap (λ (s : Setup). line_in s first.1) same ∙ said)) (stays_or_gone g.world p q seen safe ended),
+      λ said. subst (λ (o : Option Line). seen_by o g.world ≡ None) (sym (same_line setup g first same ∙ said))
+          (deleted_gone (starting_of g.world.setup) g.world.store.writes p safe.safe.past.lawful within q.0 deleted),
+      gone_over lines rest setup run.between run.more h run.others p q (keeps.1 ∙ same) keeps.0
+          (within_later g.world run.between.world run.own p q safe led within) (deleted_later g.world run.between.world run.own p q safe led deleted) run.then_others,
+    )
+
+stays_over : (lines rest : List NumberedLine) (setup : Setup) (g : Going) (turns : List Turn) (h : Going) (texts : List (List ℕ)) (p : Partition) (q : Sequence) (seen : Seen)
+    → g.world.setup ≡ setup → IsSafeWorld g.world → HasBeen g.world p q seen → (run : RunAll lines g turns h texts)
+    → StayShown setup p q seen (lines ++ rest) (shown_by lines g turns h texts run)
+stays_over [] rest setup g turns h texts p q seen same safe been run = tt
+stays_over (first ∷ lines) rest setup g turns h texts p q seen same safe been run =
+    let keeps = line_keeps first g run.own run.between run.text safe run.first in
+    let led = line_leads first g run.own run.between run.text run.first in
+    let later = shown_by lines run.between run.more h run.others run.then_others in
+    let gone : Type 0 = StayGone setup p q (lines ++ rest) later in
+    let goes : IsDeletedIn g.world p q → gone =
+    λ deleted. gone_over lines rest setup run.between run.more h run.others p q (keeps.1 ∙ same) keeps.0
+    (within_later g.world run.between.world run.own p q safe led been.within) (deleted_later g.world run.between.world run.own p q safe led deleted) run.then_others in (
+      λ said. subst (λ (o : Option Line). ShowsLater seen (seen_by o g.world) gone) (sym (same_line setup g first same ∙ said))
+          (shows_later g.world p q seen gone safe been goes),
       stays_over lines rest setup run.between run.more h run.others p q seen (keeps.1 ∙ same) keeps.0
-          (ended_later g.world run.between.world run.own p q seen safe led ended) run.then_others,
+          (been_later g.world run.between.world run.own p q safe led seen been) run.then_others,
     )
 
 all_shown : (lines rest : List NumberedLine) (setup : Setup) (g : Going) (turns : List Turn) (h : Going) (texts : List (List ℕ)) → g.world.setup ≡ setup → IsSafeWorld g.world
@@ -137,19 +197,19 @@ all_shown [] rest setup g turns h texts same safe run = subst (λ (ts : List (Li
 all_shown (first ∷ lines) rest setup g turns h texts same safe run =
     let keeps = line_keeps first g run.own run.between run.text safe run.first in
     let led = line_leads first g run.own run.between run.text run.first in
-    let said : said_at g first ≡ line_in setup first.1 = ap (λ (s : Setup). line_in s first.1) same in
+    let said = same_line setup g first same in
     let seen = seen_by (said_at g first) g.world in
     let later = shown_by lines run.between run.more h run.others run.then_others in
-    let ends : EndsShown setup first seen (lines ++ rest) later =
-    λ p q node is shown final.
+    let stays : KeepsShown setup first seen (lines ++ rest) later =
+    λ p q node is shown.
     let own = said ∙ is in
     let here = shown_line p q g run.own run.between run.text (subst (λ (o : Option Line). Runs o g run.own run.between run.text) own run.first) in
-    let ended = ended_now g.world p q node here.1 (sym (ap (λ (o : Option Line). seen_by o g.world) own) ∙ shown) final in
+    let been = been_now g.world p q node here.1 (sym (ap (λ (o : Option Line). seen_by o g.world) own) ∙ shown) in
     stays_over lines rest setup run.between run.more h run.others p q node (keeps.1 ∙ same) keeps.0
-    (ended_later g.world run.between.world run.own p q node safe led ended) run.then_others in
+    (been_later g.world run.between.world run.own p q safe led node been) run.then_others in
     subst (λ (ts : List (List ℕ)). AllShown setup (first ∷ (lines ++ rest)) ts (seen ∷ later)) (sym run.whole) (
       subst (λ (o : Option Line). IsShown o run.text seen) said (is_shown (said_at g first) g run.own run.between run.text run.first),
-      ends,
+      stays,
       all_shown lines rest setup run.between run.more h run.others (keeps.1 ∙ same) keeps.0 run.then_others,
     )
 

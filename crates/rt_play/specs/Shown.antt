@@ -1,6 +1,6 @@
 -- What the report of a script tells of segments' nodes, by the script and the report alone: one that is shown DONE or abandoned stays as it
--- is, until it is gone.
-use Rattle.std.specs.Prelude.{◌≡◌, ◌⊎◌, ℕ, List, [], ◌∷◌, Option, None, Some}
+-- is, until it is gone; and one that is gone stays so.
+use Rattle.std.specs.Prelude.{◌≡◌, ℕ, List, [], ◌∷◌, Option, None, Some}
 use Rattle.rt_base.specs.declared.numbers.Partition.{Partition}
 use Rattle.rt_base.specs.declared.numbers.Sequence.{Sequence}
 use Rattle.rt_events.specs.declared.event.Event.TheVariants.{ShowMeta}
@@ -22,17 +22,30 @@ abbrev pub IsShown : Option Line → List ℕ → Option Seen → Type 0
 IsShown (Some (line.Event (ShowMeta partition sequence))) text seen = text ≡ shown_text (ShowMeta partition sequence) seen
 IsShown other text seen = Unit {0}
 
--- each of these lines that shows the segment's node shows this one, or none
+-- each of these lines that shows the segment's node shows none
+abbrev pub StayGone : Setup → Partition → Sequence → List NumberedLine → List (Option Seen) → Type 0
+StayGone setup partition sequence lines [] = Unit {0}
+StayGone setup partition sequence [] (seen ∷ later) = ⊥
+StayGone setup partition sequence (line ∷ lines) (seen ∷ later) =
+    (line_in setup line.1 ≡ shows partition sequence → seen ≡ None) × StayGone setup partition sequence lines later
+
+-- behind a node a node is shown, the very one if that was DONE or abandoned; or none, and then it is gone
+abbrev pub ShowsLater : Seen → Option Seen → Type 0 → Type 0
+ShowsLater node None gone = gone
+ShowsLater node (Some next) gone = IsFinal node.node → next ≡ node
+
+-- so it is of each of these lines that shows the segment's node
 abbrev pub StayShown : Setup → Partition → Sequence → Seen → List NumberedLine → List (Option Seen) → Type 0
 StayShown setup partition sequence node lines [] = Unit {0}
 StayShown setup partition sequence node [] (seen ∷ later) = ⊥
 StayShown setup partition sequence node (line ∷ lines) (seen ∷ later) =
-    (line_in setup line.1 ≡ shows partition sequence → (seen ≡ Some node) ⊎ (seen ≡ None)) × StayShown setup partition sequence node lines later
+    (line_in setup line.1 ≡ shows partition sequence → ShowsLater node seen (StayGone setup partition sequence lines later))
+    × StayShown setup partition sequence node lines later
 
--- a node that a line shows DONE or abandoned is the one that each later line shows, or it is gone
-abbrev pub EndsShown : Setup → NumberedLine → Option Seen → List NumberedLine → List (Option Seen) → Type 0
-EndsShown setup line seen lines later =
-    (partition : Partition) (sequence : Sequence) (node : Seen) → line_in setup line.1 ≡ shows partition sequence → seen ≡ Some node → IsFinal node.node
+-- and so behind a line that shows one
+abbrev pub KeepsShown : Setup → NumberedLine → Option Seen → List NumberedLine → List (Option Seen) → Type 0
+KeepsShown setup line seen lines later =
+    (partition : Partition) (sequence : Sequence) (node : Seen) → line_in setup line.1 ≡ shows partition sequence → seen ≡ Some node
     → StayShown setup partition sequence node lines later
 
 -- so it is of all lines, with what each of them shows
@@ -42,7 +55,7 @@ AllShown setup lines [] (seen ∷ later) = ⊥
 AllShown setup lines (text ∷ texts) [] = ⊥
 AllShown setup [] (text ∷ texts) (seen ∷ later) = ⊥
 AllShown setup (line ∷ lines) (text ∷ texts) (seen ∷ later) =
-    IsShown (line_in setup line.1) text seen × EndsShown setup line seen lines later × AllShown setup lines texts later
+    IsShown (line_in setup line.1) text seen × KeepsShown setup line seen lines later × AllShown setup lines texts later
 
 -- the texts of lines are those of nodes, of which this is true
 pub record EndedStays (setup : Setup) (lines : List NumberedLine) (texts : List (List ℕ)) : Type 0 where

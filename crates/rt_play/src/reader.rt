@@ -23,7 +23,8 @@ pub fn each_answer_counts_what_was_produced()
 {}
 
 /// A segment's node that a `show meta` line shows DONE or abandoned is the one that each later `show meta` line of that segment shows, until it
-/// is shown to be gone.
+/// is shown to be gone. And what is gone stays so: where such a line showed a node, whatever it said, and a later one none, no later one shows
+/// any.
 pub fn what_is_shown_to_have_ended_stays()
     ensures report { (input : List ℕ) (report : Report) (setup : Setup) (lines : List NumberedLine) → IsReport input report
         → header_of (script_lines input) ≡ Ok (setup, lines) → EndedStays setup lines report.texts }
