@@ -125,9 +125,6 @@ range_onto r xs =
     (append_assoc (decimal r.1.start.0) (codes "," ++ end) xs
     ∙ ap (λ t. decimal r.1.start.0 ++ 44 ∷ t) (append_assoc (decimal r.1.end.0) (codes "]") xs)))
 
-made_range : ℕ → ℕ → ℕ → Named
-made_range p a b = (record { 0 = p }, record { start = record { 0 = a }; end = record { 0 = b } })
-
 same_range : (r s : Named) (xs ys : List ℕ) → FitsRange r → FitsRange s → range_text r ++ xs ≡ range_text s ++ ys → (r ≡ s) × (xs ≡ ys)
 same_range r s xs ys k l e =
     let f = sym (range_onto r xs) ∙ e ∙ range_onto s ys in

@@ -5,7 +5,7 @@ use Rattle.rt_base.specs.Sink.{SinkMeaning}
 use Rattle.rt_base.specs.declared.which.Which.{Which}
 use Rattle.rt_desk.specs.declared.desk.Desk.{Desk}
 use Rattle.rt_lines.specs.Cluster.{cluster_fault, cluster_of}
-use Rattle.rt_lines.specs.Header.{NumberedLine, Reads, Says, TableSaid, header_of, if_well_formed, next_line, setup_at, setup_in, setup_with, tables_of, then_ok, with_rest}
+use Rattle.rt_lines.specs.Header.{NumberedLine, Reads, TableSaid, header_of, if_well_formed, next_line, setup_at, setup_in, setup_with, tables_of, then_ok, with_rest}
 use Rattle.rt_lines.specs.Lines.{ScriptLines, script_lines}
 use Rattle.rt_lines.specs.declared.play_fault.PlayFault.{PlayFault}
 use Rattle.rt_lines.specs.declared.play_fault.PlayFault.TheVariants.{Usage, Refused, ReadFault, WriteFault, Memory, Limit}
@@ -24,59 +24,6 @@ use Rattle.rt_state.specs.Start.{start}
 
 abbrev Read : Type 0
 Read = Result (Beginning × List NumberedLine) PlayFault
-
--- ---- what is read
-
--- the desk and the cluster, behind two lines that said this
-behind_is : (said : TableSaid) (script : ScriptLines) (desk : Desk) → desk_of said ≡ Ok desk → beginning_behind said script ≡ with_desk desk (setup_in said script)
-behind_is said script desk e = ap (λ d. then_ok d (λ x. with_desk x (setup_in said script))) e
-
-same_script : (old mid : ScriptLines) → mid.after ≡ old.after → record { lines = mid.lines; after = old.after } ≡ mid
-same_script old mid e = λ i. record { lines = mid.lines; after = sym e i }
-
-tables_are : (old mid : ScriptLines) (said : TableSaid) → tables_of old ≡ Ok (said, mid.lines) → mid.after ≡ old.after → beginning_of old ≡ beginning_behind said mid
-tables_are old mid said e after =
-    ap (λ t. then_ok t (λ x. beginning_behind x.0 (record { lines = x.1; after = old.after }))) e ∙ ap (beginning_behind said) (same_script old mid after)
-
-beginning_is : (old mid : ScriptLines) (said : TableSaid) (desk : Desk) → tables_of old ≡ Ok (said, mid.lines) → mid.after ≡ old.after → desk_of said ≡ Ok desk
-    → beginning_of old ≡ with_desk desk (setup_in said mid)
-beginning_is old mid said desk e after d = tables_are old mid said e after ∙ behind_is said mid desk d
-
-pub begins : (old mid new : ScriptLines) (said : TableSaid) (desk : Desk) (setup : Setup) → Reads (tables_of old) old mid (Ok said) → Says (desk_of said) (Ok desk)
-    → Reads (setup_in said mid) mid new (Ok setup) → Reads (beginning_of old) old new (Ok (record { setup = setup; desk = desk }))
-begins old mid new said desk setup t d c = (beginning_is old mid said desk t.0 t.1 d ∙ ap (with_desk desk) c.0, c.1 ∙ t.1)
-
--- the cluster line is refused
-pub cluster_stops : (fault : PlayFault) (old mid new : ScriptLines) (said : TableSaid) (desk : Desk) → Reads (tables_of old) old mid (Ok said) → Says (desk_of said) (Ok desk)
-    → Reads (setup_in said mid) mid new (Err fault) → Reads (beginning_of old) old new (Err fault)
-cluster_stops (Refused line reason) old mid new said desk t d c = beginning_is old mid said desk t.0 t.1 d ∙ ap (with_desk desk) c
-cluster_stops (Limit which) old mid new said desk t d c = beginning_is old mid said desk t.0 t.1 d ∙ ap (with_desk desk) c
-cluster_stops Memory old mid new said desk t d c = tt
-cluster_stops Usage old mid new said desk t d c = absurd c
-cluster_stops ReadFault old mid new said desk t d c = absurd c
-cluster_stops WriteFault old mid new said desk t d c = absurd c
-
--- the upsert settings are refused
-pub desk_stops : (fault : PlayFault) (old mid new : ScriptLines) (said : TableSaid) → Reads (tables_of old) old mid (Ok said) → Says (desk_of said) (Err fault)
-    → Reads (beginning_of old) old new (Err fault)
-desk_stops (Refused line reason) old mid new said t d = tables_are old mid said t.0 t.1 ∙ ap (λ x. then_ok x (λ desk. with_desk desk (setup_in said mid))) d
-desk_stops (Limit which) old mid new said t d = tables_are old mid said t.0 t.1 ∙ ap (λ x. then_ok x (λ desk. with_desk desk (setup_in said mid))) d
-desk_stops Memory old mid new said t d = tt
-desk_stops Usage old mid new said t d = absurd d
-desk_stops ReadFault old mid new said t d = absurd d
-desk_stops WriteFault old mid new said t d = absurd d
-
-abbrev behind : ScriptLines → TableSaid × List NumberedLine → Read
-behind old x = beginning_behind x.0 (record { lines = x.1; after = old.after })
-
--- one of the first two lines is refused
-pub tables_stop : (fault : PlayFault) (old mid new : ScriptLines) → Reads (tables_of old) old mid (Err fault) → Reads (beginning_of old) old new (Err fault)
-tables_stop (Refused line reason) old mid new t = ap (λ x. then_ok x (behind old)) t
-tables_stop (Limit which) old mid new t = ap (λ x. then_ok x (behind old)) t
-tables_stop Memory old mid new t = tt
-tables_stop Usage old mid new t = absurd t
-tables_stop ReadFault old mid new t = absurd t
-tables_stop WriteFault old mid new t = absurd t
 
 -- ---- a header that is taken
 

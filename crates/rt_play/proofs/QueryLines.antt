@@ -302,9 +302,6 @@ pub record PartFound (w : State) (p : Partition) (answer : Answer) : Type 0 wher
   pub lost : pieces ≡ None → Has answer.missing (p, None)
   pub whole : (xs : List AskedPiece) → pieces ≡ Some xs → ((s : Option Sequence) → Has answer.missing (p, s) → ⊥) → AllServed xs
 
-abbrev some_pieces : List AskedPiece → Option (List AskedPiece)
-some_pieces xs = Some xs
-
 found_at : {X : Type 0} (xs : List X) (i : ℕ) → i < length xs → (x : X) × (slice_get xs i ≡ Some x)
 found_at [] i lt = absurd (omega (arith, lt))
 found_at (x ∷ xs) zero lt = (x, refl)
