@@ -92,6 +92,8 @@ use Rattle.rt_state.specs.Nodes.{ServerDoesAt}
 use Rattle.rt_state.specs.Requests.{SendsAt}
 use Rattle.rt_state.specs.declared.state.State.{State}
 use Rattle.rt_store.specs.Meaning.{Told}
+use Rattle.rt_store.proofs.Told.{read_same}
+use Rattle.rt_commit.specs.Told.{store_after}
 use Rattle.rt_store.specs.Memory.{means}
 use Rattle.rt_stream.specs.Log.{Log}
 use Rattle.rt_unrefused.proofs.Answered.{delivers, delivery_leaves, job_leaves, job_steps, Behind as AnswersBehind, Delivers, IsAnswer}
@@ -105,14 +107,14 @@ use Rattle.rt_consumer.specs.declared.phase.Phase.{Phase}
 use Rattle.rt_consumer.specs.declared.phase.Phase.TheVariants as phase
 use Rattle.rt_consumer.specs.declared.stage.Stage.{Stage}
 use Rattle.rt_consumer.specs.declared.stage.Stage.TheVariants.{InitialConsuming, CatchingUp, Holding, ConsumingToOnline, Retaining, Building, Starting, Uploading, Ending}
-use Rattle.rt_controller.specs.Requests.{handle_call}
+use Rattle.rt_controller.specs.Requests.{Turn as Rule, not_leading, uploads, not_assigned, past_last, has_machine, has_none, call_of, handle_call, turn_of}
 use Rattle.rt_controller.specs.Working.{work_call}
 use Rattle.rt_controller.proofs.Telling.{told_request, told_work}
 use Rattle.rt_entry.specs.Transition.{is_open}
 use Rattle.rt_heal.proofs.LessWorld.{put_calm, put_up, IsPut}
 use Rattle.rt_calm.proofs.Keeping.{calm_still, can_follow, goes_on, keeps_then, step_grows, step_keeps, unplanned_after, IsGoing, KeepsOn}
 use Rattle.rt_calm.specs.Ahead.{ahead_in_world, ahead_of, ahead_servers}
-use Rattle.rt_calm.specs.Off.{IsPutOff, PutsOff}
+use Rattle.rt_calm.specs.Off.{IsPutOff, IsSuccess, IsTold, PutsOff, Succeeds}
 use Rattle.rt_calm.proofs.Fitting.{hands_out, Fits, HandsOut, Starts}
 use Rattle.rt_calm.proofs.Standing.{answer_falls}
 use Rattle.rt_calm.proofs.Sums.{put_falls, put_still}
@@ -239,6 +241,30 @@ delivery_plan w v m c o (cost, due, h) none = by_found (request_at w m) (slice_g
         by_answer (after_step w c n new store deep) what
         (ap (λ (t : Told). t.faults.plan) x.store ∙ unplanned_after w.store (handle_call n.controller q) none) is
 
+-- the call of a request writes nothing
+call_writes : (t : Told) (r : Request) (rule : Rule) → (store_after t (call_of r rule)).writes ≡ t.writes
+call_writes t r not_leading = refl
+call_writes t r (uploads path bytes) = refl
+call_writes t r not_assigned = refl
+call_writes t r past_last = refl
+call_writes t r (has_machine place what) = refl
+call_writes t r (has_none what) = read_same t
+
+delivery_writes : (w v : State) (m : ℕ) (c : ControllerId) (o : Outcome) → Steps w (event.Deliver m c) v (Ok o) → v.store.writes ≡ w.store.writes
+delivery_writes w v m c o (cost, due, h) = by_found (request_at w m) (slice_get w.controllers c.0) h
+  where
+    by_answer : (z : State) (what : Handled) → z.store.writes ≡ w.store.writes → (v, o) ≡ handed z cost what → v.store.writes ≡ w.store.writes
+    by_answer z (handled.Reply y) same is = ap (λ (n : Next). n.0.store.writes) is ∙ same
+    by_answer z (handled.Job j) same is = ap (λ (n : Next). n.0.store.writes) is ∙ same
+
+    by_found : (q : Option Request) (n : Option ControllerNode) → DeliversAt q n w c cost (v, o) → v.store.writes ≡ w.store.writes
+    by_found None n h = absurd h
+    by_found (Some q) None h = absurd h
+    by_found (Some q) (Some n) (new, what, store, deep, handles, is) =
+        let x = told_request w.store store w.deep deep n.controller q w.moment (record { controller = new; handled = what }) handles in
+        by_answer (after_step w c n new store deep) what
+        (ap (λ (t : Told). t.writes) x.store ∙ call_writes w.store q (turn_of n.controller q)) is
+
 job_plan : (w v : State) (c : ControllerId) (j : ℕ) (o : Outcome) → Steps w (event.Job c j) v (Ok o) → w.store.faults.plan ≡ [] → v.store.faults.plan ≡ []
 job_plan w v c j o steps none =
     let did = own_step w v c j o steps in
@@ -352,10 +378,27 @@ job_fits h p t rose n x (kind.Consumed reason) from s starts so success = absurd
 job_fits h p t rose n x kind.CommitStart from s starts so success = absurd starts
 job_fits h p t rose n x (kind.Upload path bytes) from s starts so success = absurd starts
 
+-- a job's answer puts off, or is a success
+abbrev OffOrSuccess : ReplyStatus → Type 0
+OffOrSuccess s = IsPutOff s ⊎ IsSuccess s
+
+job_status : (h : List Seen) (p : Partition) (t : Sequence) (rose : Type 0) (b : Bool) (n : StepName) (s : ReplyStatus) → StatusSo h p t rose b n s → OffOrSuccess s
+job_status h p t rose b n (status.CommitSuccess seen) so = inr tt
+job_status h p t rose b n status.Processed so = inr tt
+job_status h p t rose b n (status.Failed cause) so = inl tt
+job_status h p t rose b n (status.Keep seen) so = absurd so
+job_status h p t rose b n (status.UploadSuccess shown) so = absurd so
+job_status h p t rose b n status.Hold so = absurd so
+job_status h p t rose b n (status.CatchUp o) so = absurd so
+job_status h p t rose b n status.Discard so = absurd so
+job_status h p t rose b n (status.Commit o) so = absurd so
+job_status h p t rose b n status.NotLeader so = absurd so
+job_status h p t rose b n status.CommitContinue so = absurd so
+
 -- behind a step it goes on, or it has answered so
 abbrev Behind : State → ControllerId → ℕ → Request → Option Replied → Type 0
 Behind y c j q None = IsOpenFor y c j q
-Behind y c j q (Some r) = IsAnswer y (asked_of q) r × Fits q.offset q.kind r.status
+Behind y c j q (Some r) = IsAnswer y (asked_of q) r × Fits q.offset q.kind r.status × OffOrSuccess r.status
 
 no_ending : (message : Option ℕ) → ending message None ≡ None
 no_ending None = refl
@@ -415,6 +458,7 @@ step_behind z y c j q o safe is steps =
               (λ seen ends told.
               success reply replies seen
               (done_so did.store.writes its.job.asked.partition its.job.asked.sequence did.did.step (commits its.job.stage) reply.status seen so told) ends told),
+          job_status did.store.writes its.job.asked.partition its.job.asked.sequence Rose (commits its.job.stage) did.did.step reply.status so,
         )
 
 -- ---- a delivery
@@ -510,6 +554,7 @@ record HasAnswered (u : State) (q : Request) (v : Reached) (r : Replied) : Type 
   asking : IsAsking u v.world
   answer : IsAnswer v.world (asked_of q) r
   fits : Fits q.offset q.kind r.status
+  wrote : (v.world.store.writes ≡ u.store.writes) ⊎ OffOrSuccess r.status
   tells : Tells v r
 
 module _ (u : State) (c : ControllerId) (q : Request) where
@@ -523,6 +568,7 @@ module _ (u : State) (c : ControllerId) (q : Request) where
         asking = subst (IsAsking u) (sym at) k.asking;
         answer = subst (λ (x : State). IsAnswer x (asked_of q) r) (sym at) k.answer;
         fits = k.fits;
+        wrote = subst (λ (x : State). (x.store.writes ≡ u.store.writes) ⊎ OffOrSuccess r.status) (sym at) k.wrote;
         tells = tells_behind b l v r whole k.tells;
       }
 
@@ -572,6 +618,7 @@ module _ (u : State) (c : ControllerId) (q : Request) where
             asking = subst (IsAsking u) (sym end) on;
             answer = subst (λ (y : State). IsAnswer y (asked_of q) x) (sym (end ∙ at)) own.0;
             fits = own.1;
+            wrote = inr own.2;
             tells = tells_first t.between l v x whole (tells_first s.between s.last t.between x s.whole in_turn);
           })
 
@@ -599,6 +646,7 @@ module _ (u : State) (c : ControllerId) (q : Request) where
             asking = subst (IsAsking u) (sym end) on;
             answer = subst (λ (y : State). IsAnswer y (asked_of q) x) (sym end) so.0;
             fits = so.1;
+            wrote = inl (ap (λ (y : State). y.store.writes) end ∙ delivery_writes u t.between.world m c t.told t.came.by.0);
             tells =
                 tells_first t.between l v x whole
                 (record {
@@ -665,42 +713,56 @@ takes z y m o i p q node r reply there place of_p of_q stands found (cost, due, 
 abbrev pub OffOrLess : State → Reached → Type 0
 OffOrLess w v = PutsOff v ⊎ (ahead_in_world v.world < ahead_in_world w)
 
+pub told_first : (P : ReplyStatus → Type 0) (b l v : Reached) → v ≡ after b.turns l → IsTold P b → IsTold P v
+told_first P b l v whole x =
+    let t = tells_first b l v x.answer whole (record { event = x.event; outcome = x.outcome; has = x.has; told = x.told }) in
+    record { event = t.event; outcome = t.outcome; has = t.has; answer = x.answer; told = t.told; so = x.so }
+
+pub told_behind : (P : ReplyStatus → Type 0) (b l v : Reached) → v ≡ after b.turns l → IsTold P l → IsTold P v
+told_behind P b l v whole x =
+    let t = tells_behind b l v x.answer whole (record { event = x.event; outcome = x.outcome; has = x.has; told = x.told }) in
+    record { event = t.event; outcome = t.outcome; has = t.has; answer = x.answer; told = t.told; so = x.so }
+
+-- nothing was written, or the answer is one of a job
+abbrev pub Wrote : State → Reached → Type 0
+Wrote w v = (v.world.store.writes ≡ w.store.writes) ⊎ PutsOff v ⊎ Succeeds v
+
 -- and the run goes on
 pub record HasExchanged (w : State) (v : Reached) : Type 0 where
   pub on : KeepsOn w v.world
   pub less : OffOrLess w v
-
-pub off_first : (b l v : Reached) → v ≡ after b.turns l → PutsOff b → PutsOff v
-off_first b l v whole off =
-    let t = tells_first b l v off.answer whole (record { event = off.event; outcome = off.outcome; has = off.has; told = off.told }) in
-    record { event = t.event; outcome = t.outcome; has = t.has; answer = off.answer; told = t.told; off = off.off }
-
-pub off_behind : (b l v : Reached) → v ≡ after b.turns l → PutsOff l → PutsOff v
-off_behind b l v whole off =
-    let t = tells_behind b l v off.answer whole (record { event = off.event; outcome = off.outcome; has = off.has; told = off.told }) in
-    record { event = t.event; outcome = t.outcome; has = t.has; answer = off.answer; told = t.told; off = off.off }
+  pub wrote : Wrote w v
 
 pub exchanged_behind : (w : State) (b l v : Reached) → v ≡ after b.turns l → HasExchanged w l → HasExchanged w v
-exchanged_behind w b l v whole x =
-    record { on = subst (KeepsOn w) (sym at) x.on; less = by_way x.less }
+exchanged_behind w b l v whole x = record { on = subst (KeepsOn w) (sym at) x.on; less = by_less x.less; wrote = by_wrote x.wrote }
   where
     at : v.world ≡ l.world
     at = ap (λ (y : Reached). y.world) whole
 
-    by_way : OffOrLess w l → OffOrLess w v
-    by_way (inl off) = inl (off_behind b l v whole off)
-    by_way (inr less) = inr (subst (λ (y : State). ahead_in_world y < ahead_in_world w) (sym at) less)
+    by_less : OffOrLess w l → OffOrLess w v
+    by_less (inl off) = inl (told_behind IsPutOff b l v whole off)
+    by_less (inr less) = inr (subst (λ (y : State). ahead_in_world y < ahead_in_world w) (sym at) less)
+
+    by_wrote : Wrote w l → Wrote w v
+    by_wrote (inl same) = inl (ap (λ (y : State). y.store.writes) at ∙ same)
+    by_wrote (inr (inl off)) = inr (inl (told_behind IsPutOff b l v whole off))
+    by_wrote (inr (inr done)) = inr (inr (told_behind IsSuccess b l v whole done))
 
 -- nothing comes behind it
 pub exchanged_before : (w : State) (b l : Reached) → l ≡ after b.turns (stays b.world) → HasExchanged w b → HasExchanged w l
-exchanged_before w b l whole x = record { on = subst (KeepsOn w) (sym at) x.on; less = by_way x.less }
+exchanged_before w b l whole x = record { on = subst (KeepsOn w) (sym at) x.on; less = by_less x.less; wrote = by_wrote x.wrote }
   where
     at : l.world ≡ b.world
     at = ap (λ (y : Reached). y.world) whole
 
-    by_way : OffOrLess w b → OffOrLess w l
-    by_way (inl off) = inl (off_first b (stays b.world) l whole off)
-    by_way (inr less) = inr (subst (λ (y : State). ahead_in_world y < ahead_in_world w) (sym at) less)
+    by_less : OffOrLess w b → OffOrLess w l
+    by_less (inl off) = inl (told_first IsPutOff b (stays b.world) l whole off)
+    by_less (inr less) = inr (subst (λ (y : State). ahead_in_world y < ahead_in_world w) (sym at) less)
+
+    by_wrote : Wrote w b → Wrote w l
+    by_wrote (inl same) = inl (ap (λ (y : State). y.store.writes) at ∙ same)
+    by_wrote (inr (inl off)) = inr (inl (told_first IsPutOff b (stays b.world) l whole off))
+    by_wrote (inr (inr done)) = inr (inr (told_first IsSuccess b (stays b.world) l whole done))
 
 -- a replica that asks isn't told of a commit yet
 asks_open_at : (name : List ℕ) (number : RequestNumber) (stage : Stage) (k : RequestKind) → kind_at name number stage ≡ Some k
@@ -819,11 +881,23 @@ module _ (w u : State) (i : Instance) (p : Partition) (q : Sequence) (request : 
         t : IsThen (Happens (event.Reply r.message)) (λ outcome. AfterReply m r (state_in outcome)) b.world l x
         t = then_parts (Happens (event.Reply r.message)) (λ outcome. AfterReply m r (state_in outcome)) b.world l x h
 
+        -- so it is told among all the turns
+        is_told : (P : ReplyStatus → Type 0) → P r.status → IsTold P v
+        is_told P so =
+            let told = tells_first b l v r whole k.tells in
+            record { event = told.event; outcome = told.outcome; has = told.has; answer = r; told = told.told; so = so }
+
+        wrote_so : (b.world.store.writes ≡ u.store.writes) ⊎ OffOrSuccess r.status → v.world ≡ t.between.world → Wrote w v
+        wrote_so (inl same) e =
+            inl
+            (ap (λ (y : State). y.store.writes) e
+            ∙ ap (λ (y : Told). y.writes) (taken t.between.world t.told t.came.by.0).store ∙ same ∙ ap (λ (y : Told). y.writes) asked.store)
+        wrote_so (inr (inl off)) e = inr (inl (is_told IsPutOff off))
+        wrote_so (inr (inr done)) e = inr (inr (is_told IsSuccess done))
+
         by_less : (y : State) → IsPutOff r.status ⊎ (ahead_in_world t.between.world < ahead_in_world w) → y ≡ t.between.world
             → PutsOff v ⊎ (ahead_in_world y < ahead_in_world w)
-        by_less y (inl off) e =
-            let told = tells_first b l v r whole k.tells in
-            inl (record { event = told.event; outcome = told.outcome; has = told.has; answer = r; told = told.told; off = off })
+        by_less y (inl off) e = inl (is_told IsPutOff off)
         by_less y (inr less) e = inr (subst (λ (z : State). ahead_in_world z < ahead_in_world w) (sym e) less)
 
         by_state : (o : Option ReplicaState) → AfterReply m r o t.between.world t.last (Ok x) → HasExchanged w v
@@ -836,6 +910,7 @@ module _ (w u : State) (i : Instance) (p : Partition) (q : Sequence) (request : 
             record {
               on = subst (KeepsOn w) (sym end) kept;
               less = by_less v.world (taken_less t.between.world t.told t.came.by.0) end;
+              wrote = wrote_so k.wrote end;
             }
 
 -- a request that was sent is answered, and the answer taken

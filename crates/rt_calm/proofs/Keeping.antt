@@ -1,5 +1,5 @@
 -- What turns leave as they go on: the log, a history that has grown, and a steady world where nothing was written.
-use Rattle.std.proofs.Common.{◌≡◌, ◌⊎◌, inl, inr, List, [], ◌∷◌, ◌++◌, length, Ok, refl, sym, ◌∙◌, ap, subst, arith, slice_get}
+use Rattle.std.proofs.Common.{◌≡◌, List, [], ◌∷◌, ◌++◌, length, Ok, refl, sym, ◌∙◌, ap, subst, arith, slice_get}
 use Rattle.std.proofs.lemmas.List.{append-nil, length-append}
 use Rattle.rt_commit.specs.Calls.{Call, calls_nothing, creates, gets, puts, reads, sets}
 use Rattle.rt_commit.specs.Told.{store_after}
@@ -23,7 +23,6 @@ use Rattle.rt_heal.proofs.Dropped.{leads_told, IsToldRightly}
 use Rattle.rt_heal.proofs.Following.{all_follow}
 use Rattle.rt_heal.proofs.LessRounds.{IsSteady}
 use Rattle.rt_heal.proofs.Seeing.{plan_met}
-use Rattle.rt_calm.specs.Writes.{HasWritten}
 
 -- ---- worlds of a run
 
@@ -61,14 +60,6 @@ middle_same a b c f g same =
         let first = ap (λ xs. length xs) f.1 ∙ length-append a f.0 in
         let second = ap (λ xs. length xs) g.1 ∙ length-append b g.0 in
         omega (arith, first, second, ap (λ xs. length xs) same)
-
--- it has grown, or is the same
-pub grown_cases : (w v : State) → IsFront w.store.writes v.store.writes → (v.store.writes ≡ w.store.writes) ⊎ HasWritten w v
-grown_cases w v f = by_more f.0 f.1
-  where
-    by_more : (more : List Seen) → v.store.writes ≡ w.store.writes ++ more → (v.store.writes ≡ w.store.writes) ⊎ HasWritten w v
-    by_more [] is = inl (is ∙ append-nil w.store.writes)
-    by_more (x ∷ xs) is = inr (record { first = x; rest = xs; is = is })
 
 -- no call plans a fault of the store
 pub unplanned_after : (t : Told) (call : Call) → t.faults.plan ≡ [] → (store_after t call).faults.plan ≡ []

@@ -1,5 +1,5 @@
 -- A round puts a replica off, or leaves less ahead if anything happened in it.
-use Rattle.std.proofs.Common.{◌≡◌, ◌⊎◌, inl, inr, ℕ, zero, suc, ◌+◌, ◌<◌, ◌≤◌, Bool, true, false, not, List, [], ◌∷◌, Option, Some, None, Result, Ok, Err, refl, sym, ◌∙◌, ap, subst, arith, ◌++◌, append_assoc, length}
+use Rattle.std.proofs.Common.{◌≡◌, ◌⊎◌, inl, inr, ℕ, zero, suc, ◌+◌, ◌<◌, ◌≤◌, Bool, true, false, not, List, [], ◌∷◌, Option, Some, None, Result, Ok, Err, refl, sym, ◌∙◌, ap, subst, arith, length}
 use Rattle.std.proofs.lemmas.Bool.{and_parts, false≢true}
 use Rattle.rt_base.specs.declared.numbers.ControllerId.{ControllerId}
 use Rattle.rt_base.specs.declared.numbers.Instance.{Instance}
@@ -16,6 +16,7 @@ use Rattle.rt_model.specs.Setup.{IsSetup}
 use Rattle.rt_model.specs.declared.setup.Setup.{Setup}
 use Rattle.rt_nodes.specs.declared.server_node.ServerNode.{ServerNode}
 use Rattle.rt_server.specs.Table.{ServerState, segment_of, Segment}
+use Rattle.rt_store.specs.Meaning.{Told}
 use Rattle.rt_stream.specs.Log.{Log, messages_of}
 use Rattle.rt_safety.proofs.Later.{runs_are_safe}
 use Rattle.rt_safety.specs.Runs.{Runs, Turn}
@@ -45,58 +46,83 @@ use Rattle.rt_model.specs.declared.ideal_state.IdealEntry.{IdealEntry}
 use Rattle.rt_model.specs.declared.node.Seen.{Seen}
 use Rattle.rt_heal.proofs.Calming.{servers_calmed, HasCalmed}
 use Rattle.rt_heal.proofs.Most.{asked_sum, calm_sum, own_segment, servers_sum, table_sum}
-use Rattle.rt_calm.proofs.Keeping.{can_follow, goes_on, grown_cases, keeps_still, keeps_then, step_grows, IsGoing, KeepsOn}
-use Rattle.rt_calm.specs.Writes.{HasWritten, WritesInRound}
+use Rattle.rt_calm.proofs.Keeping.{can_follow, goes_on, keeps_still, keeps_then, step_grows, IsGoing, KeepsOn}
 use Rattle.rt_calm.specs.Ahead.{ahead_in_world, ahead_servers, ahead_table, ahead_at, ahead_entry, ahead_in, most_ahead, most_ahead_of, stop_ahead}
-use Rattle.rt_calm.specs.Off.{PutsOff}
-use Rattle.rt_calm.proofs.Exchanged.{exchanged_before, exchanged_behind, finishes, off_behind, off_first, HasExchanged, OffOrLess}
+use Rattle.rt_calm.specs.Off.{IsPutOff, IsSuccess, PutsOff, Succeeds}
+use Rattle.rt_calm.proofs.Exchanged.{exchanged_before, exchanged_behind, finishes, told_behind, told_first, HasExchanged, OffOrLess, Wrote}
 use Rattle.rt_calm.proofs.Standing.{batch_falls, build_falls}
 use Rattle.rt_calm.proofs.Sums.{put_falls}
 
--- no more lies ahead, and less if it is told that something happened and wasn't before
-pub record HasFallen (w : State) (busy : Bool) (v : State) (told : Bool) : Type 0 where
-  pub on : KeepsOn w v
-  pub most : ahead_in_world v ≤ ahead_in_world w
-  pub less : told ≡ true → (busy ≡ true) ⊎ (ahead_in_world v < ahead_in_world w)
+-- no more lies ahead, and less if it is told that something happened and wasn't before; and a history that grew goes with a success
+pub record HasFallen (w : State) (busy : Bool) (v : Reached) (told : Bool) : Type 0 where
+  pub on : KeepsOn w v.world
+  pub most : ahead_in_world v.world ≤ ahead_in_world w
+  pub less : told ≡ true → (busy ≡ true) ⊎ (ahead_in_world v.world < ahead_in_world w)
+  pub wrote : (v.world.store.writes ≡ w.store.writes) ⊎ Succeeds v
 
 -- a replica is put off, or no more lies ahead
 abbrev pub OffOrFallen : State → Bool → Reached → Bool → Type 0
-OffOrFallen w busy v told = PutsOff v ⊎ HasFallen w busy v.world told
+OffOrFallen w busy v told = PutsOff v ⊎ HasFallen w busy v told
 
 abbrev pub Falls : (Bool → Act Bool) → Type 0
 Falls act = (busy : Bool) (w : State) (v : Reached) (told : Bool) → IsGoing w → act busy w v (Ok told) → OffOrFallen w busy v told
 
 -- nothing happened
+nothing_fell : (w : State) (busy : Bool) (v : Reached) (told : Bool) → IsGoing w → v.world ≡ w → told ≡ busy → HasFallen w busy v told
+nothing_fell w busy v told k same e =
+    record {
+      on = subst (KeepsOn w) (sym same) (keeps_still w k);
+      most = omega (arith, ap ahead_in_world same);
+      less = λ t. inl (sym e ∙ t);
+      wrote = inl (ap (λ (x : State). x.store.writes) same);
+    }
+
 rests : (w : State) (busy : Bool) (v : Reached) (told : Bool) → IsGoing w → v ≡ stays w → told ≡ busy → OffOrFallen w busy v told
-rests w busy v told k same e =
-    inr (subst (λ (x : Reached). HasFallen w busy x.world told) (sym same) (record { on = keeps_still w k; most = omega arith; less = λ t. inl (sym e ∙ t) }))
+rests w busy v told k same e = inr (nothing_fell w busy v told k (ap (λ (x : Reached). x.world) same) e)
 
 -- something happened, by which less lies ahead
-falls_by : (w y : State) (busy : Bool) (v : Reached) (told : Bool) → KeepsOn w y → ahead_in_world y < ahead_in_world w → v.world ≡ y → HasFallen w busy v.world told
-falls_by w y busy v told k lt end =
-    subst (λ (z : State). HasFallen w busy z told) (sym end) (record { on = k; most = omega (arith, lt); less = λ t. inr lt })
+falls_by : (w : State) (busy : Bool) (v : Reached) (told : Bool) → KeepsOn w v.world → ahead_in_world v.world < ahead_in_world w
+    → (v.world.store.writes ≡ w.store.writes) ⊎ Succeeds v → HasFallen w busy v told
+falls_by w busy v told k lt wrote = record { on = k; most = omega (arith, lt); less = λ t. inr lt; wrote = wrote }
 
-two_fall : (w m v : State) (busy mid told : Bool) → HasFallen w busy m mid → HasFallen m mid v told → HasFallen w busy v told
-two_fall w m v busy mid told x y =
-    record { on = keeps_then w m v x.on y.on; most = omega (arith, x.most, y.most); less = λ t. by_second (y.less t) }
+two_fall : (w : State) (b l v : Reached) (busy mid told : Bool) → v ≡ after b.turns l → HasFallen w busy b mid → HasFallen b.world mid l told
+    → HasFallen w busy v told
+two_fall w b l v busy mid told whole x y =
+    record {
+      on = subst (KeepsOn w) (sym at) (keeps_then w b.world l.world x.on y.on);
+      most = omega (arith, x.most, y.most, same);
+      less = λ t. by_second (y.less t);
+      wrote = by_wrote x.wrote y.wrote;
+    }
   where
-    by_first : (busy ≡ true) ⊎ (ahead_in_world m < ahead_in_world w) → (busy ≡ true) ⊎ (ahead_in_world v < ahead_in_world w)
-    by_first (inl e) = inl e
-    by_first (inr lt) = inr (omega (arith, lt, y.most))
+    at : v.world ≡ l.world
+    at = ap (λ (z : Reached). z.world) whole
 
-    by_second : (mid ≡ true) ⊎ (ahead_in_world v < ahead_in_world m) → (busy ≡ true) ⊎ (ahead_in_world v < ahead_in_world w)
+    same : ahead_in_world v.world ≡ ahead_in_world l.world
+    same = ap ahead_in_world at
+
+    by_first : (busy ≡ true) ⊎ (ahead_in_world b.world < ahead_in_world w) → (busy ≡ true) ⊎ (ahead_in_world v.world < ahead_in_world w)
+    by_first (inl e) = inl e
+    by_first (inr lt) = inr (omega (arith, lt, y.most, same))
+
+    by_second : (mid ≡ true) ⊎ (ahead_in_world l.world < ahead_in_world b.world) → (busy ≡ true) ⊎ (ahead_in_world v.world < ahead_in_world w)
     by_second (inl e) = by_first (x.less e)
-    by_second (inr lt) = inr (omega (arith, lt, x.most))
+    by_second (inr lt) = inr (omega (arith, lt, x.most, same))
+
+    by_wrote : (b.world.store.writes ≡ w.store.writes) ⊎ Succeeds b → (l.world.store.writes ≡ b.world.store.writes) ⊎ Succeeds l
+        → (v.world.store.writes ≡ w.store.writes) ⊎ Succeeds v
+    by_wrote (inr done) other = inr (told_first IsSuccess b l v whole done)
+    by_wrote (inl first) (inr done) = inr (told_behind IsSuccess b l v whole done)
+    by_wrote (inl first) (inl second) = inl (ap (λ (z : State). z.store.writes) at ∙ second ∙ first)
 
 pub then_fall : (w : State) (b l v : Reached) (busy mid told : Bool) → v ≡ after b.turns l → OffOrFallen w busy b mid
     → (IsGoing b.world → OffOrFallen b.world mid l told) → OffOrFallen w busy v told
-then_fall w b l v busy mid told whole (inl off) more = inl (off_first b l v whole off)
+then_fall w b l v busy mid told whole (inl off) more = inl (told_first IsPutOff b l v whole off)
 then_fall w b l v busy mid told whole (inr x) more = by_more (more x.on.going)
   where
     by_more : OffOrFallen b.world mid l told → OffOrFallen w busy v told
-    by_more (inl off) = inl (off_behind b l v whole off)
-    by_more (inr y) =
-        inr (subst (λ (z : State). HasFallen w busy z told) (sym (ap (λ (z : Reached). z.world) whole)) (two_fall w b.world l.world busy mid told x y))
+    by_more (inl off) = inl (told_behind IsPutOff b l v whole off)
+    by_more (inr y) = inr (two_fall w b l v busy mid told whole x y)
 
 -- ---- several turns
 
@@ -119,21 +145,23 @@ from_falls act f first (suc count) busy w v told k h =
 
 -- ---- an event
 
+-- a step that writes nothing, and leaves less ahead
+abbrev StepFalls : State → State → Type 0
+StepFalls w y = KeepsOn w y × (ahead_in_world y < ahead_in_world w) × (y.store.writes ≡ w.store.writes)
+
 attempt_falls : (e : Event) (busy : Bool) (w : State) (v : Reached) (told : Bool) → IsGoing w
-    → ((y : State) (o : Outcome) → Steps w e y (Ok o) → KeepsOn w y × (ahead_in_world y < ahead_in_world w)) → Attempted e busy w v (Ok told)
-    → OffOrFallen w busy v told
+    → ((y : State) (o : Outcome) → Steps w e y (Ok o) → StepFalls w y) → Attempted e busy w v (Ok told) → OffOrFallen w busy v told
 attempt_falls e busy w v told k step t = by_told t.between t.told t.last t.came.by t.further t.whole
   where
     by_told : (b : Reached) (r : Result Outcome Refusal) (l : Reached) → HappensBy e w b r → AttemptedBy busy r b.world l (Ok told) → v ≡ after b.turns l
         → OffOrFallen w busy v told
     by_told b (Ok o) l by further whole =
-        let x = step b.world o by.0 in
-        inr (falls_by w b.world busy v told x.0 x.1 (ap (λ (z : Reached). z.world) whole ∙ ap (λ (z : Reached). z.world) further.0))
+        let x = subst (StepFalls w) (sym (ap (λ (z : Reached). z.world) whole ∙ ap (λ (z : Reached). z.world) further.0)) (step b.world o by.0) in
+        inr (falls_by w busy v told x.0 x.1 (inl x.2))
     by_told b (Err NothingToDo) l by further whole =
         let end : v.world ≡ w =
         ap (λ (z : Reached). z.world) whole ∙ ap (λ (z : Reached). z.world) further.0 ∙ ap (λ (z : Reached). z.world) by.1 in
-        inr (subst (λ (z : State). HasFallen w busy z told) (sym end)
-        (record { on = keeps_still w k; most = omega arith; less = λ t. inl (sym (told_same told busy further.1) ∙ t) }))
+        inr (nothing_fell w busy v told k end (told_same told busy further.1))
     by_told b (Err NoSuchMessage) l by further whole = absurd (told_not told NoSuchMessage further.1)
     by_told b (Err NoSuchNode) l by further whole = absurd (told_not told NoSuchNode further.1)
     by_told b (Err NodeDown) l by further whole = absurd (told_not told NodeDown further.1)
@@ -161,31 +189,37 @@ consume_falls paused i s busy w v told k h = by_test (may_consume paused w i s) 
         let ready = (and_parts (is_ready_at w i s.0 s.1) (not (waits_in w paused i s.0 s.1)) e).0 in
         attempt_falls (Consume i s.0 s.1 BATCH) busy w v told k
         (λ y o step.
-        let m = consumes_made w y i s.0 s.1 o k.safe (can_follow w k) BATCH (omega arith) ready step in (
-          less_keeps w y (Consume i s.0 s.1 BATCH) o k tt step (consumes_less w y i s.0 s.1 o k.safe (can_follow w k) BATCH (omega arith) ready step),
+        let m = consumes_made w y i s.0 s.1 o k.safe (can_follow w k) BATCH (omega arith) ready step in
+        let l = consumes_less w y i s.0 s.1 o k.safe (can_follow w k) BATCH (omega arith) ready step in (
+          less_keeps w y (Consume i s.0 s.1 BATCH) o k tt step l,
           put_falls w y i.0 m.node m.new s.0 s.1 m.replica m.next
               (record { there = m.there; found = m.found; table = m.table; servers = m.servers; log = m.log })
               (batch_falls m.replica w.log w.moment BATCH m.next m.is.phase m.follows m.made.0 m.made.1),
+          ap (λ (t : Told). t.writes) l.store,
         )) t
 
 build_turn_falls : (i : Instance) (s : SegmentAt) → Falls (BuildTurn i s)
 build_turn_falls i s busy w v told k t =
     attempt_falls (Build i s.0 s.1) busy w v told k
     (λ y o step.
-    let m = builds_made w y i s.0 s.1 o k.safe (can_follow w k) step in (
-      less_keeps w y (Build i s.0 s.1) o k tt step (builds_less w y i s.0 s.1 o k.safe (can_follow w k) step),
+    let m = builds_made w y i s.0 s.1 o k.safe (can_follow w k) step in
+    let l = builds_less w y i s.0 s.1 o k.safe (can_follow w k) step in (
+      less_keeps w y (Build i s.0 s.1) o k tt step l,
       put_falls w y i.0 m.node m.new s.0 s.1 m.replica m.next
           (record { there = m.there; found = m.found; table = m.table; servers = m.servers; log = m.log }) (build_falls m.replica m.next w.log m.made),
+      ap (λ (t : Told). t.writes) l.store,
     )) t
 
 -- ---- an exchange
 
 exchanged_falls : (w : State) (busy : Bool) (v : Reached) (told : Bool) → HasExchanged w v → OffOrFallen w busy v told
-exchanged_falls w busy v told x = by_way x.less
+exchanged_falls w busy v told x = by_way x.less x.wrote
   where
-    by_way : OffOrLess w v → OffOrFallen w busy v told
-    by_way (inl off) = inl off
-    by_way (inr less) = inr (falls_by w v.world busy v told x.on less refl)
+    by_way : OffOrLess w v → Wrote w v → OffOrFallen w busy v told
+    by_way (inl off) wrote = inl off
+    by_way (inr less) (inl same) = inr (falls_by w busy v told x.on less (inl same))
+    by_way (inr less) (inr (inl off)) = inl off
+    by_way (inr less) (inr (inr done)) = inr (falls_by w busy v told x.on less (inr done))
 
 requests_fall : (i : Instance) (s : SegmentAt) (c : ControllerId) (busy : Bool) (w : State) (v : Reached) (told : Bool) → IsGoing w
     → Requests i s c busy w v (Ok told) → OffOrFallen w busy v told
@@ -201,8 +235,7 @@ requests_fall i s c busy w v told k t = by_told t.between t.told t.last t.came.b
     by_told b (Err NothingToDo) l by further whole =
         let end : v.world ≡ w =
         ap (λ (z : Reached). z.world) whole ∙ ap (λ (z : Reached). z.world) further.0 ∙ ap (λ (z : Reached). z.world) by.1 in
-        inr (subst (λ (z : State). HasFallen w busy z told) (sym end)
-        (record { on = keeps_still w k; most = omega arith; less = λ t. inl (sym (told_same told busy further.1) ∙ t) }))
+        inr (nothing_fell w busy v told k end (told_same told busy further.1))
     by_told b (Err NoSuchMessage) l by further whole = absurd (told_not told NoSuchMessage further.1)
     by_told b (Err NoSuchNode) l by further whole = absurd (told_not told NoSuchNode further.1)
     by_told b (Err NodeDown) l by further whole = absurd (told_not told NodeDown further.1)
@@ -270,49 +303,23 @@ round_falls paused w v told k right h =
       on = rested_keeps w false t.between.world t.told right x;
       most = omega (arith, rested_ahead w false t.between.world t.told x);
       less = λ e. inl (sym x.idle ∙ e);
+      wrote = inl x.written;
     }))
     (λ m. replicas_fall paused t.told t.between.world t.last told m t.further)
 
 -- ---- rounds up to one in which nothing happens
 
--- a replica is put off, or a controller writes in one of the rounds, or it has settled
-abbrev OffOrWritten : Bool → Reached → Bool → Type 0
-OffOrWritten paused v settled = PutsOff v ⊎ WritesInRound paused v ⊎ (settled ≡ true)
+-- a replica is put off, or a commit is made or a stop processed, or it has settled
+abbrev OffOrDone : Reached → Bool → Type 0
+OffOrDone v settled = PutsOff v ⊎ Succeeds v ⊎ (settled ≡ true)
 
-written_behind : (paused : Bool) (b l v : Reached) → v ≡ after b.turns l → WritesInRound paused l → WritesInRound paused v
-written_behind paused b l v whole x =
-    record {
-      from = x.from;
-      to = x.to;
-      before = b.turns ++ x.before;
-      behind = x.behind;
-      part =
-          ap (λ (y : Reached). y.turns) whole ∙ ap (λ (ts : List Turn). b.turns ++ ts) x.part
-          ∙ sym (append_assoc b.turns x.before (x.to.turns ++ x.behind));
-      round = x.round;
-      written = x.written;
-    }
-
-settled_behind : (paused : Bool) (b l v : Reached) (settled : Bool) → v ≡ after b.turns l → OffOrWritten paused l settled → OffOrWritten paused v settled
-settled_behind paused b l v settled whole (inl off) = inl (off_behind b l v whole off)
-settled_behind paused b l v settled whole (inr (inl x)) = inr (inl (written_behind paused b l v whole x))
-settled_behind paused b l v settled whole (inr (inr e)) = inr (inr e)
-
--- the first of some rounds writes
-written_first : (paused : Bool) (w : State) (b l v : Reached) → v ≡ after b.turns l → Round paused w b (Ok true) → HasWritten w b.world → WritesInRound paused v
-written_first paused w b l v whole came written =
-    record {
-      from = w;
-      to = b;
-      before = [];
-      behind = l.turns;
-      part = ap (λ (y : Reached). y.turns) whole;
-      round = came;
-      written = written;
-    }
+settled_behind : (b l v : Reached) (settled : Bool) → v ≡ after b.turns l → OffOrDone l settled → OffOrDone v settled
+settled_behind b l v settled whole (inl off) = inl (told_behind IsPutOff b l v whole off)
+settled_behind b l v settled whole (inr (inl done)) = inr (inl (told_behind IsSuccess b l v whole done))
+settled_behind b l v settled whole (inr (inr e)) = inr (inr e)
 
 settles_calmly : (paused : Bool) (rounds : ℕ) (w : State) (v : Reached) (settled : Bool) → IsSteady w → IsToldRightly w → ahead_in_world w < rounds
-    → SettlesIn paused rounds w v (Ok settled) → OffOrWritten paused v settled
+    → SettlesIn paused rounds w v (Ok settled) → OffOrDone v settled
 settles_calmly paused zero w v settled k right few h = absurd (omega (arith, few))
 settles_calmly paused (suc rounds) w v settled k right few h =
     let t = then_parts (Round paused) (AfterRound (SettlesIn paused rounds)) w v settled h in
@@ -322,23 +329,23 @@ settles_calmly paused (suc rounds) w v settled k right few h =
     by_told : (b l : Reached) (told : Bool) → Round paused w b (Ok told) → AfterRound (SettlesIn paused rounds) told b.world l (Ok settled)
         → v ≡ after b.turns l
         → ((x : State) (y : Reached) → IsSteady x → IsToldRightly x → ahead_in_world x < rounds → SettlesIn paused rounds x y (Ok settled)
-        → OffOrWritten paused y settled)
-        → OffOrWritten paused v settled
+        → OffOrDone y settled)
+        → OffOrDone v settled
     by_told b l false came further whole more = inr (inr (told_same settled true further.1))
     by_told b l true came further whole more = by_way (round_falls paused w b true k right came)
       where
-        by_growth : HasFallen w false b.world true → ahead_in_world b.world < ahead_in_world w
-            → (b.world.store.writes ≡ w.store.writes) ⊎ HasWritten w b.world → OffOrWritten paused v settled
-        by_growth x lt (inl same) =
-            settled_behind paused b l v settled whole (more b.world l (x.on.steady same k) x.on.going.told (omega (arith, few, lt)) further)
-        by_growth x lt (inr grown) = inr (inl (written_first paused w b l v whole came grown))
+        by_wrote : HasFallen w false b true → ahead_in_world b.world < ahead_in_world w → (b.world.store.writes ≡ w.store.writes) ⊎ Succeeds b
+            → OffOrDone v settled
+        by_wrote x lt (inl same) =
+            settled_behind b l v settled whole (more b.world l (x.on.steady same k) x.on.going.told (omega (arith, few, lt)) further)
+        by_wrote x lt (inr done) = inr (inl (told_first IsSuccess b l v whole done))
 
-        by_less : HasFallen w false b.world true → (false ≡ true) ⊎ (ahead_in_world b.world < ahead_in_world w) → OffOrWritten paused v settled
+        by_less : HasFallen w false b true → (false ≡ true) ⊎ (ahead_in_world b.world < ahead_in_world w) → OffOrDone v settled
         by_less x (inl e) = absurd (false≢true e)
-        by_less x (inr lt) = by_growth x lt (grown_cases w b.world x.on.grows)
+        by_less x (inr lt) = by_wrote x lt x.wrote
 
-        by_way : OffOrFallen w false b true → OffOrWritten paused v settled
-        by_way (inl off) = inl (off_first b l v whole off)
+        by_way : OffOrFallen w false b true → OffOrDone v settled
+        by_way (inl off) = inl (told_first IsPutOff b l v whole off)
         by_way (inr x) = by_less x (x.less refl)
 
 -- ---- what lies ahead at most
@@ -399,14 +406,14 @@ calm_ahead v k =
 
 module _ (setup : Setup) (turns : List Turn) (paused : Bool) (w : State) (is : IsSetup setup) (run : Runs setup turns w) (up : AreUp w)
     (unplanned : w.store.faults.plan ≡ []) (fetches : w.deep.faults.plan ≡ []) where
-  -- a round leaves the servers calm, unless a replica is put off or a controller writes
+  -- a round leaves the servers calm, unless a replica is put off, or a commit is made or a stop processed
   pub record HasSteadied (v : State) : Type 0 where
     pub steady : IsSteady v
     pub told : IsToldRightly v
     pub log : v.log ≡ w.log
     pub written : v.store.writes ≡ w.store.writes
 
-  pub round_steadies : (v : Reached) (told : Bool) → Round paused w v (Ok told) → PutsOff v ⊎ HasWritten w v.world ⊎ HasSteadied v.world
+  pub round_steadies : (v : Reached) (told : Bool) → Round paused w v (Ok told) → PutsOff v ⊎ Succeeds v ⊎ HasSteadied v.world
   round_steadies v told h = by_way (replicas_fall paused t.told t.between.world t.last told going t.further)
     where
       t : IsThen (ServersTurn false) (ReplicasOfAll paused) w v told
@@ -421,26 +428,19 @@ module _ (setup : Setup) (turns : List Turn) (paused : Bool) (w : State) (is : I
       end : v.world ≡ t.last.world
       end = ap (λ (x : Reached). x.world) t.whole
 
-      by_growth : HasFallen t.between.world t.told t.last.world told
-          → (t.last.world.store.writes ≡ t.between.world.store.writes) ⊎ HasWritten t.between.world t.last.world
-          → HasWritten w v.world ⊎ HasSteadied v.world
-      by_growth x (inl same) =
+      by_wrote : HasFallen t.between.world t.told t.last told → (t.last.world.store.writes ≡ t.between.world.store.writes) ⊎ Succeeds t.last
+          → Succeeds v ⊎ HasSteadied v.world
+      by_wrote x (inl same) =
           inr (subst HasSteadied (sym end)
           (record { steady = x.on.steady same c.steady; told = x.on.going.told; log = x.on.log ∙ c.log; written = same ∙ c.written }))
-      by_growth x (inr grown) =
-          inl (record {
-            first = grown.first;
-            rest = grown.rest;
-            is =
-                ap (λ (y : State). y.store.writes) end ∙ grown.is ∙ ap (λ (ss : List Seen). ss ++ grown.first ∷ grown.rest) c.written;
-          })
+      by_wrote x (inr done) = inl (told_behind IsSuccess t.between t.last v t.whole done)
 
-      by_way : OffOrFallen t.between.world t.told t.last told → PutsOff v ⊎ HasWritten w v.world ⊎ HasSteadied v.world
-      by_way (inl off) = inl (off_behind t.between t.last v t.whole off)
-      by_way (inr x) = inr (by_growth x (grown_cases t.between.world t.last.world x.on.grows))
+      by_way : OffOrFallen t.between.world t.told t.last told → PutsOff v ⊎ Succeeds v ⊎ HasSteadied v.world
+      by_way (inl off) = inl (told_behind IsPutOff t.between t.last v t.whole off)
+      by_way (inr x) = inr (by_wrote x x.wrote)
 
   settles_from : (rounds : ℕ) (u : Reached) (settled : Bool) → most_ahead w + 1 < rounds → SettlesIn paused rounds w u (Ok settled)
-      → OffOrWritten paused u settled
+      → OffOrDone u settled
   settles_from zero u settled few h = absurd (omega (arith, few))
   settles_from (suc rounds) u settled few h = by_told t.between t.last t.told t.came t.further t.whole
     where
@@ -448,32 +448,32 @@ module _ (setup : Setup) (turns : List Turn) (paused : Bool) (w : State) (is : I
       t = then_parts (Round paused) (AfterRound (SettlesIn paused rounds)) w u settled h
 
       by_told : (b l : Reached) (told : Bool) → Round paused w b (Ok told) → AfterRound (SettlesIn paused rounds) told b.world l (Ok settled)
-          → u ≡ after b.turns l → OffOrWritten paused u settled
+          → u ≡ after b.turns l → OffOrDone u settled
       by_told b l false came further whole = inr (inr (told_same settled true further.1))
       by_told b l true came further whole = by_way (round_steadies b true came)
         where
-          by_way : PutsOff b ⊎ HasWritten w b.world ⊎ HasSteadied b.world → OffOrWritten paused u settled
-          by_way (inl off) = inl (off_first b l u whole off)
-          by_way (inr (inl grown)) = inr (inl (written_first paused w b l u whole came grown))
+          by_way : PutsOff b ⊎ Succeeds b ⊎ HasSteadied b.world → OffOrDone u settled
+          by_way (inl off) = inl (told_first IsPutOff b l u whole off)
+          by_way (inr (inl done)) = inr (inl (told_first IsSuccess b l u whole done))
           by_way (inr (inr x)) =
               let log = ap (λ (y : Log). most_ahead_of y (entries_of b.world.store.writes)) x.log in
               let writes = ap (λ (hs : List Seen). most_ahead_of w.log (entries_of hs)) x.written in
-              settled_behind paused b l u settled whole
+              settled_behind b l u settled whole
               (settles_calmly paused rounds b.world l settled x.steady x.told (omega (arith, few, calm_ahead b.world x.steady, log, writes)) further)
 
-  pub calms_in_run : (v : Reached) (told : Bool) → Round paused w v (Ok told) → PutsOff v ⊎ HasWritten w v.world ⊎ AreAllCalm v.world
+  pub calms_in_run : (v : Reached) (told : Bool) → Round paused w v (Ok told) → PutsOff v ⊎ Succeeds v ⊎ AreAllCalm v.world
   calms_in_run v told h = by_way (round_steadies v told h)
     where
-      by_way : PutsOff v ⊎ HasWritten w v.world ⊎ HasSteadied v.world → PutsOff v ⊎ HasWritten w v.world ⊎ AreAllCalm v.world
+      by_way : PutsOff v ⊎ Succeeds v ⊎ HasSteadied v.world → PutsOff v ⊎ Succeeds v ⊎ AreAllCalm v.world
       by_way (inl off) = inl off
-      by_way (inr (inl grown)) = inr (inl grown)
+      by_way (inr (inl done)) = inr (inl done)
       by_way (inr (inr x)) = inr (inr x.steady.calm)
 
   pub settles_in_run : (rounds : ℕ) (u : Reached) (settled : Bool) → most_ahead w + 1 < rounds → Settles paused rounds w u (Ok settled)
-      → PutsOff u ⊎ WritesInRound paused u ⊎ (settled ≡ true)
+      → PutsOff u ⊎ Succeeds u ⊎ (settled ≡ true)
   settles_in_run rounds u settled few h = by_test ((rounds == 0) || nat_lt MOST_ROUNDS rounds) h
     where
-      by_test : (b : Bool) → Choose b (Refuses NothingToDo w) (SettlesIn paused rounds w) u (Ok settled) → OffOrWritten paused u settled
+      by_test : (b : Bool) → Choose b (Refuses NothingToDo w) (SettlesIn paused rounds w) u (Ok settled) → OffOrDone u settled
       by_test true g = absurd (told_not settled NothingToDo g.1)
       by_test false g = settles_from rounds u settled few g
 
@@ -506,3 +506,16 @@ module _ (setup : Setup) (turns : List Turn) (w : State) (v : Reached) (is : IsS
       if_busy w v
       (round_falls paused w v true
       (record { safe = run_goes.safe; unplanned = unplanned; up = up; calm = calm; follow = can_follow w run_goes }) run_goes.told h)
+
+  -- an exchange writes by a commit or a stop alone
+  pub writes_in_run : (i : Instance) (s : SegmentAt) (told : Bool) → ExchangeTurn i s false w v (Ok told)
+      → PutsOff v ⊎ Succeeds v ⊎ (v.world.store.writes ≡ w.store.writes)
+  writes_in_run i s told h = by_way (exchange_falls i s false w v told run_goes h)
+    where
+      by_wrote : (v.world.store.writes ≡ w.store.writes) ⊎ Succeeds v → Succeeds v ⊎ (v.world.store.writes ≡ w.store.writes)
+      by_wrote (inl same) = inr same
+      by_wrote (inr done) = inl done
+
+      by_way : OffOrFallen w false v told → PutsOff v ⊎ Succeeds v ⊎ (v.world.store.writes ≡ w.store.writes)
+      by_way (inl off) = inl off
+      by_way (inr x) = inr (by_wrote x.wrote)

@@ -1,4 +1,3 @@
 pub mod Ahead
 pub mod Off
 pub mod Waiting
-pub mod Writes

@@ -25,11 +25,33 @@ IsPutOff (status.UploadSuccess path) = ⊥
 IsPutOff (status.CommitSuccess seen) = ⊥
 IsPutOff status.Processed = ⊥
 
+-- COMMIT_SUCCESS, and PROCESSED: what was asked for is done
+abbrev pub IsSuccess : ReplyStatus → Type 0
+IsSuccess (status.CommitSuccess seen) = Unit {0}
+IsSuccess status.Processed = Unit {0}
+IsSuccess status.Hold = ⊥
+IsSuccess status.NotLeader = ⊥
+IsSuccess (status.Failed cause) = ⊥
+IsSuccess (status.CatchUp offset) = ⊥
+IsSuccess (status.Commit offset) = ⊥
+IsSuccess (status.Keep seen) = ⊥
+IsSuccess status.Discard = ⊥
+IsSuccess status.CommitContinue = ⊥
+IsSuccess (status.UploadSuccess path) = ⊥
+
 -- among the turns is one by which a request was answered so, at once or by a job
-pub record PutsOff (v : Reached) : Type 0 where
+pub record IsTold (P : ReplyStatus → Type 0) (v : Reached) : Type 0 where
   pub event : Event
   pub outcome : Outcome
   pub has : Has v.turns (happens event outcome)
   pub answer : Replied
   pub told : (delivered_in outcome ≡ delivered.Replied answer) ⊎ (ended_in outcome ≡ Some answer)
-  pub off : IsPutOff answer.status
+  pub so : P answer.status
+
+-- a replica is put off in these turns
+abbrev pub PutsOff : Reached → Type 0
+PutsOff v = IsTold IsPutOff v
+
+-- a commit is made in these turns, or a stop processed
+abbrev pub Succeeds : Reached → Type 0
+Succeeds v = IsTold IsSuccess v

@@ -13,9 +13,8 @@ ghost use Rattle.rt_state.specs.declared.state.State.{State};
 ghost use Rattle.rt_heal.specs.AtRest.{AreUp};
 ghost use Rattle.rt_heal.specs.Calm.{AreAllCalm};
 ghost use Rattle.rt_calm.specs.Ahead.{ahead_in_world, most_ahead};
-ghost use Rattle.rt_calm.specs.Off.{PutsOff};
+ghost use Rattle.rt_calm.specs.Off.{PutsOff, Succeeds};
 ghost use Rattle.rt_calm.specs.Waiting.{HoldsOrStays, WaitsFor};
-ghost use Rattle.rt_calm.specs.Writes.{HasWritten, WritesInRound};
 
 /// A machine that waits for its committer, from COMMIT to the end of its job, stays as it is whatever another replica asks, unless that
 /// one is told HOLD: so a commit that goes on in rounds in which nobody is told HOLD comes to its job.
@@ -27,11 +26,15 @@ pub fn a_machine_waits_for_its_committer()
 
 /// In each run the exchange of a replica, as `settle` makes it, puts the replica off, by HOLD, NOT_LEADER or FAILED, or leaves less
 /// ahead: what a controller answers fits what it was asked, and leads on. COMMIT and KEEP name the offset that was reported, and
-/// CATCH_UP one ahead of it, so that a replica asks again only behind messages that it takes.
+/// CATCH_UP one ahead of it, so that a replica asks again only behind messages that it takes. Nothing is written but where a commit is
+/// made, or a stop processed, or the replica put off.
 pub fn an_answer_puts_off_or_leaves_less_ahead()
-    ensures { (setup : Setup) (turns : List Turn) (w : State) (v : Reached) (instance : Instance) (segment : SegmentAt) → IsSetup setup
+    ensures less { (setup : Setup) (turns : List Turn) (w : State) (v : Reached) (instance : Instance) (segment : SegmentAt) → IsSetup setup
         → Runs setup turns w → ExchangeTurn instance segment false w v (Ok true)
         → PutsOff v ⊎ (ahead_in_world v.world < ahead_in_world w) }
+    ensures writes { (setup : Setup) (turns : List Turn) (w : State) (v : Reached) (instance : Instance) (segment : SegmentAt) (told : Bool)
+        → IsSetup setup → Runs setup turns w → ExchangeTurn instance segment false w v (Ok told)
+        → PutsOff v ⊎ Succeeds v ⊎ (v.world.store.writes ≡ w.store.writes) }
 {}
 
 /// In each run the replicas' part of a round of `settle` puts one of them off, or leaves less ahead if anything happened in it, whether
@@ -46,14 +49,14 @@ pub fn replicas_are_put_off_or_leave_less_ahead()
 {}
 
 /// From any world of a run on in which all servers are up and no fault of a store is planned, one round of `settle` leaves each server
-/// calm, unless it puts a replica off or a controller writes in it. So `settle` answers `settled` as soon as it has two rounds more than
-/// what lies ahead at most by the ideal state, unless a replica is put off or a controller writes in one of its rounds: commits and
-/// stops alone write there.
-pub fn settle_ends_where_nobody_is_put_off_and_nothing_written()
+/// calm, unless it puts a replica off, or a commit is made or a stop processed in it. So `settle` answers `settled` as soon as it has two
+/// rounds more than what lies ahead at most by the ideal state, unless a replica is told HOLD, NOT_LEADER or FAILED, COMMIT_SUCCESS or
+/// PROCESSED. Replicas may ask as they like, catch up, begin to commit, keep and discard.
+pub fn settle_ends_where_nobody_is_put_off_or_done()
     ensures calms { (setup : Setup) (turns : List Turn) (paused : Bool) (w : State) (v : Reached) (told : Bool) → IsSetup setup
         → Runs setup turns w → AreUp w → w.store.faults.plan ≡ [] → w.deep.faults.plan ≡ [] → Round paused w v (Ok told)
-        → PutsOff v ⊎ HasWritten w v.world ⊎ AreAllCalm v.world }
+        → PutsOff v ⊎ Succeeds v ⊎ AreAllCalm v.world }
     ensures settles { (setup : Setup) (turns : List Turn) (paused : Bool) (rounds : ℕ) (w : State) (u : Reached) (settled : Bool)
         → IsSetup setup → Runs setup turns w → AreUp w → w.store.faults.plan ≡ [] → w.deep.faults.plan ≡ []
-        → most_ahead w + 1 < rounds → Settles paused rounds w u (Ok settled) → PutsOff u ⊎ WritesInRound paused u ⊎ (settled ≡ true) }
+        → most_ahead w + 1 < rounds → Settles paused rounds w u (Ok settled) → PutsOff u ⊎ Succeeds u ⊎ (settled ≡ true) }
 {}

@@ -1,5 +1,5 @@
 use Rattle.rt_calm.proofs.Rounds.{calms_in_run, settles_in_run}
-use Rattle.rt_calm.proofs.laws.settle_ends_where_nobody_is_put_off_and_nothing_written.Goals as goal
+use Rattle.rt_calm.proofs.laws.settle_ends_where_nobody_is_put_off_or_done.Goals as goal
 
 pub returns-clause-calms : goal.returns-clause-calms
 returns-clause-calms c = λ setup turns paused w v told is run up unplanned fetches h. calms_in_run setup turns paused w is run up unplanned fetches v told h
