@@ -1,11 +1,11 @@
 -- A machine that waits for its committer stays as it is whatever another replica asks, unless that is told HOLD.
-use Rattle.std.proofs.Common.{◌≡◌, inl, inr, ℕ, ◌==◌, true, false, nat_lt, refl, sym, ◌∙◌}
-use Rattle.std.proofs.lemmas.Bool.{eqb-true, false_from_ne_true, true≢false}
+use Rattle.std.proofs.Common.{◌≡◌, inl, inr, ℕ, ◌==◌, true, false, nat_lt, refl, sym, ◌∙◌, ◌<◌, Some, ap, arith, cond}
+use Rattle.std.proofs.lemmas.Bool.{eqb-true, false_from_ne_true, true≢false, cond-false, cond-true, eq-eqb, leb-true}
 use Rattle.rt_base.specs.declared.numbers.Instance.{Instance}
 use Rattle.rt_base.specs.declared.numbers.Moment.{Moment}
 use Rattle.rt_base.specs.declared.numbers.Offset.{Offset}
 use Rattle.rt_fsm.proofs.Table.{by_react, by_test}
-use Rattle.rt_model.specs.Completion.{by_table, catches_up, commit_end_in, commit_start_in, consumed_in, extend_in, goes, loses, not_committer, react, stopped_in, Completion}
+use Rattle.rt_model.specs.Completion.{by_table, catches_up, commit_end_in, commit_start_in, consumed_in, extend_in, goes, loses, not_committer, react, stopped_in, Completion, aborts, is_late, past_start, wrong_offset}
 use Rattle.rt_model.specs.declared.completion.Ask.{Ask}
 use Rattle.rt_model.specs.declared.completion.Ask.TheVariants as ask
 use Rattle.rt_model.specs.declared.completion.Reaction.{Reaction}
@@ -14,6 +14,8 @@ use Rattle.rt_model.specs.declared.completion.Said.TheVariants as said
 use Rattle.rt_model.specs.declared.machine_state.MachineState.{MachineState}
 use Rattle.rt_model.specs.declared.machine_state.MachineState.TheVariants as machine
 use Rattle.rt_model.specs.declared.request.Reason.{Reason}
+use Rattle.std.specs.Prelude.{nat_le}
+use Rattle.rt_model.specs.declared.reply.FailCause.TheVariants.{WrongOffset}
 use Rattle.rt_calm.specs.Waiting.{HoldsOrStays, WaitsFor}
 
 module _ (m : Completion) (i : Instance) (other : (i.0 == m.winner.0) ≡ false) where
@@ -95,3 +97,18 @@ pub others_stay : (m : Completion) (i : Instance) (what : Ask) (now : Moment) �
 others_stay m i what now waits apart =
     by_react (λ (y : Reaction × Completion). HoldsOrStays m y) m i what now (λ late. inl refl) (λ x kept. inr refl)
     (λ early past. table_stays m i (false_from_ne_true (i.0 == m.winner.0) (λ e. apart (eqb-true i.0 m.winner.0 e))) what now waits)
+
+-- the committer's CommitStart at its offset, in time
+pub own_starts : (m : Completion) (now : Moment) → m.state ≡ machine.CommitterNotified → is_late m now ≡ false → m.seen.meta.start.0 < m.offset.0
+    → react m m.winner (ask.CommitStart m.offset) now ≡ (reaction.Answer said.CommitContinue, goes m machine.CommitterUploading)
+own_starts m now notified early beyond =
+    cond-false (is_late m now) (aborts m said.Hold) (past_start m (Some m.offset) (by_table m m.winner (ask.CommitStart m.offset) now)) early
+    ∙ cond-false (nat_le m.offset.0 m.seen.meta.start.0) (reaction.Answer (said.Failed (WrongOffset m.offset m.seen.meta.start)), m)
+    (by_table m m.winner (ask.CommitStart m.offset) now)
+    (false_from_ne_true (nat_le m.offset.0 m.seen.meta.start.0) (λ e. omega (arith, leb-true m.offset.0 m.seen.meta.start.0 e, beyond)))
+    ∙ ap (λ (s : MachineState). commit_start_in s m m.winner m.offset) notified
+    ∙ cond-true (m.winner.0 == m.winner.0)
+    (cond (m.offset.0 == m.offset.0) (reaction.Answer said.CommitContinue, goes m machine.CommitterUploading) (wrong_offset m m.offset))
+    (reaction.Answer said.Hold, m) (eq-eqb m.winner.0 m.winner.0 refl)
+    ∙ cond-true (m.offset.0 == m.offset.0) (reaction.Answer said.CommitContinue, goes m machine.CommitterUploading) (wrong_offset m m.offset)
+    (eq-eqb m.offset.0 m.offset.0 refl)

@@ -4,9 +4,13 @@ ghost use Rattle.rt_base.specs.declared.numbers.Instance.{Instance};
 ghost use Rattle.rt_base.specs.declared.numbers.Moment.{Moment};
 ghost use Rattle.rt_macros.specs.Doing.{Reached};
 ghost use Rattle.rt_macros.specs.Settling.{ExchangeTurn, ReplicasOfAll, Round, SegmentAt, Settles};
-ghost use Rattle.rt_model.specs.Completion.{react, Completion};
+ghost use Rattle.rt_model.specs.Completion.{goes, is_late, react, Completion};
 ghost use Rattle.rt_model.specs.Setup.{IsSetup};
 ghost use Rattle.rt_model.specs.declared.completion.Ask.{Ask};
+ghost use Rattle.rt_model.specs.declared.completion.Ask.TheVariants.{CommitStart};
+ghost use Rattle.rt_model.specs.declared.completion.Reaction.TheVariants.{Answer};
+ghost use Rattle.rt_model.specs.declared.completion.Said.TheVariants.{CommitContinue};
+ghost use Rattle.rt_model.specs.declared.machine_state.MachineState.TheVariants.{CommitterNotified, CommitterUploading};
 ghost use Rattle.rt_model.specs.declared.setup.Setup.{Setup};
 ghost use Rattle.rt_safety.specs.Runs.{Runs, Turn};
 ghost use Rattle.rt_state.specs.declared.state.State.{State};
@@ -17,11 +21,14 @@ ghost use Rattle.rt_calm.specs.Off.{PutsOff, Succeeds};
 ghost use Rattle.rt_calm.specs.Waiting.{HoldsOrStays, WaitsFor};
 
 /// A machine that waits for its committer, from COMMIT to the end of its job, stays as it is whatever another replica asks, unless that
-/// one is told HOLD: so a commit that goes on in rounds in which nobody is told HOLD comes to its job.
-#[tactic(auto, using(crate::proofs::Waiting::others_stay))]
+/// one is told HOLD; and the committer's CommitStart at its offset, up to the deadline, is told to go on. So a commit that goes on in
+/// rounds in which nobody is told HOLD comes to its job.
+#[tactic(auto, using(crate::proofs::Waiting::others_stay, crate::proofs::Waiting::own_starts))]
 pub fn a_machine_waits_for_its_committer()
-    ensures { (m : Completion) (i : Instance) (what : Ask) (now : Moment) → WaitsFor m.state → (i.0 ≡ m.winner.0 → ⊥)
+    ensures others { (m : Completion) (i : Instance) (what : Ask) (now : Moment) → WaitsFor m.state → (i.0 ≡ m.winner.0 → ⊥)
         → HoldsOrStays m (react m i what now) }
+    ensures starts { (m : Completion) (now : Moment) → m.state ≡ CommitterNotified → is_late m now ≡ false → m.seen.meta.start.0 < m.offset.0
+        → react m m.winner (CommitStart m.offset) now ≡ (Answer CommitContinue, goes m CommitterUploading) }
 {}
 
 /// In each run the exchange of a replica, as `settle` makes it, puts the replica off, by HOLD, NOT_LEADER or FAILED, or leaves less
