@@ -1,7 +1,11 @@
+pub mod Commits
+pub mod Entries
 pub mod Exchanged
 pub mod Fitting
 pub mod Keeping
+pub mod Paying
 pub mod Rounds
+pub mod Spent
 pub mod Standing
 pub mod Sums
 pub mod Waiting

@@ -1,3 +1,5 @@
 pub mod Ahead
+pub mod Commits
 pub mod Off
+pub mod Spent
 pub mod Waiting

@@ -1,23 +1,32 @@
 //! What lies ahead of replicas, and what takes of it. Each law stands on a function that does nothing: its clause is the law.
-ghost use Rattle.std.specs.Prelude.{◌≡◌, ◌+◌, ◌<◌, ◌⊎◌, ℕ, Bool, List, [], Ok, true, false};
+ghost use Rattle.std.specs.Prelude.{◌≡◌, ◌+◌, ◌*◌, ◌<◌, ◌≤◌, ◌⊎◌, ℕ, Bool, List, [], Ok, true, false, length};
 ghost use Rattle.rt_base.specs.declared.numbers.Instance.{Instance};
 ghost use Rattle.rt_base.specs.declared.numbers.Moment.{Moment};
+ghost use Rattle.rt_base.specs.declared.numbers.Partition.{Partition};
+ghost use Rattle.rt_base.specs.declared.numbers.Sequence.{Sequence};
+ghost use Rattle.rt_commit.specs.Changes.{offline_changes};
 ghost use Rattle.rt_macros.specs.Doing.{Reached};
 ghost use Rattle.rt_macros.specs.Settling.{ExchangeTurn, ReplicasOfAll, Round, SegmentAt, Settles};
 ghost use Rattle.rt_model.specs.Completion.{goes, is_late, react, Completion};
+ghost use Rattle.rt_model.specs.Ideal.{commit_step_of, set_offline_of};
 ghost use Rattle.rt_model.specs.Setup.{IsSetup};
 ghost use Rattle.rt_model.specs.declared.completion.Ask.{Ask};
 ghost use Rattle.rt_model.specs.declared.completion.Ask.TheVariants.{CommitStart};
 ghost use Rattle.rt_model.specs.declared.completion.Reaction.TheVariants.{Answer};
 ghost use Rattle.rt_model.specs.declared.completion.Said.TheVariants.{CommitContinue};
+ghost use Rattle.rt_model.specs.declared.ideal_state.IdealEntry.{IdealEntry};
 ghost use Rattle.rt_model.specs.declared.machine_state.MachineState.TheVariants.{CommitterNotified, CommitterUploading};
 ghost use Rattle.rt_model.specs.declared.setup.Setup.{Setup};
 ghost use Rattle.rt_safety.specs.Runs.{Runs, Turn};
+ghost use Rattle.rt_state.specs.IsSafeWorld.{IsSafeWorld};
 ghost use Rattle.rt_state.specs.declared.state.State.{State};
+ghost use Rattle.rt_stream.specs.Log.{Log, messages_of};
 ghost use Rattle.rt_heal.specs.AtRest.{AreUp};
 ghost use Rattle.rt_heal.specs.Calm.{AreAllCalm};
-ghost use Rattle.rt_calm.specs.Ahead.{ahead_in_world, most_ahead};
+ghost use Rattle.rt_calm.specs.Ahead.{ahead_in_world, most_ahead, most_ahead_of};
+ghost use Rattle.rt_calm.specs.Commits.{commits_of};
 ghost use Rattle.rt_calm.specs.Off.{PutsOff, Succeeds};
+ghost use Rattle.rt_calm.specs.Spent.{consuming_in, most_of};
 ghost use Rattle.rt_calm.specs.Waiting.{HoldsOrStays, WaitsFor};
 
 /// A machine that waits for its committer, from COMMIT to the end of its job, stays as it is whatever another replica asks, unless that
@@ -66,4 +75,26 @@ pub fn settle_ends_where_nobody_is_put_off_or_done()
     ensures settles { (setup : Setup) (turns : List Turn) (paused : Bool) (rounds : ℕ) (w : State) (u : Reached) (settled : Bool)
         → IsSetup setup → Runs setup turns w → AreUp w → w.store.faults.plan ≡ [] → w.deep.faults.plan ≡ []
         → most_ahead w + 1 < rounds → Settles paused rounds w u (Ok settled) → PutsOff u ⊎ Succeeds u ⊎ (settled ≡ true) }
+{}
+
+/// A partition has at most as many commits as messages: their ranges tile its offsets from 0 on, those of deleted segments too, and
+/// each holds one message at least. So commits are made but so often while nothing is produced.
+#[tactic(auto, using(crate::proofs::Commits::commits_within))]
+pub fn a_partition_has_at_most_as_many_commits_as_messages()
+    ensures { (w : State) (p : Partition) → IsSafeWorld w → p.0 < w.setup.partitions
+        → commits_of w.store.writes p ≤ length (messages_of w.log p) }
+{}
+
+/// A commit's step of the ideal state adds an entry for each replica of the next segment at most, and what can lie ahead of those; a stop's
+/// step adds nothing, and where it changes anything one entry less is CONSUMING.
+#[tactic(auto, using(crate::proofs::Entries::commit_most, crate::proofs::Entries::commit_consumes, crate::proofs::Entries::offline_most, crate::proofs::Entries::offline_consumes))]
+pub fn a_step_of_the_ideal_state_adds_no_more_than_its_replicas()
+    ensures commit { (log : Log) (es : List IdealEntry) (p : Partition) (s : Sequence) (next : List Instance)
+        → most_ahead_of log (commit_step_of es p s next) ≤ length next * most_of log p + most_ahead_of log es }
+    ensures consuming { (es : List IdealEntry) (p : Partition) (s : Sequence) (next : List Instance)
+        → consuming_in (commit_step_of es p s next) ≤ length next + consuming_in es }
+    ensures stop { (log : Log) (es : List IdealEntry) (p : Partition) (s : Sequence) (i : Instance)
+        → most_ahead_of log (set_offline_of es p s i) ≡ most_ahead_of log es }
+    ensures stopped { (p : Partition) (s : Sequence) (i : Instance) (es : List IdealEntry) → offline_changes es p s i ≡ true
+        → consuming_in (set_offline_of es p s i) < consuming_in es }
 {}
