@@ -1,5 +1,5 @@
 -- An exchange puts its replica off, or leaves less ahead.
-use Rattle.std.proofs.Common.{◌≡◌, ◌⊎◌, inl, inr, ℕ, zero, suc, ◌<◌, ◌==◌, ◌&&◌, Bool, true, false, cond, List, [], length, Option, Some, None, Ok, refl, sym, ◌∙◌, ap, subst, arith, slice_get}
+use Rattle.std.proofs.Common.{◌≡◌, ◌⊎◌, inl, inr, ℕ, zero, suc, ◌<◌, ◌≤◌, ◌==◌, ◌&&◌, Bool, true, false, cond, List, [], length, Option, Some, None, Ok, refl, sym, ◌∙◌, ap, subst, arith, slice_get}
 use Rattle.std.specs.Prelude.{slice_set}
 use Rattle.std.specs.List.{Contains}
 use Rattle.std.proofs.lemmas.Bool.{eq-eqb, true≢false}
@@ -42,9 +42,9 @@ use Rattle.rt_events.specs.declared.outcome.Outcome.{Outcome}
 use Rattle.rt_events.specs.declared.outcome.Outcome.TheVariants as came
 use Rattle.rt_events.specs.declared.refusal.Refusal.TheVariants.{Limit, NothingToDo}
 use Rattle.rt_base.specs.declared.which.Which.TheVariants.{Events}
-use Rattle.rt_lists.specs.Members.{Has, IsFront}
+use Rattle.rt_lists.specs.Members.{Has}
 use Rattle.rt_lists.proofs.Lists.{All-found, contains_found}
-use Rattle.rt_lists.proofs.Members.{Has-append_left, Has-append_right, Has-place, Has-push, front_same, front_then}
+use Rattle.rt_lists.proofs.Members.{Has-append_left, Has-append_right, Has-place, Has-push}
 use Rattle.rt_macros.specs.Doing.{Gives, Happens, Reached, after, stays}
 use Rattle.rt_macros.specs.Exchanging.{AfterDelivery, AfterReply, AfterReport, AfterStep, EndsJob, Handles, MakesStep, TakesAnswer}
 use Rattle.rt_macros.specs.Outcomes.{delivered_in, ended_in, ending, replied, state_in}
@@ -95,7 +95,11 @@ use Rattle.rt_store.specs.Meaning.{Told}
 use Rattle.rt_store.proofs.Told.{read_same}
 use Rattle.rt_commit.specs.Told.{store_after}
 use Rattle.rt_store.specs.Memory.{means}
-use Rattle.rt_stream.specs.Log.{Log}
+use Rattle.rt_stream.specs.Log.{messages_of, Log}
+use Rattle.rt_store.specs.Contents.{starting_of}
+use Rattle.rt_model.proofs.Lawful.{versions_count_writes}
+use Rattle.rt_model.specs.declared.asked.Asked.{Asked}
+use Rattle.rt_model.specs.declared.setup.Setup.{Setup}
 use Rattle.rt_unrefused.proofs.Answered.{delivers, delivery_leaves, job_leaves, job_steps, Behind as AnswersBehind, Delivers, IsAnswer}
 use Rattle.rt_unrefused.proofs.JobSteps.{is_open_job, over, own_step, there_then, OwnStep, SendsIts}
 use Rattle.rt_unrefused.proofs.Requested.{replica_put, requested, IsRequested}
@@ -112,11 +116,15 @@ use Rattle.rt_controller.specs.Working.{work_call}
 use Rattle.rt_controller.proofs.Telling.{told_request, told_work}
 use Rattle.rt_entry.specs.Transition.{is_open}
 use Rattle.rt_heal.proofs.LessWorld.{put_calm, put_up, IsPut}
-use Rattle.rt_calm.proofs.Keeping.{calm_still, can_follow, goes_on, keeps_then, step_grows, step_keeps, unplanned_after, IsGoing, KeepsOn}
+use Rattle.rt_calm.proofs.Keeping.{calm_still, fetches_after, goes_on, keeps_still, keeps_then, servers_up, step_keeps, unplanned_after, IsGoing, KeepsOn}
 use Rattle.rt_calm.specs.Ahead.{ahead_in_world, ahead_of, ahead_servers}
 use Rattle.rt_calm.specs.Off.{IsPutOff, IsSuccess, IsTold, PutsOff, Succeeds}
 use Rattle.rt_calm.proofs.Fitting.{hands_out, Fits, HandsOut, Starts}
+use Rattle.rt_calm.proofs.Commits.{commits_within}
+use Rattle.rt_calm.proofs.Paying.{first_pays, job_pays, AfterPays, EndsPaid, IsFirst, Pays}
 use Rattle.rt_calm.proofs.Standing.{answer_falls}
+use Rattle.rt_calm.specs.Commits.{commits_of}
+use Rattle.rt_calm.specs.Spent.{Spends}
 use Rattle.rt_calm.proofs.Sums.{put_falls, put_still}
 
 -- ---- the request
@@ -136,6 +144,7 @@ record HasAsked (w u : State) (i : Instance) (p : Partition) (q : Sequence) (req
   up : new.up ≡ old.up
   log : u.log ≡ w.log
   store : u.store ≡ w.store
+  deep : u.deep ≡ w.deep
 
 abbrev pub came_sent : ℕ → Request → Outcome
 came_sent m request = came.Sent m request
@@ -184,6 +193,7 @@ has_asked w u i p q request (cost, due, h) = by_server (slice_get w.servers i.0)
               up = does.2;
               log = ap (λ (x : Next). x.0.log) is;
               store = ap (λ (x : Next). x.0.store) is;
+              deep = ap (λ (x : Next). x.0.deep) is;
             }
           where
             some_kind : RequestKind → Option RequestKind
@@ -191,38 +201,19 @@ has_asked w u i p q request (cost, due, h) = by_server (slice_get w.servers i.0)
 
 -- ---- a controller's part
 
--- servers and log stay as they are, and no fault of the store is planned
+-- it keeps on, and the servers stay as they are
 record IsAsking (u z : State) : Type 0 where
-  going : IsGoing z
+  keeps : KeepsOn u z
   servers : z.servers ≡ u.servers
-  log : z.log ≡ u.log
-  plan : u.store.faults.plan ≡ [] → z.store.faults.plan ≡ []
-  grows : IsFront u.store.writes z.store.writes
 
 asking_on : (u z y : State) (e : Event) (o : Outcome) → IsAsking u z → IsFitting z.setup.schema e → Steps z e y (Ok o) → y.servers ≡ z.servers → y.log ≡ z.log
-    → (z.store.faults.plan ≡ [] → y.store.faults.plan ≡ []) → IsAsking u y
-asking_on u z y e o k fits steps servers log plan =
+    → (z.store.faults.plan ≡ [] → y.store.faults.plan ≡ []) → (z.deep.faults.plan ≡ [] → y.deep.faults.plan ≡ []) → IsAsking u y
+asking_on u z y e o k fits steps servers log plan fetches =
     record {
-      going = goes_on z y e o k.going fits steps;
+      keeps =
+          keeps_then u z y k.keeps
+          (step_keeps z y e o k.keeps.going fits steps log plan fetches (servers_up z y servers) (λ same. calm_still z y servers same));
       servers = servers ∙ k.servers;
-      log = log ∙ k.log;
-      plan = λ none. plan (k.plan none);
-      grows = front_then u.store.writes z.store.writes y.store.writes k.grows (step_grows z y e o k.going fits steps);
-    }
-
-asking_keeps : (u z : State) → IsAsking u z → KeepsOn u z
-asking_keeps u z k =
-    record {
-      going = k.going;
-      log = k.log;
-      grows = k.grows;
-      steady = λ same s. record {
-        safe = k.going.safe;
-        unplanned = k.plan s.unplanned;
-        up = λ i n there. s.up i n (ap (λ (ns : List ServerNode). slice_get ns i) (sym k.servers) ∙ there);
-        calm = calm_still u z k.servers same s.calm;
-        follow = can_follow z k.going;
-      };
     }
 
 delivery_plan : (w v : State) (m : ℕ) (c : ControllerId) (o : Outcome) → Steps w (event.Deliver m c) v (Ok o) → w.store.faults.plan ≡ []
@@ -240,6 +231,22 @@ delivery_plan w v m c o (cost, due, h) none = by_found (request_at w m) (slice_g
         let x = told_request w.store store w.deep deep n.controller q w.moment (record { controller = new; handled = what }) handles in
         by_answer (after_step w c n new store deep) what
         (ap (λ (t : Told). t.faults.plan) x.store ∙ unplanned_after w.store (handle_call n.controller q) none) is
+
+delivery_fetches : (w v : State) (m : ℕ) (c : ControllerId) (o : Outcome) → Steps w (event.Deliver m c) v (Ok o) → w.deep.faults.plan ≡ []
+    → v.deep.faults.plan ≡ []
+delivery_fetches w v m c o (cost, due, h) none = by_found (request_at w m) (slice_get w.controllers c.0) h
+  where
+    by_answer : (z : State) (what : Handled) → z.deep.faults.plan ≡ [] → (v, o) ≡ handed z cost what → v.deep.faults.plan ≡ []
+    by_answer z (handled.Reply y) same is = ap (λ (n : Next). n.0.deep.faults.plan) is ∙ same
+    by_answer z (handled.Job j) same is = ap (λ (n : Next). n.0.deep.faults.plan) is ∙ same
+
+    by_found : (q : Option Request) (n : Option ControllerNode) → DeliversAt q n w c cost (v, o) → v.deep.faults.plan ≡ []
+    by_found None n h = absurd h
+    by_found (Some q) None h = absurd h
+    by_found (Some q) (Some n) (new, what, store, deep, handles, is) =
+        let x = told_request w.store store w.deep deep n.controller q w.moment (record { controller = new; handled = what }) handles in
+        by_answer (after_step w c n new store deep) what
+        (ap (λ (d : ToldDeep). d.faults.plan) x.deep ∙ fetches_after w.deep (handle_call n.controller q) none) is
 
 -- the call of a request writes nothing
 call_writes : (t : Told) (r : Request) (rule : Rule) → (store_after t (call_of r rule)).writes ≡ t.writes
@@ -270,6 +277,20 @@ job_plan w v c j o steps none =
     let did = own_step w v c j o steps in
     let x = told_work w.store did.store w.deep did.deep did.node.controller j w.moment (record { controller = did.new; step = did.did }) did.works in
     ap (λ (t : Told). t.faults.plan) (did.written ∙ x.store) ∙ unplanned_after w.store (work_call did.node.controller j w.moment) none
+
+job_fetches : (w v : State) (c : ControllerId) (j : ℕ) (o : Outcome) → Steps w (event.Job c j) v (Ok o) → w.deep.faults.plan ≡ [] → v.deep.faults.plan ≡ []
+job_fetches w v c j o (cost, due, h) none = by_node (slice_get w.controllers c.0) h
+  where
+    by_reply : (z : State) (step : JobStep) (r : Option Reply) → z.deep.faults.plan ≡ [] → (v, o) ≡ stepped_by z cost step r → v.deep.faults.plan ≡ []
+    by_reply z step None same is = ap (λ (n : Next). n.0.deep.faults.plan) is ∙ same
+    by_reply z step (Some y) same is = ap (λ (n : Next). n.0.deep.faults.plan) is ∙ same
+
+    by_node : (n : Option ControllerNode) → JobStepsAt n w c j cost (v, o) → v.deep.faults.plan ≡ []
+    by_node None h = absurd h
+    by_node (Some n) (new, step, store, deep, works, is) =
+        let x = told_work w.store store w.deep deep n.controller j w.moment (record { controller = new; step = step }) works in
+        by_reply (noted_set (after_step w c n new store deep) cost (length w.store.writes)) step step.reply
+        (ap (λ (d : ToldDeep). d.faults.plan) x.deep ∙ fetches_after w.deep (work_call n.controller j w.moment) none) is
 
 delivery_log : (w v : State) (m : ℕ) (c : ControllerId) (o : Outcome) → Steps w (event.Deliver m c) v (Ok o) → v.log ≡ w.log
 delivery_log w v m c o (cost, due, h) = by_found (request_at w m) (slice_get w.controllers c.0) h
@@ -461,12 +482,66 @@ step_behind z y c j q o safe is steps =
           job_status did.store.writes its.job.asked.partition its.job.asked.sequence Rose (commits its.job.stage) did.did.step reply.status so,
         )
 
+-- ---- what a job pays
+
+-- a job that is open, and has paid for what it has written since
+record IsPaying (u z : State) (c : ControllerId) (j : ℕ) : Type 0 where
+  job : Job
+  there : open_job z c j ≡ Some job
+  pays : Pays u.setup u.log u.store.writes job.asked z.store.writes job.stage
+
+abbrev PaysBehind : State → State → ControllerId → ℕ → Option Replied → Type 0
+PaysBehind u y c j None = IsPaying u y c j
+PaysBehind u y c j (Some r) = EndsPaid u.setup u.log u.store.writes y.store.writes r.status
+
+step_pays : (u z y : State) (c : ControllerId) (j : ℕ) (o : Outcome) → KeepsOn u z → KeepsOn u y → IsPaying u z c j → Steps z (event.Job c j) y (Ok o)
+    → PaysBehind u y c j (ended_in o)
+step_pays u z y c j o before behind is steps =
+    subst (λ (x : Outcome). PaysBehind u y c j (ended_in x)) (sym did.told.1) (by_reply did.did.reply did.sends paid)
+  where
+    safe : IsSafeWorld z
+    safe = before.going.safe
+
+    did : OwnStep z y c j o
+    did = own_step z y c j o steps
+
+    writes : y.store.writes ≡ did.store.writes
+    writes = ap (λ (t : Told). t.writes) did.written
+
+    few : (p : Partition) → p.0 < u.setup.partitions → commits_of did.store.writes p ≤ length (messages_of u.log p)
+    few p inside =
+        subst (λ (h : List Seen). commits_of h p ≤ length (messages_of u.log p)) writes
+        (subst (λ (l : Log). commits_of y.store.writes p ≤ length (messages_of l p)) behind.log
+        (commits_within y p behind.going.safe (subst (λ (s : Setup). p.0 < s.partitions) (sym behind.setup) inside)))
+
+    paid : AfterPays u.setup u.log u.store.writes is.job.asked did.store.writes (job_of did.new j) did.did.reply
+    paid =
+        job_pays u.setup (past_of z) u.log u.store.writes z.store did.store z.deep did.deep did.node.controller did.new j is.job z.moment did.did refl
+        (subst (λ (s : Setup). IsControllerOver s (past_of z) did.node.controller) before.setup (safe.safe.controllers c.0 did.node did.at).over)
+        (versions_count_writes (starting_of z.setup) z.store.writes safe.safe.past.lawful) did.works
+        (ap (λ (n : Option ControllerNode). job_in n j) (sym did.at) ∙ is.there) few is.pays
+
+    by_reply : (r : Option Reply) → SendsIts z.sent y did.told.0 r
+        → AfterPays u.setup u.log u.store.writes is.job.asked did.store.writes (job_of did.new j) r → PaysBehind u y c j (ending did.told.0 r)
+    by_reply None sends (k, there, own, pays) =
+        subst (PaysBehind u y c j) (sym (no_ending did.told.0))
+        (record {
+          job = k;
+          there = there_then z y c j o safe did ∙ there;
+          pays =
+              subst (λ (a : Asked). Pays u.setup u.log u.store.writes a y.store.writes k.stage) (sym own)
+              (subst (λ (h : List Seen). Pays u.setup u.log u.store.writes is.job.asked h k.stage) (sym writes) pays);
+        })
+    by_reply (Some reply) sends ends =
+        let at : ending did.told.0 (Some reply) ≡ Some (replied (length z.sent) reply) = ap (λ (m : Option ℕ). ending m (Some reply)) sends.0 in
+        subst (PaysBehind u y c j) (sym at) (subst (λ (h : List Seen). EndsPaid u.setup u.log u.store.writes h reply.status) (sym writes) ends)
+
 -- ---- a delivery
 
 -- it is answered so, or a job is open for it
 abbrev DeliversSo : State → ControllerId → Request → Delivered → Type 0
 DeliversSo v c q (delivered.Replied r) = IsAnswer v (asked_of q) r × Fits q.offset q.kind r.status
-DeliversSo v c q (delivered.Started j) = IsOpenFor v c j q
+DeliversSo v c q (delivered.Started j) = (is : IsOpenFor v c j q) × IsFirst is.job.stage
 DeliversSo v c q delivered.Neither = Unit {0}
 
 module _ (w v : State) (m : ℕ) (c : ControllerId) (q : Request) (o : Outcome) (safe : IsSafeWorld w) (asks : request_at w m ≡ Some q)
@@ -502,7 +577,7 @@ module _ (w v : State) (m : ℕ) (c : ControllerId) (q : Request) (o : Outcome) 
           ap (λ (z : Next). job_in (slice_get z.0.controllers c.0) j) is
           ∙ ap (λ (x : Option ControllerNode). job_in x j) (own_slot w.controllers c.0 n (record n { controller = new }) at)
           ∙ found_job new.jobs new.started j so.job k.over.numbered has so.number in
-          subst (λ (x : Outcome). DeliversSo v c q (delivered_in x)) (sym told) (record { job = so.job; there = there; asked = so.asked; starts = so.starts })
+          subst (λ (x : Outcome). DeliversSo v c q (delivered_in x)) (sym told) (record { job = so.job; there = there; asked = so.asked; starts = so.starts }, so.first)
 
       by_node : (n : Option ControllerNode) → slice_get w.controllers c.0 ≡ n → DeliversAt (Some q) n w c steps.0 (v, o) → DeliversSo v c q (delivered_in o)
       by_node None at h = absurd h
@@ -555,6 +630,7 @@ record HasAnswered (u : State) (q : Request) (v : Reached) (r : Replied) : Type 
   answer : IsAnswer v.world (asked_of q) r
   fits : Fits q.offset q.kind r.status
   wrote : (v.world.store.writes ≡ u.store.writes) ⊎ OffOrSuccess r.status
+  spends : EndsPaid u.setup u.log u.store.writes v.world.store.writes r.status
   tells : Tells v r
 
 module _ (u : State) (c : ControllerId) (q : Request) where
@@ -569,14 +645,17 @@ module _ (u : State) (c : ControllerId) (q : Request) where
         answer = subst (λ (x : State). IsAnswer x (asked_of q) r) (sym at) k.answer;
         fits = k.fits;
         wrote = subst (λ (x : State). (x.store.writes ≡ u.store.writes) ⊎ OffOrSuccess r.status) (sym at) k.wrote;
+        spends = subst (λ (x : State). EndsPaid u.setup u.log u.store.writes x.store.writes r.status) (sym at) k.spends;
         tells = tells_behind b l v r whole k.tells;
       }
 
-  ends_job : (j left : ℕ) (z : State) (v : Reached) (r : Replied) → IsAsking u z → IsOpenFor z c j q → EndsJob c j left z v (Ok r) → IsAnswered v r
-  ends_job j zero z v r k is h = absurd (told_not r (Limit Events) h.1)
-  ends_job j (suc left) z v r k is h =
-      by_step t.told t.last (step_behind z s.between.world c j q s.told k.going.safe is s.came.by.0) made t.further t.whole
-      (λ l goes further. ends_job j left t.between.world l r on goes further)
+  ends_job : (j left : ℕ) (z : State) (v : Reached) (r : Replied) → IsAsking u z → IsOpenFor z c j q → IsPaying u z c j
+      → EndsJob c j left z v (Ok r) → IsAnswered v r
+  ends_job j zero z v r k is pay h = absurd (told_not r (Limit Events) h.1)
+  ends_job j (suc left) z v r k is pay h =
+      by_step t.told t.last (step_behind z s.between.world c j q s.told k.keeps.going.safe is s.came.by.0)
+      (step_pays u z s.between.world c j s.told k.keeps on_step.keeps pay s.came.by.0) made t.further t.whole
+      (λ l goes paying further. ends_job j left t.between.world l r on goes paying further)
     where
       t : IsThen (MakesStep c j) (AfterStep (EndsJob c j left)) z v r
       t = then_parts (MakesStep c j) (AfterStep (EndsJob c j left)) z v r h
@@ -590,19 +669,25 @@ module _ (u : State) (c : ControllerId) (q : Request) where
       at : t.between.world ≡ s.between.world
       at = ap (λ (x : Reached). x.world) s.whole ∙ ap (λ (x : Reached). x.world) s.further.0
 
-      on : IsAsking u t.between.world
-      on =
-          subst (IsAsking u) (sym at)
-          (asking_on u z s.between.world (event.Job c j) s.told k tt s.came.by.0 (job_leaves z s.between.world c j s.told s.came.by.0).servers
-          (job_log z s.between.world c j s.told s.came.by.0) (λ none. job_plan z s.between.world c j s.told s.came.by.0 none))
+      on_step : IsAsking u s.between.world
+      on_step =
+          asking_on u z s.between.world (event.Job c j) s.told k tt s.came.by.0 (job_leaves z s.between.world c j s.told s.came.by.0).servers
+          (job_log z s.between.world c j s.told s.came.by.0) (λ none. job_plan z s.between.world c j s.told s.came.by.0 none)
+          (λ none. job_fetches z s.between.world c j s.told s.came.by.0 none)
 
-      by_step : (o : Option Replied) (l : Reached) → Behind s.between.world c j q (ended_in s.told) → o ≡ ended_in s.told
-          → AfterStep (EndsJob c j left) o t.between.world l (Ok r) → v ≡ after t.between.turns l
-          → ((l : Reached) → IsOpenFor t.between.world c j q → EndsJob c j left t.between.world l (Ok r) → IsAnswered l r) → IsAnswered v r
-      by_step None l behind same further whole more =
+      on : IsAsking u t.between.world
+      on = subst (IsAsking u) (sym at) on_step
+
+      by_step : (o : Option Replied) (l : Reached) → Behind s.between.world c j q (ended_in s.told) → PaysBehind u s.between.world c j (ended_in s.told)
+          → o ≡ ended_in s.told → AfterStep (EndsJob c j left) o t.between.world l (Ok r) → v ≡ after t.between.turns l
+          → ((l : Reached) → IsOpenFor t.between.world c j q → IsPaying u t.between.world c j → EndsJob c j left t.between.world l (Ok r)
+          → IsAnswered l r)
+          → IsAnswered v r
+      by_step None l behind pays same further whole more =
           answered_behind t.between l v r whole
-          (more l (subst (λ (x : State). IsOpenFor x c j q) (sym at) (subst (Behind s.between.world c j q) (sym same) behind)) further)
-      by_step (Some x) l behind same further whole more =
+          (more l (subst (λ (x : State). IsOpenFor x c j q) (sym at) (subst (Behind s.between.world c j q) (sym same) behind))
+          (subst (λ (x : State). IsPaying u x c j) (sym at) (subst (PaysBehind u s.between.world c j) (sym same) pays)) further)
+      by_step (Some x) l behind pays same further whole more =
           let own = subst (Behind s.between.world c j q) (sym same) behind in
           let is_r : x ≡ r = sym (told_same r x further.1) in
           let end : v.world ≡ t.between.world = ap (λ (y : Reached). y.world) whole ∙ ap (λ (y : Reached). y.world) further.0 in
@@ -619,6 +704,9 @@ module _ (u : State) (c : ControllerId) (q : Request) where
             answer = subst (λ (y : State). IsAnswer y (asked_of q) x) (sym (end ∙ at)) own.0;
             fits = own.1;
             wrote = inr own.2;
+            spends =
+                subst (λ (y : State). EndsPaid u.setup u.log u.store.writes y.store.writes x.status) (sym (end ∙ at))
+                (subst (PaysBehind u s.between.world c j) (sym same) pays);
             tells = tells_first t.between l v x whole (tells_first s.between s.last t.between x s.whole in_turn);
           })
 
@@ -632,9 +720,9 @@ module _ (u : State) (c : ControllerId) (q : Request) where
       on : IsAsking u t.between.world
       on =
           asking_on u u t.between.world (event.Deliver m c) t.told
-          (record { going = going; servers = refl; log = refl; plan = λ none. none; grows = front_same u.store.writes }) tt t.came.by.0
+          (record { keeps = keeps_still u going; servers = refl }) tt t.came.by.0
           (delivery_leaves u t.between.world m c t.told t.came.by.0).servers (delivery_log u t.between.world m c t.told t.came.by.0)
-          (λ none. delivery_plan u t.between.world m c t.told t.came.by.0 none)
+          (λ none. delivery_plan u t.between.world m c t.told t.came.by.0 none) (λ none. delivery_fetches u t.between.world m c t.told t.came.by.0 none)
 
       by_delivered : (d : Delivered) → delivered_in t.told ≡ d → DeliversSo t.between.world c q d → (l : Reached) → AfterDelivery c d t.between.world l (Ok r)
           → v ≡ after t.between.turns l → IsAnswered v r
@@ -647,6 +735,7 @@ module _ (u : State) (c : ControllerId) (q : Request) where
             answer = subst (λ (y : State). IsAnswer y (asked_of q) x) (sym end) so.0;
             fits = so.1;
             wrote = inl (ap (λ (y : State). y.store.writes) end ∙ delivery_writes u t.between.world m c t.told t.came.by.0);
+            spends = inr (inl (ap (λ (y : State). y.store.writes) end ∙ delivery_writes u t.between.world m c t.told t.came.by.0));
             tells =
                 tells_first t.between l v x whole
                 (record {
@@ -657,7 +746,14 @@ module _ (u : State) (c : ControllerId) (q : Request) where
                 });
           })
       by_delivered (delivered.Started j) same so l further whole =
-          answered_behind t.between l v r whole (ends_job j (events_left_in t.between.world) t.between.world l r on so further)
+          answered_behind t.between l v r whole (ends_job j (events_left_in t.between.world) t.between.world l r on so.0
+          (record {
+            job = so.0.job;
+            there = so.0.there;
+            pays =
+                first_pays u.setup u.log u.store.writes t.between.world.store.writes so.0.job.asked so.0.job.stage so.1
+                (delivery_writes u t.between.world m c t.told t.came.by.0);
+          }) further)
       by_delivered delivered.Neither same so l further whole = absurd (told_not r NothingToDo further.1)
 
 -- ---- the answer is taken
@@ -677,6 +773,7 @@ record HasTaken (z y : State) (i : Instance) (p : Partition) (q : Sequence) (nod
   up : new.up ≡ node.up
   log : y.log ≡ z.log
   store : y.store ≡ z.store
+  deep : y.deep ≡ z.deep
 
 takes : (z y : State) (m : ℕ) (o : Outcome) (i : Instance) (p : Partition) (q : Sequence) (node : ServerNode) (r : Consumer) (reply : Reply)
     → reply_at z m ≡ Some reply → reply.number.instance.0 ≡ i.0 → reply.partition ≡ p → reply.sequence ≡ q → slice_get z.servers i.0 ≡ Some node
@@ -705,6 +802,7 @@ takes z y m o i p q node r reply there place of_p of_q stands found (cost, due, 
           up = ap (λ (x : Outcome × ServerNode). x.1.up) step ∙ ap (λ (x : ServerNode). x.up) same;
           log = ap (λ (x : State). x.log) is;
           store = ap (λ (x : State). x.store) is;
+          deep = ap (λ (x : State). x.deep) is;
         }
 
 -- ---- an exchange
@@ -727,14 +825,20 @@ told_behind P b l v whole x =
 abbrev pub Wrote : State → Reached → Type 0
 Wrote w v = (v.world.store.writes ≡ w.store.writes) ⊎ PutsOff v ⊎ Succeeds v
 
+-- it puts its replica off, or leaves fewer writes if it writes anything
+abbrev pub OffOrSpent : State → Reached → Type 0
+OffOrSpent w v = PutsOff v ⊎ Spends w.setup w.log w.store.writes v.world.store.writes
+
 -- and the run goes on
 pub record HasExchanged (w : State) (v : Reached) : Type 0 where
   pub on : KeepsOn w v.world
   pub less : OffOrLess w v
   pub wrote : Wrote w v
+  pub spends : OffOrSpent w v
 
 pub exchanged_behind : (w : State) (b l v : Reached) → v ≡ after b.turns l → HasExchanged w l → HasExchanged w v
-exchanged_behind w b l v whole x = record { on = subst (KeepsOn w) (sym at) x.on; less = by_less x.less; wrote = by_wrote x.wrote }
+exchanged_behind w b l v whole x =
+    record { on = subst (KeepsOn w) (sym at) x.on; less = by_less x.less; wrote = by_wrote x.wrote; spends = by_spent x.spends }
   where
     at : v.world ≡ l.world
     at = ap (λ (y : Reached). y.world) whole
@@ -748,9 +852,14 @@ exchanged_behind w b l v whole x = record { on = subst (KeepsOn w) (sym at) x.on
     by_wrote (inr (inl off)) = inr (inl (told_behind IsPutOff b l v whole off))
     by_wrote (inr (inr done)) = inr (inr (told_behind IsSuccess b l v whole done))
 
+    by_spent : OffOrSpent w l → OffOrSpent w v
+    by_spent (inl off) = inl (told_behind IsPutOff b l v whole off)
+    by_spent (inr spent) = inr (subst (λ (y : State). Spends w.setup w.log w.store.writes y.store.writes) (sym at) spent)
+
 -- nothing comes behind it
 pub exchanged_before : (w : State) (b l : Reached) → l ≡ after b.turns (stays b.world) → HasExchanged w b → HasExchanged w l
-exchanged_before w b l whole x = record { on = subst (KeepsOn w) (sym at) x.on; less = by_less x.less; wrote = by_wrote x.wrote }
+exchanged_before w b l whole x =
+    record { on = subst (KeepsOn w) (sym at) x.on; less = by_less x.less; wrote = by_wrote x.wrote; spends = by_spent x.spends }
   where
     at : l.world ≡ b.world
     at = ap (λ (y : Reached). y.world) whole
@@ -763,6 +872,10 @@ exchanged_before w b l whole x = record { on = subst (KeepsOn w) (sym at) x.on; 
     by_wrote (inl same) = inl (ap (λ (y : State). y.store.writes) at ∙ same)
     by_wrote (inr (inl off)) = inr (inl (told_first IsPutOff b (stays b.world) l whole off))
     by_wrote (inr (inr done)) = inr (inr (told_first IsSuccess b (stays b.world) l whole done))
+
+    by_spent : OffOrSpent w b → OffOrSpent w l
+    by_spent (inl off) = inl (told_first IsPutOff b (stays b.world) l whole off)
+    by_spent (inr spent) = inr (subst (λ (y : State). Spends w.setup w.log w.store.writes y.store.writes) (sym at) spent)
 
 -- a replica that asks isn't told of a commit yet
 asks_open_at : (name : List ℕ) (number : RequestNumber) (stage : Stage) (k : RequestKind) → kind_at name number stage ≡ Some k
@@ -808,6 +921,7 @@ module _ (w u : State) (i : Instance) (p : Partition) (q : Sequence) (request : 
         shut = λ shut. shut;
       } in
       step_keeps w u (event.Report i p q) o going tt steps asked.log (λ none. ap (λ (t : Told). t.faults.plan) asked.store ∙ none)
+      (λ none. ap (λ (d : ToldDeep). d.faults.plan) asked.deep ∙ none)
       (put_up w u i.0 asked.old asked.new p q asked.replica waiting put)
       (λ same. put_calm w u i.0 asked.old asked.new p q asked.replica waiting put asked.store)
 
@@ -824,7 +938,7 @@ module _ (w u : State) (i : Instance) (p : Partition) (q : Sequence) (request : 
     before : ahead_in_world b.world ≡ ahead_in_world w
     before =
         ap (λ (ns : List ServerNode). ahead_servers b.world.log ns) k.asking.servers
-        ∙ ap (λ (l : Log). ahead_servers l u.servers) k.asking.log
+        ∙ ap (λ (l : Log). ahead_servers l u.servers) k.asking.keeps.log
         ∙ asked_still
 
     turns_so : answered_by waiting k.answer.reply ≡ turned waiting (answered waiting.phase k.answer.reply.status)
@@ -871,7 +985,8 @@ module _ (w u : State) (i : Instance) (p : Partition) (q : Sequence) (request : 
             log = taken.log;
             shut = λ shut. absurd (true≢false (sym (asks_open waiting.name request.number waiting.phase request.kind asked.kind) ∙ shut));
           } in
-          step_keeps b.world y (event.Reply r.message) o k.asking.going tt steps taken.log (λ none. ap (λ (t : Told). t.faults.plan) taken.store ∙ none)
+          step_keeps b.world y (event.Reply r.message) o k.asking.keeps.going tt steps taken.log (λ none. ap (λ (t : Told). t.faults.plan) taken.store ∙ none)
+          (λ none. ap (λ (d : ToldDeep). d.faults.plan) taken.deep ∙ none)
           (put_up b.world y i.0 asked.new taken.new p q waiting (answered_by waiting k.answer.reply) put)
           (λ same. put_calm b.world y i.0 asked.new taken.new p q waiting (answered_by waiting k.answer.reply) put taken.store)
 
@@ -895,6 +1010,17 @@ module _ (w u : State) (i : Instance) (p : Partition) (q : Sequence) (request : 
         wrote_so (inr (inl off)) e = inr (inl (is_told IsPutOff off))
         wrote_so (inr (inr done)) e = inr (inr (is_told IsSuccess done))
 
+        spent_so : EndsPaid u.setup u.log u.store.writes b.world.store.writes r.status → v.world ≡ t.between.world → OffOrSpent w v
+        spent_so (inl off) e = inl (is_told IsPutOff off)
+        spent_so (inr spent) e =
+            let now : v.world.store.writes ≡ b.world.store.writes =
+            ap (λ (y : State). y.store.writes) e ∙ ap (λ (y : Told). y.writes) (taken t.between.world t.told t.came.by.0).store in
+            inr
+            (subst (λ (h : List Seen). Spends w.setup w.log w.store.writes h) (sym now)
+            (subst (λ (h : List Seen). Spends w.setup w.log h b.world.store.writes) (ap (λ (y : Told). y.writes) asked.store)
+            (subst (λ (l : Log). Spends w.setup l u.store.writes b.world.store.writes) asked.log
+            (subst (λ (s : Setup). Spends s u.log u.store.writes b.world.store.writes) first.setup spent))))
+
         by_less : (y : State) → IsPutOff r.status ⊎ (ahead_in_world t.between.world < ahead_in_world w) → y ≡ t.between.world
             → PutsOff v ⊎ (ahead_in_world y < ahead_in_world w)
         by_less y (inl off) e = inl (is_told IsPutOff off)
@@ -905,12 +1031,13 @@ module _ (w u : State) (i : Instance) (p : Partition) (q : Sequence) (request : 
         by_state (Some s) g =
             let end : v.world ≡ t.between.world =
             ap (λ (z : Reached). z.world) whole ∙ ap (λ (z : Reached). z.world) t.whole ∙ ap (λ (z : Reached). z.world) g.0 in
-            let kept = keeps_then w b.world t.between.world (keeps_then w u b.world first (asking_keeps u b.world k.asking))
+            let kept = keeps_then w b.world t.between.world (keeps_then w u b.world first k.asking.keeps)
             (taken_keeps t.between.world t.told t.came.by.0) in
             record {
               on = subst (KeepsOn w) (sym end) kept;
               less = by_less v.world (taken_less t.between.world t.told t.came.by.0) end;
               wrote = wrote_so k.wrote end;
+              spends = spent_so k.spends end;
             }
 
 -- a request that was sent is answered, and the answer taken

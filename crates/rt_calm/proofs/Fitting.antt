@@ -58,6 +58,7 @@ use Rattle.rt_lists.proofs.Members.{place-Has}
 use Rattle.rt_store.specs.Meaning.{Meaning}
 use Rattle.rt_store.specs.declared.refused.StoreRefused.{StoreRefused}
 use Rattle.rt_store.specs.declared.refused.StoreRefused.TheVariants.{NoNode, Exists, VersionChanged, Failed, Memory}
+use Rattle.rt_calm.proofs.Paying.{IsFirst}
 
 -- ---- what fits
 
@@ -447,6 +448,17 @@ abandoned_fits x kind.Stopped what asks = subst (λ (a : Ask). StopTold (abandon
 abandoned_fits x (kind.Extend millis) what asks = tt
 abandoned_fits x (kind.Upload path bytes) what asks = absurd (none-some what asks)
 
+-- a job that a reaction starts is at its first stage
+abbrev BeginsFirst : Result JobStage ReplyStatus → Type 0
+BeginsFirst (Ok s) = IsFirst s
+BeginsFirst (Err s) = Unit {0}
+
+begins_first : (file : Option NamedFile) (y : Reaction) → BeginsFirst (leads_to file y)
+begins_first file (reaction.Answer what) = tt
+begins_first (Some file) (reaction.StartCommit end) = tt
+begins_first None (reaction.StartCommit end) = tt
+begins_first file reaction.StartOffline = refl
+
 -- ---- a request
 
 abbrev handling : Handling → Option Handling
@@ -462,6 +474,7 @@ pub record IsBegun (c : Controlling) (r : Request) (new : Controlling) (n : ℕ)
   pub number : job.number ≡ n
   pub asked : job.asked ≡ asked_of r
   pub starts : Starts r.offset r.kind job.stage
+  pub first : IsFirst job.stage
 
 -- what is handed out fits the request
 abbrev pub HandsOut : Controlling → Request → Controlling → Handled → Type 0
@@ -475,15 +488,17 @@ module _ (c : Controlling) (r : Request) (now : Moment) where
   made : (y x : Handling) → handling y ≡ handling x → IsRight y → IsRight x
   made y x e k = subst IsRight (same_handling y x e) k
 
-  follows_right : (ms : List SegmentMachine) (o : Result JobStage ReplyStatus) → IsLed r.offset r.kind o → IsRight (follows_by (record c { machines = ms }) r o)
-  follows_right ms (Ok s) starts = record {
+  follows_right : (ms : List SegmentMachine) (o : Result JobStage ReplyStatus) → IsLed r.offset r.kind o → BeginsFirst o
+      → IsRight (follows_by (record c { machines = ms }) r o)
+  follows_right ms (Ok s) starts first = record {
     job = record { number = c.started; asked = asked_of r; stage = s };
     jobs = refl;
     number = refl;
     asked = refl;
     starts = starts;
+    first = first;
   }
-  follows_right ms (Err s) fits = fits
+  follows_right ms (Err s) fits first = fits
 
   module _ (what : Ask) (asks : ask_in r.offset r.kind ≡ Some what) where
     reacts_right : (ms : List SegmentMachine) (seen : SeenMeta) (m : Completion) → Contains (instances m.reporters) r.number.instance
@@ -491,6 +506,7 @@ module _ (c : Controlling) (r : Request) (now : Moment) where
     reacts_right ms seen m there =
         follows_right ms (leads_to (named_file r seen) (react m r.number.instance what now).0)
         (led_fits r.offset r seen r.kind what (react m r.number.instance what now).0 asks (react_fits m r.number.instance what now there))
+        (begins_first (named_file r seen) (react m r.number.instance what now).0)
 
     -- a machine of the segment reacts, whose reporters are the segment's replicas
     machine_right : (place : ℕ) (o : Option SegmentMachine) (x : Handling)

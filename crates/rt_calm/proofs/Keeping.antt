@@ -2,7 +2,7 @@
 use Rattle.std.proofs.Common.{◌≡◌, List, [], ◌∷◌, ◌++◌, length, Ok, refl, sym, ◌∙◌, ap, subst, arith, slice_get}
 use Rattle.std.proofs.lemmas.List.{append-nil, length-append}
 use Rattle.rt_commit.specs.Calls.{Call, calls_nothing, creates, gets, puts, reads, sets}
-use Rattle.rt_commit.specs.Told.{store_after}
+use Rattle.rt_commit.specs.Told.{deep_after, store_after, ToldDeep}
 use Rattle.rt_events.specs.Fits.{Fits as IsFitting}
 use Rattle.rt_events.specs.declared.event.Event.{Event}
 use Rattle.rt_events.specs.declared.outcome.Outcome.{Outcome}
@@ -11,7 +11,7 @@ use Rattle.rt_lists.proofs.Members.{front_same, front_then}
 use Rattle.rt_model.specs.declared.node.Seen.{Seen}
 use Rattle.rt_nodes.specs.declared.server_node.ServerNode.{ServerNode}
 use Rattle.rt_safety.proofs.Runs.{leads_add, leads_safe}
-use Rattle.rt_safety.specs.Runs.{happens, Leads}
+use Rattle.rt_safety.specs.Runs.{happens, Leads, Turn}
 use Rattle.rt_state.specs.IsSafeWorld.{IsSafeWorld}
 use Rattle.rt_state.specs.declared.state.State.{State}
 use Rattle.rt_store.specs.Meaning.{Told}
@@ -76,10 +76,31 @@ pub record KeepsOn (w v : State) : Type 0 where
   pub going : IsGoing v
   pub log : v.log ≡ w.log
   pub grows : IsFront w.store.writes v.store.writes
+  pub setup : v.setup ≡ w.setup
+  pub led : (turns : List Turn) × Leads w turns v
+  pub up : AreUp w → AreUp v
+  pub unplanned : w.store.faults.plan ≡ [] → v.store.faults.plan ≡ []
+  pub fetches : w.deep.faults.plan ≡ [] → v.deep.faults.plan ≡ []
   pub steady : v.store.writes ≡ w.store.writes → IsSteady w → IsSteady v
 
 pub keeps_still : (w : State) → IsGoing w → KeepsOn w w
-keeps_still w k = record { going = k; log = refl; grows = front_same w.store.writes; steady = λ same steady. steady }
+keeps_still w k =
+    record {
+      going = k;
+      log = refl;
+      grows = front_same w.store.writes;
+      setup = refl;
+      led = ([], refl);
+      up = λ up. up;
+      unplanned = λ none. none;
+      fetches = λ none. none;
+      steady = λ same steady. steady;
+    }
+
+-- turns behind others
+pub leads_then : (from m to : State) (xs ys : List Turn) → Leads from xs m → Leads m ys to → Leads from (xs ++ ys) to
+leads_then from m to [] ys same l = subst (λ (x : State). Leads x ys to) same l
+leads_then from m to (x ∷ xs) ys (next, turn, rest) l = (next, turn, leads_then next m to xs ys rest l)
 
 pub keeps_then : (w m v : State) → KeepsOn w m → KeepsOn m v → KeepsOn w v
 keeps_then w m v x y =
@@ -87,6 +108,11 @@ keeps_then w m v x y =
       going = y.going;
       log = y.log ∙ x.log;
       grows = front_then w.store.writes m.store.writes v.store.writes x.grows y.grows;
+      setup = y.setup ∙ x.setup;
+      led = (x.led.0 ++ y.led.0, leads_then w m v x.led.0 y.led.0 x.led.1 y.led.1);
+      up = λ up. y.up (x.up up);
+      unplanned = λ none. y.unplanned (x.unplanned none);
+      fetches = λ none. y.fetches (x.fetches none);
       steady = λ same steady. kept same steady;
     }
   where
@@ -97,14 +123,19 @@ keeps_then w m v x y =
 
 -- a step that leaves the servers up and calm
 pub step_keeps : (u v : State) (e : Event) (o : Outcome) → IsGoing u → IsFitting u.setup.schema e → Steps u e v (Ok o) → v.log ≡ u.log
-    → (u.store.faults.plan ≡ [] → v.store.faults.plan ≡ []) → (AreUp u → AreUp v) → (v.store.writes ≡ u.store.writes → AreAllCalm u → AreAllCalm v)
+    → (u.store.faults.plan ≡ [] → v.store.faults.plan ≡ []) → (u.deep.faults.plan ≡ [] → v.deep.faults.plan ≡ []) → (AreUp u → AreUp v) → (v.store.writes ≡ u.store.writes → AreAllCalm u → AreAllCalm v)
     → KeepsOn u v
-step_keeps u v e o k fits steps log plan up calm =
+step_keeps u v e o k fits steps log plan fetches up calm =
     let going = goes_on u v e o k fits steps in
     record {
       going = going;
       log = log;
       grows = step_grows u v e o k fits steps;
+      setup = (leads_add u (happens e o ∷ []) v k.safe (v, (fits, steps), refl)).goes.setup;
+      led = (happens e o ∷ [], (v, (fits, steps), refl));
+      up = up;
+      unplanned = plan;
+      fetches = fetches;
       steady = λ same s. record {
         safe = going.safe;
         unplanned = plan s.unplanned;
@@ -113,6 +144,18 @@ step_keeps u v e o k fits steps log plan up calm =
         follow = can_follow v going;
       };
     }
+
+pub servers_up : (u v : State) → v.servers ≡ u.servers → AreUp u → AreUp v
+servers_up u v servers up i n there = up i n (ap (λ (ns : List ServerNode). slice_get ns i) (sym servers) ∙ there)
+
+-- no call plans a fault of the deep store
+pub fetches_after : (d : ToldDeep) (call : Call) → d.faults.plan ≡ [] → (deep_after d call).faults.plan ≡ []
+fetches_after d calls_nothing e = e
+fetches_after d (puts path bytes) e = plan_met d.faults e
+fetches_after d (gets path) e = plan_met d.faults e
+fetches_after d (reads k) e = e
+fetches_after d (sets from n) e = e
+fetches_after d (creates k n prior) e = e
 
 -- servers that are the same stay calm over the same history
 pub calm_still : (u v : State) → v.servers ≡ u.servers → v.store.writes ≡ u.store.writes → AreAllCalm u → AreAllCalm v

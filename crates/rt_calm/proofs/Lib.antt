@@ -5,6 +5,8 @@ pub mod Fitting
 pub mod Keeping
 pub mod Paying
 pub mod Rounds
+pub mod Serving
+pub mod Settled
 pub mod Spent
 pub mod Standing
 pub mod Sums

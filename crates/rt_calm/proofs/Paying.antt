@@ -411,13 +411,13 @@ module _ (setup : Setup) (log : Log) (u : List Seen) where
 
 -- behind a step its job goes on so, or its answer puts off or leaves fewer writes
 abbrev pub AfterPays : Setup → Log → List Seen → Asked → List Seen → Option Job → Option Reply → Type 0
-AfterPays setup log u q h o None = (k : Job) × (o ≡ Some k) × Pays setup log u q h k.stage
+AfterPays setup log u q h o None = (k : Job) × (o ≡ Some k) × (k.asked ≡ q) × Pays setup log u q h k.stage
 AfterPays setup log u q h o (Some r) = EndsPaid setup log u h r.status
 
 pub job_pays : (setup : Setup) (past : Past) (log : Log) (u : List Seen) (t v : Told) (d e : ToldDeep) (c new : Controlling) (j : ℕ) (job : Job) (now : Moment) (did : JobStep)
     → past.history ≡ t.writes → IsControllerOver setup past c → IsVersioned t.writes
     → Works (means t) (means v) (deep_means d) (deep_means e) c j now new (Ok did) → job_of c j ≡ Some job
-    → commits_of v.writes job.asked.partition ≤ length (messages_of log job.asked.partition) → Pays setup log u job.asked t.writes job.stage
+    → ((p : Partition) → p.0 < setup.partitions → commits_of v.writes p ≤ length (messages_of log p)) → Pays setup log u job.asked t.writes job.stage
     → AfterPays setup log u job.asked v.writes (job_of new j) did.reply
 job_pays setup past log u t v d e c new j job now did same over versions works opened few paid =
     let w : Working = record { controller = new; step = did } in
@@ -432,8 +432,8 @@ job_pays setup past log u t v d e c new j job now did same over versions works o
     ap (λ (z : Told). z.writes) left.store ∙ ap (λ z. (store_after t z).writes) call in
     let own = ap (λ (a : Assigned). a.replication) over.assigned in
     let paid_there = subst (λ (z : Job). Pays setup log u z.asked t.writes z.stage) (sym is) paid in
-    let few_there = subst (λ (z : Job). commits_of v.writes z.asked.partition ≤ length (messages_of log z.asked.partition)) (sym is) few in
-    let few_then = subst (λ (h : List Seen). commits_of h k.job.asked.partition ≤ length (messages_of log k.job.asked.partition)) written few_there in
+    let few_then = subst (λ (h : List Seen). commits_of h k.job.asked.partition ≤ length (messages_of log k.job.asked.partition)) written
+    (few k.job.asked.partition lasts.job.within) in
     let pays =
     stage_pays setup log u k.job.asked k.x t c.assigned own lasts.job.within versions now d k.job.stage at paid_there few_then
     (ap (λ z. step_at k.job.asked now k.job.stage (answer_to t d z)) (sym call) ∙ k.made) in
@@ -445,5 +445,22 @@ job_pays setup past log u t v d e c new j job now did same over versions works o
     by_status : (place : ℕ) (g : Job) (x : Stepping) → job_place c.jobs j ≡ Some place → slice_get c.jobs place ≡ Some g → (o : Option ReplyStatus) → StepPays setup log u g.asked v.writes x.stage o
         → AfterPays setup log u g.asked v.writes (job_of (settled (with_stage c place g x.stage) place g.asked (commits g.stage) x.did o).controller j)
         (settled (with_stage c place g x.stage) place g.asked (commits g.stage) x.did o).step.reply
-    by_status place g x found there None pays = (_, job_goes c.jobs j place g found there x.stage, pays)
+    by_status place g x found there None pays = (_, job_goes c.jobs j place g found there x.stage, refl, pays)
     by_status place g x found there (Some s) pays = pays
+
+-- a job that begins has written nothing
+abbrev pub IsFirst : JobStage → Type 0
+IsFirst (stage.Check from end path) = Unit {0}
+IsFirst (stage.IdealRead w found) = w ≡ work.Offline
+IsFirst (stage.Done from commit) = ⊥
+IsFirst (stage.Next done) = ⊥
+IsFirst (stage.IdealSet w found ideal) = ⊥
+IsFirst stage.Ended = ⊥
+
+pub first_pays : (setup : Setup) (log : Log) (u h : List Seen) (q : Asked) (s : JobStage) → IsFirst s → h ≡ u → Pays setup log u q h s
+first_pays setup log u h q (stage.Check from end path) first same = same
+first_pays setup log u h q (stage.IdealRead w found) first same = subst (WorkPays setup log u q h) (sym first) same
+first_pays setup log u h q (stage.Done from commit) first same = absurd first
+first_pays setup log u h q (stage.Next done) first same = absurd first
+first_pays setup log u h q (stage.IdealSet w found ideal) first same = absurd first
+first_pays setup log u h q stage.Ended first same = absurd first

@@ -8,7 +8,7 @@ use Rattle.rt_events.specs.declared.event.Event.TheVariants.{Build, Consume, Rep
 use Rattle.rt_events.specs.declared.outcome.Outcome.{Outcome}
 use Rattle.rt_events.specs.declared.refusal.Refusal.{Refusal}
 use Rattle.rt_events.specs.declared.refusal.Refusal.TheVariants.{NoSuchMessage, NoSuchNode, NodeDown, NothingToDo, Limit, Memory}
-use Rattle.rt_macros.specs.Doing.{Act, Attempted, AttemptedBy, Choose, Each, EachFrom, Gives, HappensBy, Reached, after, stays, Refuses}
+use Rattle.rt_macros.specs.Doing.{Act, Attempted, Choose, Each, EachFrom, Gives, HappensBy, Reached, after, stays, Refuses}
 use Rattle.rt_macros.specs.Exchanging.{AfterReport}
 use Rattle.rt_macros.specs.Settling.{AfterRequest, BuildAndExchange, BuildTurn, ConsumeTurn, ExchangeTurn, ReplicaTurn, ReplicasHeld, ReplicasOfAll, ReplicasTurn, Requests, Round, SegmentAt, ServersTurn, WithLeader, may_consume, waits_in, AfterRound, Settles, SettlesIn}
 use Rattle.rt_macros.specs.declared.settling.TheConstants.{BATCH, MOST_ROUNDS}
@@ -25,7 +25,7 @@ use Rattle.rt_state.specs.declared.state.State.{State}
 use Rattle.rt_world.specs.Reading.{held_in, is_ready_at, leader_in}
 use Rattle.rt_world.specs.Step.{Steps}
 use Rattle.rt_heal.proofs.Dropped.{runs_told, IsToldRightly}
-use Rattle.rt_heal.proofs.LessRounds.{servers_rest, states, HasRested, IsSteady, still_steady}
+use Rattle.rt_heal.proofs.LessRounds.{servers_rest, states, HasRested, IsSteady}
 use Rattle.rt_heal.proofs.LessWorld.{builds_made, consumes_made, builds_less, consumes_less, LeavesLess}
 use Rattle.rt_heal.proofs.Quiet.{IsThen, then_parts, told_not, told_same}
 use Rattle.rt_heal.specs.AtRest.{AreUp}
@@ -46,10 +46,17 @@ use Rattle.rt_model.specs.declared.ideal_state.IdealEntry.{IdealEntry}
 use Rattle.rt_model.specs.declared.node.Seen.{Seen}
 use Rattle.rt_heal.proofs.Calming.{servers_calmed, HasCalmed}
 use Rattle.rt_heal.proofs.Most.{asked_sum, calm_sum, own_segment, servers_sum, table_sum}
-use Rattle.rt_calm.proofs.Keeping.{can_follow, goes_on, keeps_still, keeps_then, step_grows, IsGoing, KeepsOn}
+use Rattle.rt_calm.proofs.Keeping.{can_follow, keeps_still, keeps_then, step_keeps, IsGoing, KeepsOn}
+use Rattle.rt_calm.proofs.Serving.{attempt_does, servers_serve, HasServed}
+use Rattle.rt_calm.specs.Spent.{most_yet, writes_left, Spends}
+use Rattle.rt_base.specs.declared.numbers.Sequence.{Sequence}
+use Rattle.rt_commit.specs.Told.{ToldDeep}
+use Rattle.rt_state.specs.Nodes.{ServerDoesAt, ServerFetchesAt}
+use Rattle.rt_state.specs.Replicas.{NodeBuilds, NodeConsumes}
+use Rattle.std.proofs.Common.{slice_get}
 use Rattle.rt_calm.specs.Ahead.{ahead_in_world, ahead_servers, ahead_table, ahead_at, ahead_entry, ahead_in, most_ahead, most_ahead_of, stop_ahead}
 use Rattle.rt_calm.specs.Off.{IsPutOff, IsSuccess, PutsOff, Succeeds}
-use Rattle.rt_calm.proofs.Exchanged.{exchanged_before, exchanged_behind, finishes, told_behind, told_first, HasExchanged, OffOrLess, Wrote}
+use Rattle.rt_calm.proofs.Exchanged.{exchanged_before, exchanged_behind, finishes, told_behind, told_first, HasExchanged, OffOrLess, OffOrSpent, Wrote}
 use Rattle.rt_calm.proofs.Standing.{batch_falls, build_falls}
 use Rattle.rt_calm.proofs.Sums.{put_falls}
 
@@ -59,6 +66,7 @@ pub record HasFallen (w : State) (busy : Bool) (v : Reached) (told : Bool) : Typ
   pub most : ahead_in_world v.world ≤ ahead_in_world w
   pub less : told ≡ true → (busy ≡ true) ⊎ (ahead_in_world v.world < ahead_in_world w)
   pub wrote : (v.world.store.writes ≡ w.store.writes) ⊎ Succeeds v
+  pub spends : Spends w.setup w.log w.store.writes v.world.store.writes
 
 -- a replica is put off, or no more lies ahead
 abbrev pub OffOrFallen : State → Bool → Reached → Bool → Type 0
@@ -75,6 +83,7 @@ nothing_fell w busy v told k same e =
       most = omega (arith, ap ahead_in_world same);
       less = λ t. inl (sym e ∙ t);
       wrote = inl (ap (λ (x : State). x.store.writes) same);
+      spends = inl (ap (λ (x : State). x.store.writes) same);
     }
 
 rests : (w : State) (busy : Bool) (v : Reached) (told : Bool) → IsGoing w → v ≡ stays w → told ≡ busy → OffOrFallen w busy v told
@@ -82,8 +91,23 @@ rests w busy v told k same e = inr (nothing_fell w busy v told k (ap (λ (x : Re
 
 -- something happened, by which less lies ahead
 falls_by : (w : State) (busy : Bool) (v : Reached) (told : Bool) → KeepsOn w v.world → ahead_in_world v.world < ahead_in_world w
-    → (v.world.store.writes ≡ w.store.writes) ⊎ Succeeds v → HasFallen w busy v told
-falls_by w busy v told k lt wrote = record { on = k; most = omega (arith, lt); less = λ t. inr lt; wrote = wrote }
+    → (v.world.store.writes ≡ w.store.writes) ⊎ Succeeds v → Spends w.setup w.log w.store.writes v.world.store.writes → HasFallen w busy v told
+falls_by w busy v told k lt wrote spends = record { on = k; most = omega (arith, lt); less = λ t. inr lt; wrote = wrote; spends = spends }
+
+-- what is spent adds up
+pub spends_then : (w b v : State) → b.setup ≡ w.setup → b.log ≡ w.log → Spends w.setup w.log w.store.writes b.store.writes
+    → Spends b.setup b.log b.store.writes v.store.writes → Spends w.setup w.log w.store.writes v.store.writes
+spends_then w b v setup log first second =
+    by_both first
+    (subst (λ (s : Setup). Spends s w.log b.store.writes v.store.writes) setup
+    (subst (λ (l : Log). Spends b.setup l b.store.writes v.store.writes) log second))
+  where
+    by_both : Spends w.setup w.log w.store.writes b.store.writes → Spends w.setup w.log b.store.writes v.store.writes
+        → Spends w.setup w.log w.store.writes v.store.writes
+    by_both (inl same) (inl again) = inl (again ∙ same)
+    by_both (inl same) (inr less) = inr (subst (λ (h : List Seen). (writes_left w.setup w.log v.store.writes < writes_left w.setup w.log h) × (most_yet w.setup w.log v.store.writes ≤ most_yet w.setup w.log h)) same less)
+    by_both (inr less) (inl again) = subst (λ (h : List Seen). Spends w.setup w.log w.store.writes h) (sym again) (inr less)
+    by_both (inr less) (inr more) = inr (omega (arith, less.0, more.0), omega (arith, less.1, more.1))
 
 two_fall : (w : State) (b l v : Reached) (busy mid told : Bool) → v ≡ after b.turns l → HasFallen w busy b mid → HasFallen b.world mid l told
     → HasFallen w busy v told
@@ -93,6 +117,7 @@ two_fall w b l v busy mid told whole x y =
       most = omega (arith, x.most, y.most, same);
       less = λ t. by_second (y.less t);
       wrote = by_wrote x.wrote y.wrote;
+      spends = spends_then w b.world v.world x.on.setup x.on.log x.spends (subst (λ (z : State). Spends b.world.setup b.world.log b.world.store.writes z.store.writes) (sym at) y.spends);
     }
   where
     at : v.world ≡ l.world
@@ -151,33 +176,31 @@ StepFalls w y = KeepsOn w y × (ahead_in_world y < ahead_in_world w) × (y.store
 
 attempt_falls : (e : Event) (busy : Bool) (w : State) (v : Reached) (told : Bool) → IsGoing w
     → ((y : State) (o : Outcome) → Steps w e y (Ok o) → StepFalls w y) → Attempted e busy w v (Ok told) → OffOrFallen w busy v told
-attempt_falls e busy w v told k step t = by_told t.between t.told t.last t.came.by t.further t.whole
+attempt_falls e busy w v told k step t = by_way (attempt_does e busy w v told t)
   where
-    by_told : (b : Reached) (r : Result Outcome Refusal) (l : Reached) → HappensBy e w b r → AttemptedBy busy r b.world l (Ok told) → v ≡ after b.turns l
-        → OffOrFallen w busy v told
-    by_told b (Ok o) l by further whole =
-        let x = subst (StepFalls w) (sym (ap (λ (z : Reached). z.world) whole ∙ ap (λ (z : Reached). z.world) further.0)) (step b.world o by.0) in
-        inr (falls_by w busy v told x.0 x.1 (inl x.2))
-    by_told b (Err NothingToDo) l by further whole =
-        let end : v.world ≡ w =
-        ap (λ (z : Reached). z.world) whole ∙ ap (λ (z : Reached). z.world) further.0 ∙ ap (λ (z : Reached). z.world) by.1 in
-        inr (nothing_fell w busy v told k end (told_same told busy further.1))
-    by_told b (Err NoSuchMessage) l by further whole = absurd (told_not told NoSuchMessage further.1)
-    by_told b (Err NoSuchNode) l by further whole = absurd (told_not told NoSuchNode further.1)
-    by_told b (Err NodeDown) l by further whole = absurd (told_not told NodeDown further.1)
-    by_told b (Err (Limit which)) l by further whole = absurd (told_not told (Limit which) further.1)
-    by_told b (Err Memory) l by further whole = absurd (told_not told Memory further.1)
+    by_way : ((v.world ≡ w) × (told ≡ busy)) ⊎ ((o : Outcome) × Steps w e v.world (Ok o)) → OffOrFallen w busy v told
+    by_way (inl same) = inr (nothing_fell w busy v told k same.0 same.1)
+    by_way (inr (o, steps)) = let x = step v.world o steps in inr (falls_by w busy v told x.0 x.1 (inl x.2) (inl x.2))
 
 -- a step that leaves less to do keeps on
-less_keeps : (w y : State) (e : Event) (o : Outcome) → IsGoing w → IsFitting w.setup.schema e → Steps w e y (Ok o) → LeavesLess w y → KeepsOn w y
-less_keeps w y e o k fits step l =
-    let going = goes_on w y e o k fits step in
-    record {
-      going = going;
-      log = l.log;
-      grows = step_grows w y e o k fits step;
-      steady = λ same s. still_steady w y s going.safe l;
-    }
+less_keeps : (w y : State) (e : Event) (o : Outcome) → IsGoing w → IsFitting w.setup.schema e → Steps w e y (Ok o) → LeavesLess w y → y.deep ≡ w.deep → KeepsOn w y
+less_keeps w y e o k fits step l deep =
+    step_keeps w y e o k fits step l.log (λ none. ap (λ (t : Told). t.faults.plan) l.store ∙ none)
+    (λ none. ap (λ (d : ToldDeep). d.faults.plan) deep ∙ none) l.up (λ same. l.calm)
+
+consume_deep : (w y : State) (i : Instance) (p : Partition) (q : Sequence) (max : ℕ) (o : Outcome) → Steps w (Consume i p q max) y (Ok o) → y.deep ≡ w.deep
+consume_deep w y i p q max o (cost, due, h) = by_node (slice_get w.servers i.0) h
+  where
+    by_node : (n : Option ServerNode) → ServerFetchesAt n w i (NodeConsumes p q max w.moment) cost (y, o) → y.deep ≡ w.deep
+    by_node None h = absurd h
+    by_node (Some n) (new, log, step, is) = ap (λ (x : State). x.deep) is
+
+build_deep : (w y : State) (i : Instance) (p : Partition) (q : Sequence) (o : Outcome) → Steps w (Build i p q) y (Ok o) → y.deep ≡ w.deep
+build_deep w y i p q o (cost, due, h) = by_node (slice_get w.servers i.0) h
+  where
+    by_node : (n : Option ServerNode) → ServerDoesAt n w i (NodeBuilds p q) cost (y, o) → y.deep ≡ w.deep
+    by_node None h = absurd h
+    by_node (Some n) (new, step, is) = ap (λ (x : State). x.deep) is
 
 consume_falls : (paused : Bool) (i : Instance) (s : SegmentAt) → Falls (ConsumeTurn paused i s)
 consume_falls paused i s busy w v told k h = by_test (may_consume paused w i s) refl h
@@ -191,7 +214,7 @@ consume_falls paused i s busy w v told k h = by_test (may_consume paused w i s) 
         (λ y o step.
         let m = consumes_made w y i s.0 s.1 o k.safe (can_follow w k) BATCH (omega arith) ready step in
         let l = consumes_less w y i s.0 s.1 o k.safe (can_follow w k) BATCH (omega arith) ready step in (
-          less_keeps w y (Consume i s.0 s.1 BATCH) o k tt step l,
+          less_keeps w y (Consume i s.0 s.1 BATCH) o k tt step l (consume_deep w y i s.0 s.1 BATCH o step),
           put_falls w y i.0 m.node m.new s.0 s.1 m.replica m.next
               (record { there = m.there; found = m.found; table = m.table; servers = m.servers; log = m.log })
               (batch_falls m.replica w.log w.moment BATCH m.next m.is.phase m.follows m.made.0 m.made.1),
@@ -204,7 +227,7 @@ build_turn_falls i s busy w v told k t =
     (λ y o step.
     let m = builds_made w y i s.0 s.1 o k.safe (can_follow w k) step in
     let l = builds_less w y i s.0 s.1 o k.safe (can_follow w k) step in (
-      less_keeps w y (Build i s.0 s.1) o k tt step l,
+      less_keeps w y (Build i s.0 s.1) o k tt step l (build_deep w y i s.0 s.1 o step),
       put_falls w y i.0 m.node m.new s.0 s.1 m.replica m.next
           (record { there = m.there; found = m.found; table = m.table; servers = m.servers; log = m.log }) (build_falls m.replica m.next w.log m.made),
       ap (λ (t : Told). t.writes) l.store,
@@ -213,13 +236,14 @@ build_turn_falls i s busy w v told k t =
 -- ---- an exchange
 
 exchanged_falls : (w : State) (busy : Bool) (v : Reached) (told : Bool) → HasExchanged w v → OffOrFallen w busy v told
-exchanged_falls w busy v told x = by_way x.less x.wrote
+exchanged_falls w busy v told x = by_way x.less x.wrote x.spends
   where
-    by_way : OffOrLess w v → Wrote w v → OffOrFallen w busy v told
-    by_way (inl off) wrote = inl off
-    by_way (inr less) (inl same) = inr (falls_by w busy v told x.on less (inl same))
-    by_way (inr less) (inr (inl off)) = inl off
-    by_way (inr less) (inr (inr done)) = inr (falls_by w busy v told x.on less (inr done))
+    by_way : OffOrLess w v → Wrote w v → OffOrSpent w v → OffOrFallen w busy v told
+    by_way (inl off) wrote spends = inl off
+    by_way (inr less) wrote (inl off) = inl off
+    by_way (inr less) (inl same) (inr spends) = inr (falls_by w busy v told x.on less (inl same) spends)
+    by_way (inr less) (inr (inl off)) spends = inl off
+    by_way (inr less) (inr (inr done)) (inr spends) = inr (falls_by w busy v told x.on less (inr done) spends)
 
 requests_fall : (i : Instance) (s : SegmentAt) (c : ControllerId) (busy : Bool) (w : State) (v : Reached) (told : Bool) → IsGoing w
     → Requests i s c busy w v (Ok told) → OffOrFallen w busy v told
@@ -280,17 +304,22 @@ ahead_states : (log : Log) (ns : List ServerNode) → ahead_servers log ns ≡ s
 ahead_states log [] = refl
 ahead_states log (n ∷ ns) = ap (λ (x : ℕ). ahead_table log n.server.table.entries + x) (ahead_states log ns)
 
-rested_ahead : (w : State) (busy : Bool) (v : State) (told : Bool) → HasRested w busy v told → ahead_in_world v ≡ ahead_in_world w
+pub rested_ahead : (w : State) (busy : Bool) (v : State) (told : Bool) → HasRested w busy v told → ahead_in_world v ≡ ahead_in_world w
 rested_ahead w busy v told x =
     ap (λ (l : Log). ahead_servers l v.servers) x.log ∙ ahead_states w.log v.servers ∙ ap (states_ahead w.log) x.servers
     ∙ sym (ahead_states w.log w.servers)
 
-rested_keeps : (w : State) (busy : Bool) (v : State) (told : Bool) → IsToldRightly w → HasRested w busy v told → KeepsOn w v
-rested_keeps w busy v told right x =
+rested_keeps : (w : State) (busy : Bool) (v : State) (told : Bool) → IsToldRightly w → HasRested w busy v told → HasServed w v → KeepsOn w v
+rested_keeps w busy v told right x served =
     record {
       going = record { safe = x.steady.safe; told = x.right right };
       log = x.log;
       grows = ([], x.written ∙ sym (append-nil w.store.writes));
+      setup = served.setup;
+      led = served.led;
+      up = λ up. x.steady.up;
+      unplanned = λ none. x.steady.unplanned;
+      fetches = served.fetches;
       steady = λ same s. x.steady;
     }
 
@@ -300,10 +329,11 @@ round_falls paused w v told k right h =
     let x = servers_rest 0 w.setup.servers false w t.between t.told k t.came in
     then_fall w t.between t.last v false t.told told t.whole
     (inr (record {
-      on = rested_keeps w false t.between.world t.told right x;
+      on = rested_keeps w false t.between.world t.told right x (servers_serve w t.between t.told k.safe t.came);
       most = omega (arith, rested_ahead w false t.between.world t.told x);
       less = λ e. inl (sym x.idle ∙ e);
       wrote = inl x.written;
+      spends = inl x.written;
     }))
     (λ m. replicas_fall paused t.told t.between.world t.last told m t.further)
 
@@ -392,7 +422,7 @@ asked_ahead log [] = refl
 asked_ahead log (e ∷ es) = ap (λ (x : ℕ). twice log e.partition + x) (asked_ahead log es)
 
 -- where servers are calm, what the ideal state asks for
-calm_ahead : (v : State) → IsSteady v → ahead_in_world v ≤ most_ahead v
+pub calm_ahead : (v : State) → IsSteady v → ahead_in_world v ≤ most_ahead v
 calm_ahead v k =
     omega (
       arith,
@@ -519,3 +549,12 @@ module _ (setup : Setup) (turns : List Turn) (w : State) (v : Reached) (is : IsS
       by_way : OffOrFallen w false v told → PutsOff v ⊎ Succeeds v ⊎ (v.world.store.writes ≡ w.store.writes)
       by_way (inl off) = inl off
       by_way (inr x) = inr (by_wrote x.wrote)
+
+  -- and where it writes anything it leaves fewer writes
+  pub spends_in_run : (i : Instance) (s : SegmentAt) (told : Bool) → ExchangeTurn i s false w v (Ok told)
+      → PutsOff v ⊎ Spends w.setup w.log w.store.writes v.world.store.writes
+  spends_in_run i s told h = by_way (exchange_falls i s false w v told run_goes h)
+    where
+      by_way : OffOrFallen w false v told → PutsOff v ⊎ Spends w.setup w.log w.store.writes v.world.store.writes
+      by_way (inl off) = inl off
+      by_way (inr x) = inr x.spends

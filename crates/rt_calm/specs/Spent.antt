@@ -46,3 +46,7 @@ most_yet setup log h = weighed log h (λ p. setup.table.replication * most_of lo
 abbrev pub Spends : Setup → Log → List Seen → List Seen → Type 0
 Spends setup log old new =
     (new ≡ old) ⊎ ((writes_left setup log new < writes_left setup log old) × (most_yet setup log new ≤ most_yet setup log old))
+
+-- the rounds of `settle` in which all writes that are left are made, and all that can lie ahead is done behind each
+abbrev pub rounds_yet : Setup → Log → List Seen → ℕ
+rounds_yet setup log h = writes_left setup log h * (most_yet setup log h + 2) + (most_yet setup log h + 1)

@@ -26,7 +26,7 @@ ghost use Rattle.rt_heal.specs.Calm.{AreAllCalm};
 ghost use Rattle.rt_calm.specs.Ahead.{ahead_in_world, most_ahead, most_ahead_of};
 ghost use Rattle.rt_calm.specs.Commits.{commits_of};
 ghost use Rattle.rt_calm.specs.Off.{PutsOff, Succeeds};
-ghost use Rattle.rt_calm.specs.Spent.{consuming_in, most_of};
+ghost use Rattle.rt_calm.specs.Spent.{consuming_in, most_of, rounds_yet, Spends};
 ghost use Rattle.rt_calm.specs.Waiting.{HoldsOrStays, WaitsFor};
 
 /// A machine that waits for its committer, from COMMIT to the end of its job, stays as it is whatever another replica asks, unless that
@@ -43,7 +43,8 @@ pub fn a_machine_waits_for_its_committer()
 /// In each run the exchange of a replica, as `settle` makes it, puts the replica off, by HOLD, NOT_LEADER or FAILED, or leaves less
 /// ahead: what a controller answers fits what it was asked, and leads on. COMMIT and KEEP name the offset that was reported, and
 /// CATCH_UP one ahead of it, so that a replica asks again only behind messages that it takes. Nothing is written but where a commit is
-/// made, or a stop processed, or the replica put off.
+/// made, or a stop processed, or the replica put off; and a commit takes one of those that its partition's messages leave, a stop that
+/// changes anything one of the CONSUMING entries, so that fewer writes are left.
 pub fn an_answer_puts_off_or_leaves_less_ahead()
     ensures less { (setup : Setup) (turns : List Turn) (w : State) (v : Reached) (instance : Instance) (segment : SegmentAt) → IsSetup setup
         → Runs setup turns w → ExchangeTurn instance segment false w v (Ok true)
@@ -51,6 +52,9 @@ pub fn an_answer_puts_off_or_leaves_less_ahead()
     ensures writes { (setup : Setup) (turns : List Turn) (w : State) (v : Reached) (instance : Instance) (segment : SegmentAt) (told : Bool)
         → IsSetup setup → Runs setup turns w → ExchangeTurn instance segment false w v (Ok told)
         → PutsOff v ⊎ Succeeds v ⊎ (v.world.store.writes ≡ w.store.writes) }
+    ensures spends { (setup : Setup) (turns : List Turn) (w : State) (v : Reached) (instance : Instance) (segment : SegmentAt) (told : Bool)
+        → IsSetup setup → Runs setup turns w → ExchangeTurn instance segment false w v (Ok told)
+        → PutsOff v ⊎ Spends w.setup w.log w.store.writes v.world.store.writes }
 {}
 
 /// In each run the replicas' part of a round of `settle` puts one of them off, or leaves less ahead if anything happened in it, whether
@@ -97,4 +101,14 @@ pub fn a_step_of_the_ideal_state_adds_no_more_than_its_replicas()
         → most_ahead_of log (set_offline_of es p s i) ≡ most_ahead_of log es }
     ensures stopped { (p : Partition) (s : Sequence) (i : Instance) (es : List IdealEntry) → offline_changes es p s i ≡ true
         → consuming_in (set_offline_of es p s i) < consuming_in es }
+{}
+
+/// From any world of a run on in which all servers are up and no fault of a store is planned, `settle` answers `settled` as soon as it has
+/// more rounds than `rounds_yet`, unless a replica is told HOLD, NOT_LEADER or FAILED. That number is made of the messages, the commits
+/// and the ideal state: each commit that is left takes a message of its partition, and makes as many CONSUMING entries as there are
+/// replicas; each of these can be turned OFFLINE once; and between two such writes all that lies ahead is done in as many rounds.
+pub fn settle_ends_where_nobody_is_put_off()
+    ensures { (setup : Setup) (turns : List Turn) (paused : Bool) (rounds : ℕ) (w : State) (u : Reached) (settled : Bool) → IsSetup setup
+        → Runs setup turns w → AreUp w → w.store.faults.plan ≡ [] → w.deep.faults.plan ≡ []
+        → rounds_yet w.setup w.log w.store.writes < rounds → Settles paused rounds w u (Ok settled) → PutsOff u ⊎ (settled ≡ true) }
 {}
