@@ -346,9 +346,6 @@ does_commit (stage.IdealRead w found) x e = work_commits w x e
 does_commit (stage.IdealSet w found ideal) x e = work_commits w x e
 does_commit stage.Ended x e = absurd (none-some x e)
 
-abbrev some_offset : Offset → Option Offset
-some_offset x = Some x
-
 work_offline : (w : Work) → work_end w ≡ None → commits (stage.IdealRead w []) ≡ false
 work_offline (work.Commit done) e = absurd (none-some _ (sym e))
 work_offline work.Offline e = refl
