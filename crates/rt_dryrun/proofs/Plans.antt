@@ -1,5 +1,5 @@
 -- What a plan comes to.
-use Rattle.std.proofs.Common.{◌≡◌, ℕ, List, Option, Some, unwrap_or, Result, Ok, Err, sym, ap, ◌∙◌}
+use Rattle.std.proofs.Common.{◌≡◌, ℕ, List, Option, Some, Result, Ok, Err, sym, ap, ◌∙◌}
 use Rattle.rt_model.specs.declared.ideal_state.IdealEntry.{IdealEntry}
 use Rattle.rt_model.specs.declared.ideal_state.IdealState.{IdealState}
 use Rattle.rt_rebalance.specs.Planned.{Plans, planned}
@@ -11,7 +11,6 @@ use Rattle.rt_rebalance.specs.declared.rebalance_refused.RebalanceRefused.TheVar
 use Rattle.rt_world.specs.Reading.{ideal_in}
 use Rattle.rt_state.specs.declared.state.State.{State}
 use Rattle.rt_dryrun.specs.Rehearsing.{Going, PlansBy, entries_now, goal_of, going_on, moves_of, plan_in, planned_as, started}
-use Rattle.rt_dryrun.specs.declared.planned.Planned.TheVariants as told
 
 abbrev Answer : Type 0
 Answer = Result (List IdealState) RebalanceRefused
@@ -51,11 +50,3 @@ refused_so wanted (refused.Keep p s) n h is = sym h
 refused_so wanted (refused.NotLoaded p s i) n h is = sym h
 refused_so wanted refused.Ended n h is = sym h
 refused_so wanted refused.Memory n h is = absurd (cc)
-
-pub plan_refused : (w : State) (servers keep : ℕ) (now goal : List IdealEntry) (e : RebalanceRefused) (n : ℕ) (old : Option Going) → IsAsked w servers now goal
-    → Plans (planned keep now goal) (Err e) → number_of e ≡ Some n → PlansBy w servers keep old old (Ok (told.Refused n))
-plan_refused w servers keep now goal e n old a h is =
-    let plan : plan_in w servers keep ≡ Err e = the_plan w servers keep now goal (Err e) a (refused_so (planned keep now goal) e n h is) in (
-      sym (ap (planned_as (moves_of (entries_now w) (goal_of w servers))) plan ∙ ap (λ o. told.Refused (unwrap_or o 0)) is),
-      sym (ap (going_on servers old) plan),
-    )

@@ -1,5 +1,5 @@
 -- What a step of a rehearsal comes to.
-use Rattle.std.proofs.Common.{◌≡◌, ℕ, Some, None, unwrap_or, Ok, Err, sym, ap, ◌∙◌}
+use Rattle.std.proofs.Common.{◌≡◌, ℕ, Some, None, Ok, Err, sym, ap, ◌∙◌}
 use Rattle.rt_rebalance.specs.Refused.{number_of}
 use Rattle.rt_rebalance.specs.Rehearsed.{Rehearsed, Steps, step}
 use Rattle.rt_rebalance.specs.declared.rebalance_refused.RebalanceRefused.{RebalanceRefused}
@@ -24,14 +24,6 @@ refused_so old next (refused.Keep p s) n h is = h
 refused_so old next (refused.NotLoaded p s i) n h is = h
 refused_so old next refused.Ended n h is = h
 refused_so old next refused.Memory n h is = absurd (cc)
-
-pub was_refused : (old : Going) (next : Rehearsed) (e : RebalanceRefused) (n : ℕ) → Steps old.rehearsed next (Err e) → number_of e ≡ Some n
-    → StepsGoing old (with_rehearsed old next) (Ok (went.Refused n))
-was_refused old next e n h is =
-    let so = refused_so old.rehearsed next e n h is in (
-      sym (ap (stepped_as old.steps) so.0 ∙ ap (λ o. went.Refused (unwrap_or o 0)) is),
-      ap (with_rehearsed old) so.1 ∙ sym (ap (stepped_on old) so.0),
-    )
 
 -- memory ran out
 memory_so : (old next : Rehearsed) (e : RebalanceRefused) → Steps old next (Err e) → number_of e ≡ None → next ≡ old

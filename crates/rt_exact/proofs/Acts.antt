@@ -108,9 +108,6 @@ refuse refusal = Err refusal
 same_refusal : (a b : Refusal) → refuse a ≡ refuse b → a ≡ b
 same_refusal a b e = cc
 
-pub setup_alike : (w v : State) → AreAlike w v → w.setup ≡ v.setup
-setup_alike w v k = ap (λ (u : State). u.setup) k.same
-
 by_one : (e : Event) (w v : State) → AreAlike w v → Fits w.setup.schema e → AreOne (HappensBy e w) (HappensBy e v)
 by_one e w v k fits x y (Ok a) (Ok b) h g =
     let z = stay_alike w v e x.world y.world a b k fits h.0 g.0 in

@@ -202,9 +202,6 @@ module _ (setup : Setup) (t : Segments) (p : Partition) (q : Sequence) (now : Mo
 
 -- ---- what was read
 
-abbrev read_ok : Seen → Result Seen StoreRefused
-read_ok v = Ok v
-
 abbrev okay : Option SeenMeta → Result (Option SeenMeta) ServerRefused
 okay o = Ok o
 

@@ -1,5 +1,5 @@
 -- What is read of the files of a table.
-use Rattle.std.proofs.Common.{◌≡◌, ℤ, ◌<◌, ◌≤◌, Bool, true, false, cond, List, [], ◌∷◌, length, map, filter, All, Option, Some, None, option_map, refl, sym, ap, subst, ◌∙◌, length-append, arith}
+use Rattle.std.proofs.Common.{◌≡◌, ℤ, ◌<◌, ◌≤◌, Bool, true, false, cond, List, [], ◌∷◌, length, map, filter, All, Option, Some, None, refl, sym, ap, subst, ◌∙◌, length-append, arith}
 use Rattle.std.proofs.lemmas.List.{length-map}
 use Rattle.std.proofs.lemmas.List.Elements.{All-append, All-head, All-nil, All-tail}
 use Rattle.rt_schema.specs.Row.{IsRowOf}
@@ -17,7 +17,7 @@ use Rattle.rt_agg.proofs.Fitting.{rows_fit}
 use Rattle.rt_hybrid.specs.Adding.{AddsRows}
 use Rattle.rt_hybrid.specs.Pushes.{IsOffline, IsPushed, IsTimeAt}
 use Rattle.rt_hybrid.specs.Sides.{is_before, offline_side}
-use Rattle.rt_hybrid.specs.Table.{OfflineTable, boundary_of, day_before, offline_rows, rows_of_files, time_of}
+use Rattle.rt_hybrid.specs.Table.{OfflineTable, boundary_of, offline_rows, rows_of_files, time_of}
 use Rattle.rt_hybrid.specs.Timed.{timed}
 use Rattle.rt_hybrid.proofs.Greatest.{none_greatest}
 use Rattle.rt_hybrid.proofs.Pushed.{file_count, rows_few}
@@ -48,9 +48,6 @@ pub side_few : (query : Query) (p : Row → Bool) (rows : List Row) → length (
 side_few query p rows = omega (arith, filter_few (passes query.filter) (filter p rows), filter_few p rows)
 
 -- ---- the boundary
-
-pub boundary_is : (table : OfflineTable) (latest : Option ℤ) → IsOffline table latest → option_map day_before latest ≡ boundary_of table
-boundary_is table latest is = ap (option_map day_before) is.greatest
 
 nothing : (schema : Schema) (files : List SealedSegment) → All (IsPushed schema) files → length (rows_of_files schema files) ≡ 0 → files ≡ []
 nothing schema [] all e = refl

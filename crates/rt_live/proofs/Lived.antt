@@ -1,5 +1,5 @@
 -- What a run does, by its answer; and what it answers where nothing outside fails.
-use Rattle.std.proofs.Common.{◌≡◌, ◌⊎◌, inl, inr, ℕ, ◌<◌, Bool, List, length, Some, Result, Ok, Err, refl, subst, sym}
+use Rattle.std.proofs.Common.{◌≡◌, ◌⊎◌, inl, inr, ℕ, Bool, List, Some, Result, Ok, Err, refl, subst, sym}
 use Rattle.rt_base.specs.Sink.{SinkMeaning}
 use Rattle.rt_base.specs.Source.{SourceMeaning, Rises}
 use Rattle.rt_base.specs.declared.numbers.Offset.{Offset}
@@ -9,7 +9,7 @@ use Rattle.rt_lines.proofs.HeaderLimits.{header_within}
 use Rattle.rt_lines.proofs.Readings.{told_input, too_long}
 use Rattle.rt_lines.specs.Header.{NumberedLine}
 use Rattle.rt_lines.specs.Lines.{script_lines}
-use Rattle.rt_lines.specs.Reading.{IsTooLong, ReadsInput, TakesSome, input_limit}
+use Rattle.rt_lines.specs.Reading.{IsTooLong, ReadsInput, TakesSome}
 use Rattle.rt_lines.specs.declared.play_fault.PlayFault.{PlayFault}
 use Rattle.rt_lines.specs.declared.play_fault.PlayFault.TheVariants.{Usage, Refused, ReadFault, WriteFault, Memory, Limit}
 use Rattle.rt_live_input.specs.Input.{IsRefused, ReadsInput as ReadsText, StopsAtChaos, StopsAtLine}
@@ -60,11 +60,6 @@ lives_whole journal from to old new text (Err Memory) reads lives = record {
   nothing = lives;
 }
 lives_whole journal from to old new text (Err (Limit which)) reads lives = inr (record { text = text; reads = reads; lives = lives })
-
--- too much of it was read
-pub lives_long : (journal : Bool) (from to : SourceMeaning) (sink : SinkMeaning) → (some : TakesSome from to) → input_limit < length some.input
-    → LivesInput journal from to sink sink (Err (Limit InputLimit))
-lives_long journal from to sink some long = inl (refl, record { input = some.input; taken = some.taken; long = long; nothing = refl })
 
 -- memory ran out as it was read
 pub ran_out : (journal : Bool) (from to : SourceMeaning) (sink : SinkMeaning) → TakesSome from to

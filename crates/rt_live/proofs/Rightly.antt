@@ -4,7 +4,6 @@ use Rattle.std.specs.List.{range_with_len}
 use Rattle.std.proofs.lemmas.List.{length-map}
 use Rattle.atomic_table.specs.Seated.{TableId}
 use Rattle.rt_base.specs.declared.numbers.Offset.{Offset}
-use Rattle.rt_ground.specs.Histories.{AreOfCallers}
 use Rattle.rt_ground.specs.StoreCalls.{seen_by}
 use Rattle.rt_live_end.proofs.Rightly.{ended_right}
 use Rattle.rt_live_end.specs.Ends.{ends_in}
@@ -33,9 +32,6 @@ module _ (n : Names) (journal : Bool) (joined : JoinedNow) (has : HasJoined n (s
   -- the one caller has the numbers of all, and each entry is of one of them
   pub has_all : joined.met.store.numbers ≡ range_with_len 0 (callers_of n.setup)
   has_all = ap (λ (f : Fronts). f.store.numbers) (sym has.met) ∙ has.numbers.store
-
-  pub of_callers : AreOfCallers (callers_of n.setup) joined.met.store.seen
-  of_callers = subst (λ (f : Fronts). AreOfCallers (callers_of n.setup) f.store.seen) has.met has.is.ground.store.0
 
   -- the answers are those of the broker's part
   answered : map answer_in has.ended.broker.answers ≡ joined.answers

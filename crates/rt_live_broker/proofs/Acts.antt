@@ -109,9 +109,6 @@ acts s n old new d is b m asks first shown noted step =
 
 -- ---- what is open
 
-abbrev opened_of : Began → Opened
-opened_of o = o.opened
-
 none_open : (o : Option Began) → option_map (λ x. x.opened) o ≡ None → o ≡ None
 none_open None e = refl
 none_open (Some o) e = absurd (cc)

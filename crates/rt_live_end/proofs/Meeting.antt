@@ -21,10 +21,6 @@ use Rattle.rt_live_end.proofs.Members.{filter_twice}
 
 -- ---- numbers
 
-either_left : (a b : Bool) → a ≡ true → (a || b) ≡ true
-either_left true b e = refl
-either_left false b e = absurd (cc)
-
 either_right : (a b : Bool) → b ≡ true → (a || b) ≡ true
 either_right true b e = refl
 either_right false b e = e

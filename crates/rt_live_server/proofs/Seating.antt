@@ -1,14 +1,10 @@
 -- A seat stays one as its server does one thing more.
 use Rattle.std.proofs.Common.{◌≡◌, ◌∙◌, ℕ, List, [], ◌∷◌, ◌++◌, append-nil, map, ap, refl, sym, subst}
 use Rattle.std.proofs.lemmas.List.{map-append}
-use Rattle.rt_broker.specs.declared.piece_given.PieceGiven.{PieceGiven}
-use Rattle.rt_front.specs.Histories.{History}
-use Rattle.rt_ground.specs.Histories.{whats}
 use Rattle.rt_link.specs.Delivery.{sent}
-use Rattle.rt_link.specs.Ends.{Sending, Taking}
+use Rattle.rt_link.specs.Ends.{Sending}
 use Rattle.rt_link.specs.declared.envelope.Envelope.{Envelope}
 use Rattle.rt_link.specs.declared.envelope.Envelope.TheVariants.{Asks}
-use Rattle.rt_link.specs.declared.rule.Sent.{Sent}
 use Rattle.rt_live_names.specs.Fronts.{controller_line, server_line}
 use Rattle.rt_live_names.specs.Names.{Names}
 use Rattle.rt_live_names.specs.Sending.{ArePosts, PostsNow, Sends}
@@ -17,9 +13,6 @@ use Rattle.rt_model.specs.declared.request.Request.{Request}
 use Rattle.rt_live_server.specs.Acting.{ActingNow, Adds, Quietly}
 use Rattle.rt_live_server.specs.Did.{envelopes_of, given_of, requests_of}
 use Rattle.rt_live_server.specs.Seat.{IsSeat, SeatNow}
-
-abbrev envelope_of : Sent → Envelope
-envelope_of x = x.envelope
 
 same_list : {X : Type 0} (old new more : List X) → new ≡ old ++ more → more ≡ [] → new ≡ old
 same_list old new more e none = e ∙ ap (λ xs. old ++ xs) none ∙ append-nil old
@@ -57,23 +50,6 @@ module _ (n : Names) (a : SeatNow) (k : IsSeat n a) (acting : ActingNow) where
         gave = k.gave ∙ sym (same_list (given_of a.acting.did) (given_of acting.did) [] adds.given refl);
       }
 
-  -- an envelope is taken of the inbox
-  pub seat_takes : (inbox : Taking) (p : ℕ) (e : Envelope) → inbox ≡ record a.inbox { taken = a.inbox.taken ++ sent p e ∷ [] } → Adds a.acting acting (e ∷ []) [] []
-      → IsSeat n (record a { acting = acting; inbox = inbox })
-  seat_takes inbox p e is adds =
-      let new : SeatNow = record a { acting = acting; inbox = inbox } in
-      record {
-        line = line_kept n a new k adds.number (ap (λ (x : Taking). x.line) is);
-        made = ap (λ (x : Taking). x.made) is ∙ k.made;
-        gathered = ap (λ (x : Taking). x.gathered) is ∙ k.gathered;
-        took =
-            ap (λ (x : Taking). map envelope_of x.taken) is ∙ map-append envelope_of a.inbox.taken (sent p e ∷ []) ∙ ap (λ (es : List Envelope). es ++ e ∷ []) k.took
-            ∙ sym adds.envelopes;
-        posted = posts_kept n a new k adds.number refl (same_list (requests_of a.acting.did) (requests_of acting.did) [] adds.requests refl);
-        asked = asked_kept n a new k adds.number refl;
-        gave = k.gave ∙ sym (same_list (given_of a.acting.did) (given_of acting.did) [] adds.given refl);
-      }
-
   -- a request is made and sent
   pub seat_asks : (old new : PostsNow) (to : ℕ) (request : Request) → old.posts ≡ a.posts → Sends old new to (Asks request) → Adds a.acting acting [] (request ∷ []) []
       → IsSeat n (record a { acting = acting; posts = new.posts })
@@ -95,19 +71,4 @@ module _ (n : Names) (a : SeatNow) (k : IsSeat n a) (acting : ActingNow) where
             (subst (λ (es : List Envelope). ArePosts n a.acting.number (controller_line n.setup) es new.posts) (sym all) after);
         asked = asked_kept n a later k adds.number refl;
         gave = k.gave ∙ sym (same_list (given_of a.acting.did) (given_of acting.did) [] adds.given refl);
-      }
-
-  -- a piece is given, and noted
-  pub seat_gives : (pieces : History PieceGiven) (given : PieceGiven) → pieces.chronicle ≡ a.pieces.chronicle → whats pieces.log ≡ whats a.pieces.log ++ given ∷ []
-      → Adds a.acting acting [] [] (given ∷ []) → IsSeat n (record a { acting = acting; pieces = pieces })
-  seat_gives pieces given same noted adds =
-      let new : SeatNow = record a { acting = acting; pieces = pieces } in
-      record {
-        line = line_kept n a new k adds.number refl;
-        made = k.made;
-        gathered = k.gathered;
-        took = k.took ∙ sym (same_list (envelopes_of a.acting.did) (envelopes_of acting.did) [] adds.envelopes refl);
-        posted = posts_kept n a new k adds.number refl (same_list (requests_of a.acting.did) (requests_of acting.did) [] adds.requests refl);
-        asked = asked_kept n a new k adds.number same;
-        gave = noted ∙ ap (λ (gs : List PieceGiven). gs ++ given ∷ []) k.gave ∙ sym adds.given;
       }

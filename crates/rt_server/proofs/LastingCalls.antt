@@ -154,10 +154,6 @@ sees_keep setup past before after old new result e k h =
         } in
         subst (Keeps setup past old) (sym is) (over, refl)
 
-pub sees_over : (setup : Setup) (past : Past) (before after : Meaning) (old new : ServerState) (result : Result ℕ ServerRefused)
-    → past.history ≡ after.seen → IsServerOver setup past old → SeesIdeal before after old new result → IsServerOver setup past new
-sees_over setup past before after old new result e k h = (sees_keep setup past before after old new result e k h).0
-
 -- ---- a crash, and a restart after it
 
 abbrev pub blank : Segments

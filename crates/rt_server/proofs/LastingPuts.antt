@@ -68,10 +68,6 @@ module _ (setup : Setup) (past : Past) (s : ServerState) (k : IsServerOver setup
   pub leave_over : (p : Partition) (q : Sequence) → IsServer s.setup (without s.table p q) → IsServerOver setup past (with_table s (without s.table p q))
   leave_over p q kept = leave_in (IsServerOver setup past) Over Targets s table_over k.kept k.targets k.entries p q kept
 
-  pub targets_over : (targets : List (Segment × Mode)) → IsServer s.setup (record s.table { targets = targets }) → AreTargets past.history s.numbers.instance targets
-      → IsServerOver setup past (with_table s (record s.table { targets = targets }))
-  targets_over targets kept are = table_over (record s.table { targets = targets }) kept are k.entries
-
   -- what a replica's call keeps of the replica, it keeps of the server
   pub through_over : {X : Type 0} (quiet : Type 0) (call : ReplicaCall X) (t : Segments) (p : Partition) (q : Sequence) (result : Result X ServerRefused) (o : Option Consumer)
       → replica_of s.table p q ≡ o

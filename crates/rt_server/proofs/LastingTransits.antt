@@ -192,6 +192,3 @@ module _ (setup : Setup) (past : Past) (before after : Meaning) (old new : Serve
 
   pub transits_keep : Transits before after old new p q now result → Keeps setup past old new
   transits_keep h = if_over (transit_due old.table p q) h
-
-  pub transits_over : Transits before after old new p q now result → IsServerOver setup past new
-  transits_over h = (transits_keep h).0

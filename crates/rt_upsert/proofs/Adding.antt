@@ -72,6 +72,3 @@ module _ (kinds : List Kind) (keys : List ℕ) (compare : ℕ) (old : PlacedRows
 
   pub shown_more : (fs : Entries) (held : Held) (row : Row) → fs ≡ insert_entry place_cmp es place held → held.row ≡ row → shown kinds keys compare fs ≡ with_row old place row
   shown_more fs held row put_in same = shown_put kinds keys compare es fs place held put_in ∙ (λ i. with_row (is i) place (same i))
-
-  pub shown_again : (fs : Entries) → fs ≡ es → shown kinds keys compare fs ≡ old
-  shown_again fs same = ap (shown kinds keys compare) same ∙ is

@@ -50,9 +50,6 @@ abbrev pub shown : List Kind → List ℕ → ℕ → Entries → PlacedRows
 shown kinds keys compare es = record { kinds = kinds; keys = keys; compare = compare; rows = map placed es }
 
 module _ (kinds : List Kind) (keys : List ℕ) (compare : ℕ) (old new : Entries) where
-  pub shown_same : new ≡ old → shown kinds keys compare new ≡ shown kinds keys compare old
-  shown_same e = ap (shown kinds keys compare) e
-
   pub shown_put : (place : Place) (held : Held) → new ≡ insert_entry place_cmp old place held → shown kinds keys compare new ≡ with_row (shown kinds keys compare old) place held.row
   shown_put place held e =
       ap (shown kinds keys compare) e ∙ ap (λ (rows : List Placed). record (shown kinds keys compare old) { rows = rows }) (put_is place held old)

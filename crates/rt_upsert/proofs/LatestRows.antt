@@ -115,9 +115,6 @@ module _ (held : PlacedRows) where
   shares_on x y z one two =
       key_same (key_of held.keys x.row) (key_of held.keys z.row) (key_is (key_of held.keys x.row) (key_of held.keys y.row) one ∙ key_is (key_of held.keys y.row) (key_of held.keys z.row) two)
 
-  shares_back : (x y : Placed) → SharesKey held x y → SharesKey held y x
-  shares_back x y same = key_same (key_of held.keys y.row) (key_of held.keys x.row) (sym (key_is (key_of held.keys x.row) (key_of held.keys y.row) same))
-
   -- of the key of x nothing in the list is later than y, nor is x
   record IsBest (zs : List Placed) (x y : Placed) : Type 0 where
     there : (x ≡ y) ⊎ Has zs y

@@ -118,8 +118,3 @@ pub row_from : (p q : Place) → p.sequence ≡ q.sequence → p.row ≤ q.row �
 row_from p q same h =
     ap is_gt (then_equal (nat_cmp p.sequence.0 q.sequence.0) (nat_cmp p.row q.row) (ap (λ (s : Sequence). nat_cmp p.sequence.0 s.0) (sym same) ∙ nat_self p.sequence.0))
     ∙ up_to p.row q.row h
-
-pub from_row : (p q : Place) → p.sequence ≡ q.sequence → is_gt (place_cmp p q) ≡ false → p.row ≤ q.row
-from_row p q same h =
-    not_above p.row q.row
-    (sym (ap is_gt (then_equal (nat_cmp p.sequence.0 q.sequence.0) (nat_cmp p.row q.row) (ap (λ (s : Sequence). nat_cmp p.sequence.0 s.0) (sym same) ∙ nat_self p.sequence.0))) ∙ h)

@@ -1,52 +1,13 @@
--- What a range of places or of ranks begins with.
-use Rattle.std.proofs.Common.{◌≡◌, ℕ, ◌≤◌, List, [], ◌∷◌, Bool, true, false, Option, Some, None, IsSome, IsTrue, true≢false, Less, nat_cmp, refl, sym, ap, arith}
-use Rattle.std.specs.Prelude.{is_some}
-use Rattle.std.specs.Ordering.{is_gt, int_cmp, ordering_then}
-use Rattle.std.specs.declared.ops.Bound.TheVariants.{Included, Excluded, Unbounded}
-use Rattle.std.specs.BTreeMap.{BTreeMap, get}
-use Rattle.std.specs.BTreeMap.Range.{IsRangeOf}
+-- What a range of ranks begins with.
+use Rattle.std.proofs.Common.{◌≡◌, ◌≤◌, List, [], ◌∷◌, Bool, true, false, IsTrue, true≢false, Less, refl, sym, arith}
+use Rattle.std.specs.Ordering.{int_cmp, ordering_then}
+use Rattle.std.specs.declared.ops.Bound.TheVariants.{Excluded, Unbounded}
 use Rattle.std.specs.BTreeSet.{BTreeSet, contains, IsKeyRangeOf}
-use Rattle.rt_base.specs.declared.numbers.Sequence.{Sequence}
-use Rattle.rt_upsert.specs.declared.held.Held.{Held}
-use Rattle.rt_upsert.specs.declared.place.Place.{Place}
 use Rattle.rt_upsert.specs.declared.rank.Rank.{Rank}
 use Rattle.rt_upsert.specs.Index.{rank_cmp}
 use Rattle.rt_upsert.specs.Placed.{place_cmp}
-use Rattle.rt_upsert.specs.Ranked.{Follows, HasLater, TellsLast}
-use Rattle.rt_upsert.proofs.Orders.{up_from, below_is, row_from, from_row, not_so}
-
--- ---- the first place from one on
-
-abbrev from_place : Sequence → ℕ → Place
-from_place sequence from = record { sequence = sequence; row = from }
-
-abbrev pub IsFrom : BTreeMap Place Held → Sequence → ℕ → List (Place × Held) → Type 0
-IsFrom rows sequence from r = IsRangeOf place_cmp (Included (from_place sequence from)) Unbounded rows r
-
-pub none_from : (rows : BTreeMap Place Held) (sequence : Sequence) (from : ℕ) → IsFrom rows sequence from [] → Follows rows sequence from None
-none_from rows sequence from r q same low = r.5 refl q (row_from (from_place sequence from) q (sym same) low, tt)
-
-module _ (rows : BTreeMap Place Held) (sequence : Sequence) (from : ℕ) (e : Place × Held) (rest : List (Place × Held)) (r : IsFrom rows sequence from (e ∷ rest)) where
-  pub first_follows : e.0.sequence ≡ sequence → Follows rows sequence from (Some e.0)
-  first_follows same = (same, from_row (from_place sequence from) e.0 (sym same) r.1.0.0, ap is_some r.1.1)
-
-  pub other_follows : (e.0.sequence ≡ sequence → ⊥) → Follows rows sequence from None
-  other_follows apart q same low = by (get place_cmp rows q) refl
-    where
-      clash : IsSome (get place_cmp rows q) → ⊥
-      clash some =
-          let past : is_gt (place_cmp e.0 q) ≡ false = r.2 q (row_from (from_place sequence from) q (sym same) low, tt) some in
-          let low_sequence : sequence.0 ≤ e.0.sequence.0 = up_from sequence.0 e.0.sequence.0 (nat_cmp from e.0.row) r.1.0.0 in
-          let top_sequence : e.0.sequence.0 ≤ q.sequence.0 = up_from e.0.sequence.0 q.sequence.0 (nat_cmp e.0.row q.row) past in
-          let is : q.sequence.0 ≡ sequence.0 = ap (λ (s : Sequence). s.0) same in
-          let number : e.0.sequence.0 ≡ sequence.0 = omega (arith, low_sequence, top_sequence, is) in
-          apart (λ i. record { 0 = number i })
-
-      by : (o : Option Held) → get place_cmp rows q ≡ o → o ≡ None
-      by None there = refl
-      by (Some held) there = absurd (clash (ap is_some there))
-
--- ---- the first rank above one
+use Rattle.rt_upsert.specs.Ranked.{HasLater, TellsLast}
+use Rattle.rt_upsert.proofs.Orders.{up_from, below_is, not_so}
 
 abbrev pub IsAbove : BTreeSet Rank → Rank → List Rank → Type 0
 IsAbove ranks rank r = IsKeyRangeOf rank_cmp (Excluded rank) Unbounded ranks r

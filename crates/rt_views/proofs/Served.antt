@@ -21,10 +21,6 @@ module _ {X : Type 0} where
   first_next : (f : Instance → Option X) (is : List Instance) (k : ℕ) (i : Instance) (o : Option X) → k < length is → i ≡ get_or is k i → o ≡ f i → first_of f (drop k is) ≡ or_else o (first_of f (drop (k + 1) is))
   first_next f is k i o within at gives = ap (first_of f) (drop_next is k i within at) ∙ ap (λ (x : Option X). or_else x (first_of f (drop (k + 1) is))) (sym gives)
 
-  -- this one has it
-  pub first_here : (f : Instance → Option X) (is : List Instance) (k : ℕ) (i : Instance) (x : X) (all : Option X) → k < length is → i ≡ get_or is k i → Some x ≡ f i → first_of f (drop k is) ≡ all → Some x ≡ all
-  first_here f is k i x all within at gives was = sym (first_next f is k i (Some x) within at gives) ∙ was
-
   -- this one hasn't
   pub first_later : (f : Instance → Option X) (is : List Instance) (k : ℕ) (i : Instance) (all : Option X) → k < length is → i ≡ get_or is k i → None ≡ f i → first_of f (drop k is) ≡ all → first_of f (drop (k + 1) is) ≡ all
   first_later f is k i all within at gives was = sym (first_next f is k i None within at gives) ∙ was
