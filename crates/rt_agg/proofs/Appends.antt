@@ -310,32 +310,3 @@ pub all_with_row : (columns : List ColumnAt) (key : List Value) (rs : List Row) 
     → map (with_row row) (map (known_of columns key rs) is) ≡ all_merged (map (known_of columns key rs) is) (map (known_of columns key (row ∷ [])) is)
 all_with_row columns key rs row [] f = refl
 all_with_row columns key rs row (i ∷ is) f = λ j. row_merged columns key rs row i f.0 j ∷ all_with_row columns key rs row is f.1 j
-
--- the first row
-first_row : (columns : List ColumnAt) (key : List Value) (row : Row) (i : Item) → FitsItem row i
-    → with_row row (known_of columns key [] i) ≡ known_of columns key (row ∷ []) i
-first_row columns key row (item.Column column) f = refl
-first_row columns key row (item.Aggregate kind.Count) f = refl
-first_row columns key row (item.Aggregate (kind.Sum column)) f =
-    let s = some_is (scalar_at row column.place) f in
-    let number : pos 0 +ℤ number_of (value_from s.0) ≡ sum_of column (row ∷ []) =
-    +ℤ_idl (number_of (value_from s.0)) ∙ ap number_of (sym (value_read row column s.0 s.1)) ∙ sym (+ℤ_idr (number_of (value_in row column))) in
-    ap (Sum column.place)
-    ((λ j. with_scalar (s.1 j) (record { rows = 0; sum = pos 0 })) ∙ (λ j. record { rows = 1; sum = number j }))
-first_row columns key row (item.Aggregate (kind.Min column)) f =
-    ap (Min column.place) (one_least (scalar_at row column.place) f ∙ sym (least_known column (row ∷ []) (f, tt)))
-  where
-    one_least : (o : Option Scalar) → IsSome o → least_with None o ≡ least_with o None
-    one_least None h = refl
-    one_least (Some s) h = refl
-first_row columns key row (item.Aggregate (kind.Max column)) f =
-    ap (Max column.place) (one_greatest (scalar_at row column.place) f ∙ sym (greatest_known column (row ∷ []) (f, tt)))
-  where
-    one_greatest : (o : Option Scalar) → IsSome o → greatest_with None o ≡ greatest_with o None
-    one_greatest None h = refl
-    one_greatest (Some s) h = refl
-
-pub all_first_row : (columns : List ColumnAt) (key : List Value) (row : Row) (is : List Item) → AllByRecursion (FitsItem row) is
-    → map (with_row row) (map (known_of columns key []) is) ≡ map (known_of columns key (row ∷ [])) is
-all_first_row columns key row [] f = refl
-all_first_row columns key row (i ∷ is) f = λ j. first_row columns key row i f.0 j ∷ all_first_row columns key row is f.1 j

@@ -1,6 +1,6 @@
 -- What holders have of a group after it is started, after one more row, and after it is merged with others.
 use Rattle.std.proofs.Common.{◌≡◌, ◌≢◌, ℕ, zero, suc, ◌<◌, ◌≤◌, List, [], ◌∷◌, ◌++◌, length, map, take, drop, get_or, Some, refl, sym, ap, ◌∙◌, subst, inl, inr, arith, slice_get}
-use Rattle.std.specs.Prelude.{None, slice_set, unwrap_or}
+use Rattle.std.specs.Prelude.{None, Option, slice_set, unwrap_or}
 use Rattle.std.specs.List.{AllByRecursion}
 use Rattle.std.proofs.lemmas.List.{get_or-set_same, get_or-set_other, length-set}
 use Rattle.std.proofs.lemmas.Option.{slice_get_read, slice_get_within}
@@ -10,9 +10,14 @@ use Rattle.rt_model.specs.declared.query_parts.ColumnAt.{ColumnAt}
 use Rattle.rt_agg.specs.Accumulator.{Count, Sum, Min, Max}
 use Rattle.rt_agg.specs.Accumulators.{all_merged, greatest_with, known_of, least_with, merged, with_row}
 use Rattle.rt_agg.specs.GroupTable.{MayStart, StartsFront, StartsSome, all_merged_in}
-use Rattle.rt_agg.specs.ResultHolder.{HasStarted, held_of, item_of, join_at, merged_in, no_rows, put_at, started_in, with_other, with_row_in}
+use Rattle.rt_agg.specs.Paging.{fed}
+use Rattle.rt_agg.specs.Reading.{scalar_at}
+use Rattle.rt_agg.specs.ResultHolder.{HasStarted, counted_at, greater_at, held_of, item_of, join_at, lesser_at, merged_in, no_rows, put_at, started_in, summed_at, with_other, with_page_in, with_row_in}
+use Rattle.rt_agg.specs.Summed.{Summed}
+use Rattle.rt_agg.specs.declared.placed_row.PlacedRow.{PlacedRow}
 use Rattle.rt_agg.specs.declared.result_holder.ResultHolder.{ResultHolder}
 use Rattle.rt_agg.specs.declared.result_holder.ResultHolder.TheVariants.{Key, Counts, Sums, Least, Greatest}
+use Rattle.rt_agg.specs.declared.scalar.Scalar.{Scalar}
 use Rattle.rt_agg.specs.Totals.{counted, joined}
 
 -- ---- lists
@@ -235,6 +240,59 @@ module _ (row : Row) (group : ℕ) where
   pub rows_started : (n : ℕ) (hs : List ResultHolder) → Started n hs → Started n (map (with_row_in row group) hs)
   rows_started n [] s = tt
   rows_started n (h ∷ hs) s = (row_started n row group h s.0, rows_started n hs s.1)
+
+-- ---- the rows of a page
+
+module _ (row_of : ℕ → Row) where
+  page_item : (page : List PlacedRow) (h : ResultHolder) → item_of (with_page_in row_of page h) ≡ item_of h
+  page_item [] h = refl
+  page_item (p ∷ page) h = page_item page (with_row_in (row_of p.row) p.group h) ∙ row_item (row_of p.row) p.group h
+
+  page_started : (n : ℕ) (page : List PlacedRow) (h : ResultHolder) → HasStarted n h → HasStarted n (with_page_in row_of page h)
+  page_started n [] h s = s
+  page_started n (p ∷ page) h s = page_started n page (with_row_in (row_of p.row) p.group h) (row_started n (row_of p.row) p.group h s)
+
+  pub page_items : (page : List PlacedRow) (hs : List ResultHolder) → map item_of (map (with_page_in row_of page) hs) ≡ map item_of hs
+  page_items page [] = refl
+  page_items page (h ∷ hs) = λ j. page_item page h j ∷ page_items page hs j
+
+  pub all_page_started : (n : ℕ) (page : List PlacedRow) (hs : List ResultHolder) → Started n hs → Started n (map (with_page_in row_of page) hs)
+  all_page_started n page [] s = tt
+  all_page_started n page (h ∷ hs) s = (page_started n page h s.0, all_page_started n page hs s.1)
+
+  pub page_none : (hs : List ResultHolder) → map (with_page_in row_of []) hs ≡ hs
+  page_none [] = refl
+  page_none (h ∷ hs) = ap (λ t. h ∷ t) (page_none hs)
+
+  pub page_first : (p : PlacedRow) (page : List PlacedRow) (hs : List ResultHolder) → map (with_page_in row_of (p ∷ page)) hs ≡ map (with_page_in row_of page) (map (with_row_in (row_of p.row) p.group) hs)
+  page_first p page [] = refl
+  page_first p page (h ∷ hs) = ap (λ t. with_page_in row_of page (with_row_in (row_of p.row) p.group h) ∷ t) (page_first p page hs)
+
+  -- ---- what is handed on to a holder
+
+  pub page_keys : (column : ColumnAt) (page : List PlacedRow) → with_page_in row_of page (Key column) ≡ Key column
+  page_keys column [] = refl
+  page_keys column (p ∷ page) = page_keys column page
+
+  pub page_counts : (page : List PlacedRow) (counts : List ℕ) → with_page_in row_of page (Counts counts) ≡ Counts (fed (λ (counts : List ℕ) (group : ℕ) (scalar : Option Scalar). counted_at counts group) (λ number. None) page counts)
+  page_counts [] counts = refl
+  page_counts (p ∷ page) counts = page_counts page (counted_at counts p.group)
+
+  module _ (column : ColumnAt) where
+    abbrev its_scalar : ℕ → Option Scalar
+    its_scalar number = scalar_at (row_of number) column.place
+
+    pub page_sums : (page : List PlacedRow) (totals : List Summed) → with_page_in row_of page (Sums column totals) ≡ Sums column (fed summed_at its_scalar page totals)
+    page_sums [] totals = refl
+    page_sums (p ∷ page) totals = page_sums page (summed_at totals p.group (its_scalar p.row))
+
+    pub page_least : (page : List PlacedRow) (scalars : List (Option Scalar)) → with_page_in row_of page (Least column scalars) ≡ Least column (fed lesser_at its_scalar page scalars)
+    page_least [] scalars = refl
+    page_least (p ∷ page) scalars = page_least page (lesser_at scalars p.group (its_scalar p.row))
+
+    pub page_greatest : (page : List PlacedRow) (scalars : List (Option Scalar)) → with_page_in row_of page (Greatest column scalars) ≡ Greatest column (fed greater_at its_scalar page scalars)
+    page_greatest [] scalars = refl
+    page_greatest (p ∷ page) scalars = page_greatest page (greater_at scalars p.group (its_scalar p.row))
 
 module _ (group from : ℕ) where
   pub merges_here : (columns others_columns : List ColumnAt) (key others_key : List Value) (hs os : List ResultHolder) → Started (suc group) hs → Started (suc from) os

@@ -1,5 +1,5 @@
 -- What groups hold after one more row, and after other groups were merged into them.
-use Rattle.std.proofs.Common.{◌≡◌, ℕ, zero, suc, ◌+◌, ◌<◌, ◌≤◌, Bool, true, false, cond, ◌||◌, List, [], ◌∷◌, ◌++◌, length, map, filter, Option, Some, None, refl, sym, ap, ◌∙◌, subst, true≢false, arith, length-append, slice_get}
+use Rattle.std.proofs.Common.{◌≡◌, ℕ, zero, suc, ◌+◌, ◌<◌, ◌≤◌, Bool, true, false, cond, ◌||◌, List, [], ◌∷◌, ◌++◌, length, map, filter, Option, Some, None, refl, sym, ap, ◌∙◌, true≢false, arith, length-append, slice_get}
 use Rattle.std.specs.Prelude.{if◌then◌else◌, is_some, unwrap_or, option_map}
 use Rattle.std.proofs.lemmas.Map.Views.{lookup-from_Contains}
 use Rattle.rt_lists.proofs.Lists.{contains_found}
@@ -16,13 +16,13 @@ use Rattle.rt_model.specs.declared.query.Query.{Query}
 use Rattle.rt_model.specs.declared.query_parts.ColumnAt.{ColumnAt}
 use Rattle.rt_model.specs.declared.query_parts.Item.{Item}
 use Rattle.rt_model.specs.declared.query_parts.OrderKey.{OrderKey}
-use Rattle.rt_model.specs.Aggregate.{key_of, has_key, group_of}
+use Rattle.rt_model.specs.Aggregate.{has_key, group_of}
 use Rattle.rt_model.specs.Values.{key_cmp}
 use Rattle.rt_agg.specs.Accumulator.{Accumulator}
-use Rattle.rt_agg.specs.Accumulators.{known_of, all_known_of, all_merged, with_row, ordering_items}
-use Rattle.rt_agg.specs.Grouped.{Grouped, same_key, keys_in_order, known_at, makes_group, known_if, FitsItem, Fits, Holds, first_known, AddsUnder, Merges}
+use Rattle.rt_agg.specs.Accumulators.{known_of, all_known_of, all_merged, ordering_items}
+use Rattle.rt_agg.specs.Grouped.{Grouped, same_key, keys_in_order, known_at, makes_group, known_if, FitsItem, Fits, Holds, first_known, Merges}
 use Rattle.rt_agg.specs.Merging.{started_at, merged_at}
-use Rattle.rt_agg.proofs.Appends.{both_fit, items_append, all_with_row, all_first_row}
+use Rattle.rt_agg.proofs.Appends.{both_fit, items_append}
 use Rattle.rt_agg.proofs.Orders.{key_total, key_same}
 
 -- ---- keys
@@ -35,7 +35,7 @@ same_is k l e = key_same k l ((Equal-is (key_cmp k l)).0 e)
 
 -- ---- rows of a group
 
-no_rows : {X : Type 0} (test : X → Bool) (xs : List X) → list_any test xs ≡ false → filter test xs ≡ []
+pub no_rows : {X : Type 0} (test : X → Bool) (xs : List X) → list_any test xs ≡ false → filter test xs ≡ []
 no_rows test [] h = refl
 no_rows test (x ∷ xs) h = by (test x) h (no_rows test xs)
   where
@@ -145,23 +145,6 @@ holds_merged query rs ss g other new h o few columns items order limit apart kno
     holds_both query rs ss g new h o.fits few columns items order limit apart
     (λ key. known key ∙ ap (both (known_at g key)) (o.known key))
 
--- ---- one more row
-
-module _ (is : List Item) (row : Row) (key : List Value) where
-  one_of : (columns : List ColumnAt) (b : Bool) → (if b || false then Some (map (known_of columns key (cond b (row ∷ []) [])) is) else None) ≡ (if b then Some (map (known_of columns key (row ∷ [])) is) else None)
-  one_of columns true = refl
-  one_of columns false = refl
-
-  one_for : (b : Bool) → (if b then Some (map (known_of [] key (cond b (row ∷ []) [])) is) else None) ≡ (if b then Some (map (known_of [] key (row ∷ [])) is) else None)
-  one_for true = refl
-  one_for false = refl
-
-  -- one row makes the group of its key alone
-  pub known_one : (columns : List ColumnAt) → known_in columns is (row ∷ []) key ≡ (if same_key (key_of columns row) key then Some (map (known_of columns key (row ∷ [])) is) else None)
-  known_one [] =
-      (λ j. if keys_equiv.symm key [] j then Some (map (known_of [] key (group_of [] key (row ∷ []))) is) else None) ∙ one_for (same_key [] key)
-  known_one (c ∷ cs) = one_of (c ∷ cs) (same_key (key_of (c ∷ cs) row) key)
-
 -- ---- entries
 
 pub lookup_last : {K X : Type 0} (test : K → Bool) (es : List (K × X)) (k : K) (v : X) → test k ≡ false → lookup test (es ++ (k, v) ∷ []) ≡ lookup test es
@@ -187,56 +170,6 @@ pub from_if : (b : Bool) (x known : List Accumulator) → Some known ≡ (if b t
 from_if true x known e = ap known_or e
 from_if false x known e = absurd (true≢false (ap is_some e))
 
-module _ (query : Query) (rs : List Row) (g new : Grouped) (h : Holds query rs g) (row : Row) (fits : Fits query row) where
-  abbrev fresh : List Value → List Accumulator
-  fresh key = map (known_of query.groups key (row ∷ [])) (slots query)
-
-  abbrev its_key : List Value
-  its_key = key_of query.groups row
-
-  one_here : (q : List Value) (b : Bool) → same_key its_key q ≡ b → known_if query (row ∷ []) q ≡ (if b then Some (fresh q) else None)
-  one_here q b e = known_one (slots query) row q query.groups ∙ (λ j. if e j then Some (fresh q) else None)
-
-  other_group : (q : List Value) → same_key its_key q ≡ false → known_at new q ≡ known_at g q → known_at new q ≡ both (known_at g q) (known_if query (row ∷ []) q)
-  other_group q e now = now ∙ sym ((λ j. both (known_at g q) (one_here q false e j)) ∙ both_none (known_at g q))
-
-  -- a row of a group that is there
-  pub row_known : (known : List Accumulator) → known_at g its_key ≡ Some known
-      → ((q : List Value) → known_at new q ≡ cond (same_key its_key q) (Some (map (with_row row) known)) (known_at g q))
-      → (q : List Value) → known_at new q ≡ both (known_at g q) (known_if query (row ∷ []) q)
-  row_known known there now q = by (same_key its_key q) refl
-    where
-      here : known_at new its_key ≡ both (known_at g its_key) (known_if query (row ∷ []) its_key)
-      here =
-          let itself = keys_equiv.refl its_key in
-          let held = from_if (makes_group query.groups rs its_key) (map (known_of query.groups its_key (group_of query.groups its_key rs)) (slots query)) known (sym there ∙ h.known its_key) in
-          let mixed : map (with_row row) known ≡ all_merged known (fresh its_key) =
-          subst (λ k. map (with_row row) k ≡ all_merged k (fresh its_key)) (sym held)
-          (all_with_row query.groups its_key (group_of query.groups its_key rs) row (slots query) fits) in
-          now its_key ∙ (λ j. cond (itself j) (Some (map (with_row row) known)) (known_at g its_key)) ∙ ap Some mixed
-          ∙ sym (λ j. both (there j) (one_here its_key true itself j))
-
-      by : (b : Bool) → same_key its_key q ≡ b → known_at new q ≡ both (known_at g q) (known_if query (row ∷ []) q)
-      by true e = subst (λ k. known_at new k ≡ both (known_at g k) (known_if query (row ∷ []) k)) (same_is its_key q e) here
-      by false e = other_group q e (now q ∙ (λ j. cond (e j) (Some (map (with_row row) known)) (known_at g q)))
-
-  -- the first row of a group
-  pub row_new : known_at g its_key ≡ None
-      → ((q : List Value) → known_at new q ≡ lookup (same_key q) (g.groups ++ (its_key, map (with_row row) (all_known_of query.groups query.items query.order its_key [])) ∷ []))
-      → (q : List Value) → known_at new q ≡ both (known_at g q) (known_if query (row ∷ []) q)
-  row_new none added q = by (same_key its_key q) refl
-    where
-      here : known_at new its_key ≡ both (known_at g its_key) (known_if query (row ∷ []) its_key)
-      here =
-          let itself = keys_equiv.refl its_key in
-          added its_key ∙ lookup_new (same_key its_key) g.groups its_key _ itself none
-          ∙ ap Some (all_first_row query.groups its_key row (slots query) fits)
-          ∙ sym (λ j. both (none j) (one_here its_key true itself j))
-
-      by : (b : Bool) → same_key its_key q ≡ b → known_at new q ≡ both (known_at g q) (known_if query (row ∷ []) q)
-      by true e = subst (λ k. known_at new k ≡ both (known_at g k) (known_if query (row ∷ []) k)) (same_is its_key q e) here
-      by false e = other_group q e (added q ∙ lookup_last (same_key q) g.groups its_key _ (keys_equiv.symm q its_key ∙ e))
-
 -- ---- before the first row
 
 pub holds_none : (query : Query) (g : Grouped) → g.columns ≡ query.groups → g.items ≡ query.items → g.order ≡ query.order → g.limit ≡ query.limit
@@ -244,54 +177,7 @@ pub holds_none : (query : Query) (g : Grouped) → g.columns ≡ query.groups �
 holds_none query g columns items order limit known apart =
     record { columns = columns; items = items; order = order; limit = limit; apart = apart; known = known; fits = tt; few = omega arith }
 
--- ---- the calls
-
-pub adds_known : (key : List Value) (row : Row) (g new : Grouped) (known : List Accumulator) → known_at g key ≡ Some known
-    → ((q : List Value) → known_at new q ≡ cond (same_key key q) (Some (map (with_row row) known)) (known_at g q))
-    → new.columns ≡ g.columns → new.items ≡ g.items → new.order ≡ g.order → new.limit ≡ g.limit → IsDistinct same_key (keys_in_order new)
-    → AddsUnder key row g new
-adds_known key row g new known there now columns items order limit apart query rows h is fits few =
-    holds_both query rows (row ∷ []) g new h (fits, tt) (omega (arith, few)) columns items order limit apart
-    (row_known query rows g new h row fits known (ap (known_at g) (sym is) ∙ there)
-    (λ q. now q ∙ (λ j. cond (same_key (is j) q) (Some (map (with_row row) known)) (known_at g q))))
-
-pub adds_new : (key : List Value) (row : Row) (g new : Grouped) → known_at g key ≡ None
-    → ((q : List Value) → known_at new q ≡ lookup (same_key q) (g.groups ++ (key, map (with_row row) (all_known_of g.columns g.items g.order key [])) ∷ []))
-    → new.columns ≡ g.columns → new.items ≡ g.items → new.order ≡ g.order → new.limit ≡ g.limit → IsDistinct same_key (keys_in_order new)
-    → AddsUnder key row g new
-adds_new key row g new none added columns items order limit apart query rows h is fits few =
-    holds_both query rows (row ∷ []) g new h (fits, tt) (omega (arith, few)) columns items order limit apart
-    (row_new query rows g new h row fits (ap (known_at g) (sym is) ∙ none)
-    (λ q. added q ∙ (λ j. lookup (same_key q) (g.groups ++ (is j, map (with_row row) (all_known_of (h.columns j) (h.items j) (h.order j) (is j) [])) ∷ []))))
-
-last_changed : (es : Entries) (key q : List Value) (v w : List Accumulator) → lookup (same_key key) es ≡ None
-    → cond (same_key key q) (Some w) (lookup (same_key q) (es ++ (key, v) ∷ [])) ≡ lookup (same_key q) (es ++ (key, w) ∷ [])
-last_changed es key q v w none = by (same_key key q) refl
-  where
-    by : (b : Bool) → same_key key q ≡ b → cond (same_key key q) (Some w) (lookup (same_key q) (es ++ (key, v) ∷ [])) ≡ lookup (same_key q) (es ++ (key, w) ∷ [])
-    by true f =
-        (λ j. cond (f j) (Some w) (lookup (same_key q) (es ++ (key, v) ∷ [])))
-        ∙ sym (lookup_new (same_key q) es key w (keys_equiv.symm q key ∙ f) (ap (λ k. lookup (same_key k) es) (sym (same_is key q f)) ∙ none))
-    by false f =
-        (λ j. cond (f j) (Some w) (lookup (same_key q) (es ++ (key, v) ∷ [])))
-        ∙ lookup_last (same_key q) es key v (keys_equiv.symm q key ∙ f) ∙ sym (lookup_last (same_key q) es key w (keys_equiv.symm q key ∙ f))
-
--- a row is added to a group that was started
-pub adds_started : (key : List Value) (row : Row) (g new : Grouped) (mid : Entries) → known_at g key ≡ None
-    → mid ≡ g.groups ++ (key, all_known_of g.columns g.items g.order key []) ∷ []
-    → ((q : List Value) → known_at new q ≡ cond (same_key key q) (Some (map (with_row row) (all_known_of g.columns g.items g.order key []))) (lookup (same_key q) mid))
-    → new.columns ≡ g.columns → new.items ≡ g.items → new.order ≡ g.order → new.limit ≡ g.limit → IsDistinct same_key (keys_in_order new)
-    → AddsUnder key row g new
-adds_started key row g new mid none started now columns items order limit apart =
-    let start = all_known_of g.columns g.items g.order key [] in
-    adds_new key row g new none
-    (λ q. now q ∙ ap (λ (es : Entries). cond (same_key key q) (Some (map (with_row row) start)) (lookup (same_key q) es)) started
-    ∙ last_changed g.groups key q start (map (with_row row) start) none)
-    columns items order limit apart
-
-pub entry_last : (es : Entries) (k : List Value) (v : List Accumulator) → slice_get (es ++ (k, v) ∷ []) (length es) ≡ Some (k, v)
-entry_last [] k v = refl
-entry_last (e ∷ es) k v = entry_last es k v
+-- ---- keys and their entries
 
 pub keys_last : (es : Entries) (k : List Value) (v : List Accumulator) → keys_of (es ++ (k, v) ∷ []) ≡ keys_of es ++ k ∷ []
 keys_last [] k v = refl

@@ -1,5 +1,6 @@
 pub mod Apart
 pub mod Appends
+pub mod Awaiting
 mod Entries
 pub mod Finishing
 mod First
@@ -10,7 +11,6 @@ mod Merges
 pub mod Orders
 mod Places
 pub mod Results
-pub mod Shorts
 mod Showing
 mod Slots
 mod Sorting

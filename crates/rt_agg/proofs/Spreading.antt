@@ -99,9 +99,6 @@ same_places ps qs hs os shared beside alike =
     let items : items_at qs (map item_of os) ≡ items_at ps (map item_of hs) = sym (items_shown qs os) ∙ sym alike ∙ items_shown ps hs in
     one_places (items_at ps (map item_of hs)) ps qs shared.firsts (subst (λ xs. AreFirsts xs qs) items beside.firsts)
 
-pub within_held : (places : List ℕ) (held : List ResultHolder) → IsShared places (map item_of held) → All (λ p. p < length held) places
-within_held places held shared = subst (λ n. All (λ p. p < n) places) (length-map held item_of) shared.within
-
 -- ---- the cells of a group
 
 module _ (columns : List ColumnAt) (key : List Value) (group : ℕ) (held : List ResultHolder) where

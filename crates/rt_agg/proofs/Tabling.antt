@@ -9,11 +9,12 @@ use Rattle.rt_model.specs.declared.query_parts.ColumnAt.{ColumnAt}
 use Rattle.rt_agg.specs.Accumulator.{Accumulator}
 use Rattle.rt_agg.specs.Accumulators.{all_merged, known_of, with_row}
 use Rattle.rt_agg.specs.Grouped.{same_key}
-use Rattle.rt_agg.specs.GroupTable.{IsTable, StartsSome, Tabled, all_merged_in, entries_from}
-use Rattle.rt_agg.specs.ResultHolder.{held_of, item_of, started_in, with_row_in}
+use Rattle.rt_agg.specs.GroupTable.{AddsRow, AddsRows, IsTable, StartsSome, Tabled, all_merged_in, entries_from}
+use Rattle.rt_agg.specs.ResultHolder.{held_of, item_of, started_in, with_page_in, with_row_in}
+use Rattle.rt_agg.specs.declared.placed_row.PlacedRow.{PlacedRow}
 use Rattle.rt_agg.specs.declared.result_holder.ResultHolder.{ResultHolder}
-use Rattle.rt_agg.proofs.Entries.{entries_more, entries_same, entry_changed, entry_of, known_by}
-use Rattle.rt_agg.proofs.Holders.{Started, all_fewer, merges_here, merges_other, merges_started, rows_here, rows_items, rows_other, rows_started, some_before, some_items, some_kept, starts_here, starts_started}
+use Rattle.rt_agg.proofs.Entries.{entries_more, entries_same, entry_changed, entry_of, keys_are, known_by}
+use Rattle.rt_agg.proofs.Holders.{Started, all_fewer, all_page_started, merges_here, merges_other, merges_started, page_first, page_none, rows_here, rows_items, rows_other, rows_started, some_before, some_items, some_kept, starts_here, starts_started}
 
 abbrev Keys : Type 0
 Keys = List (List Value)
@@ -84,13 +85,6 @@ module _ (columns : List ColumnAt) (hs : List ResultHolder) (ks : Keys) where
     pub row_table : IsTable added ks
     row_table = record { apart = t.apart; started = rows_started row group (length ks) hs t.started }
 
-    pub row_past : length ks ≤ group → table_of columns added ks ≡ table_of columns hs ks
-    row_past past = λ j. record {
-      columns = columns;
-      items = rows_items row group hs j;
-      entries = entries_same columns hs added 0 ks (λ i le lt key. rows_other row group i (λ e. absurd (omega (arith, e, past, lt))) columns key hs) j;
-    }
-
     pub row_known : (k : List Value) (known : List Accumulator) → slice_get (entries_from columns hs 0 ks) group ≡ Some (k, known)
         → (q : List Value) → lookup (same_key q) (entries_from columns added 0 ks) ≡ cond (same_key k q) (Some (map (with_row row) known)) (lookup (same_key q) (entries_from columns hs 0 ks))
     row_known k known at q =
@@ -98,6 +92,18 @@ module _ (columns : List ColumnAt) (hs : List ResultHolder) (ks : Keys) where
         entry_changed columns hs added group (λ j n key. rows_other row group j n columns key hs) (map (with_row row) known) k q ks t.apart here
         (rows_here row group columns k hs (all_fewer (length ks) (suc group) hs (omega (arith, slice_get_within ks group k here)) t.started)
         ∙ ap (map (with_row row)) (known_at_entry group k known at))
+
+    pub row_added : AddsRow row group (table_of columns hs ks) (table_of columns added ks)
+    row_added = record {
+      known = row_known;
+      keys = keys_are columns added 0 ks ∙ sym (keys_are columns hs 0 ks);
+      same = (refl, rows_items row group hs);
+    }
+
+  -- ---- the rows of a page are added, each to its group
+
+  pub page_table : IsTable hs ks → (row_of : ℕ → Row) (page : List PlacedRow) → IsTable (map (with_page_in row_of page) hs) ks
+  page_table t row_of page = record { apart = t.apart; started = all_page_started row_of (length ks) page hs t.started }
 
   -- ---- a group is merged with one of others
 
@@ -111,6 +117,17 @@ module _ (columns : List ColumnAt) (hs : List ResultHolder) (ks : Keys) where
       fewer zero ls = omega arith
       fewer (suc n) [] = omega arith
       fewer (suc n) (l ∷ ls) = omega (arith, fewer n ls)
+
+pub rows_added : (columns : List ColumnAt) (ks : Keys) (row_of : ℕ → Row) (page : List PlacedRow) (hs : List ResultHolder) → IsTable hs ks
+    → AddsRows row_of page (table_of columns hs ks) (table_of columns (map (with_page_in row_of page) hs) ks)
+rows_added columns ks row_of [] hs t = ap (λ now. table_of columns now ks) (page_none row_of hs)
+rows_added columns ks row_of (p ∷ page) hs t =
+    let row = row_of p.row in
+    let mid = map (with_row_in row p.group) hs in (
+      table_of columns mid ks,
+      row_added columns hs ks t row p.group,
+      subst (λ (now : List ResultHolder). AddsRows row_of page (table_of columns mid ks) (table_of columns now ks)) (sym (page_first row_of p page hs)) (rows_added columns ks row_of page mid (row_table columns hs ks t row p.group)),
+    )
 
 module _ (columns others_columns : List ColumnAt) (hs os : List ResultHolder) (ks ls : Keys) (t : IsTable hs ks) (u : IsTable os ls) (group from : ℕ) where
   pub merge_known : (k : List Value) (known : List Accumulator) → slice_get (entries_from columns hs 0 ks) group ≡ Some (k, known)

@@ -1,11 +1,15 @@
 -- Groups by their numbers.
-use Rattle.std.specs.Prelude.{◌≡◌, ◌⊎◌, ℕ, suc, List, [], ◌∷◌, ◌++◌, length, map, take, drop}
+use Rattle.std.specs.Prelude.{◌≡◌, ◌⊎◌, ℕ, suc, cond, List, [], ◌∷◌, ◌++◌, length, map, take, drop, slice_get, Some}
 use Rattle.std.specs.List.{AllByRecursion, IsDistinct}
+use Rattle.std.specs.Map.{lookup, keys_of}
+use Rattle.rt_schema.specs.declared.row.Row.{Row}
 use Rattle.rt_schema.specs.declared.value.Value.{Value}
 use Rattle.rt_model.specs.declared.query_parts.ColumnAt.{ColumnAt}
 use Rattle.rt_model.specs.declared.query_parts.Item.{Item}
+use Rattle.rt_agg.specs.declared.placed_row.PlacedRow.{PlacedRow}
 use Rattle.rt_agg.specs.declared.result_holder.ResultHolder.{ResultHolder}
 use Rattle.rt_agg.specs.Accumulator.{Accumulator}
+use Rattle.rt_agg.specs.Accumulators.{with_row}
 use Rattle.rt_agg.specs.Grouped.{same_key}
 use Rattle.rt_agg.specs.ResultHolder.{HasStarted, held_of, merged_in, started_in}
 
@@ -49,3 +53,15 @@ all_merged_in group from (h ∷ hs) (o ∷ os) = merged_in group from h o ∷ al
 -- the columns and the items stay
 abbrev pub IsOfSame : Tabled → Tabled → Type 0
 IsOfSame old new = (new.columns ≡ old.columns) × (new.items ≡ old.items)
+
+-- one more row of a group: what is known at each key, and no key comes or goes
+pub record AddsRow (row : Row) (group : ℕ) (old new : Tabled) : Type 0 where
+  pub known : (k : List Value) (known : List Accumulator) → slice_get old.entries group ≡ Some (k, known)
+      → (q : List Value) → lookup (same_key q) new.entries ≡ cond (same_key k q) (Some (map (with_row row) known)) (lookup (same_key q) old.entries)
+  pub keys : keys_of new.entries ≡ keys_of old.entries
+  pub same : IsOfSame old new
+
+-- the rows of a page, one after the other
+abbrev pub AddsRows : (ℕ → Row) → List PlacedRow → Tabled → Tabled → Type 0
+AddsRows row_of [] old new = new ≡ old
+AddsRows row_of (placed ∷ page) old new = (mid : Tabled) × AddsRow (row_of placed.row) placed.group old mid × AddsRows row_of page mid new

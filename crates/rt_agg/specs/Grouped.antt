@@ -16,6 +16,8 @@ use Rattle.rt_model.specs.Aggregate.{has_key, key_of, group_of, result_rows}
 use Rattle.rt_model.specs.Values.{key_cmp}
 use Rattle.rt_agg.specs.Accumulator.{Accumulator}
 use Rattle.rt_agg.specs.Accumulators.{all_known_of, ordering_items}
+use Rattle.rt_agg.specs.declared.placed_row.PlacedRow.{PlacedRow}
+use Rattle.rt_agg.specs.Paging.{rows_on}
 use Rattle.rt_agg.specs.Reading.{scalar_at}
 
 -- what groups show: the parts of their query, and for each group its key and what is known of its rows
@@ -72,21 +74,52 @@ pub record Holds (query : Query) (rows : List Row) (g : Grouped) : Type 0 where
   pub fits : AllByRecursion (Fits query) rows
   pub few : length rows < 9223372036854775808
 
+-- what is known at a key of some rows, where later rows made groups too
+abbrev pub known_before : Query → List Row → List Row → List Value → Option (List Accumulator)
+known_before query rows later key =
+    if makes_group query.groups (rows ++ later) key then
+    Some (all_known_of query.groups query.items query.order key (group_of query.groups key rows))
+    else None
+
+-- the groups are those of a query, and they hold these rows; the groups of later rows were started too
+pub record Awaits (query : Query) (rows later : List Row) (g : Grouped) : Type 0 where
+  pub columns : g.columns ≡ query.groups
+  pub items : g.items ≡ query.items
+  pub order : g.order ≡ query.order
+  pub limit : g.limit ≡ query.limit
+  pub apart : IsDistinct same_key (keys_in_order g)
+  pub known : (key : List Value) → known_at g key ≡ known_before query rows later key
+  pub fits : AllByRecursion (Fits query) rows
+  pub later_fit : AllByRecursion (Fits query) later
+  pub few : length rows + length later < 9223372036854775808
+
 -- what is known at a key before the first row: without GROUP BY there is a group
 abbrev pub first_known : List ColumnAt → List Item → List OrderKey → List Value → Option (List Accumulator)
 first_known columns items order key = if makes_group columns [] key then Some (all_known_of columns items order key []) else None
 
--- of the groups of any query and any rows came those of the rows and one more, which has this key
-abbrev pub AddsUnder : List Value → Row → Grouped → Grouped → Type 0
-AddsUnder key row old new =
-    (query : Query) (rows : List Row)
-    → Holds query rows old
+-- one more row is awaited, of the group with this key
+abbrev pub AwaitsOne : List Value → Grouped → Grouped → Type 0
+AwaitsOne key old new =
+    (query : Query) (rows later : List Row) (row : Row)
+    → Awaits query rows later old
     → key ≡ key_of query.groups row
     → Fits query row
-    → length rows + 1 < 9223372036854775808
-    → Holds query (rows ++ row ∷ []) new
+    → length rows + length later + 1 < 9223372036854775808
+    → Awaits query rows (later ++ row ∷ []) new
 
--- the same of any row
+-- the row has the key of its group
+abbrev pub IsPlaced : List ColumnAt → (ℕ → Row) → Grouped → PlacedRow → Type 0
+IsPlaced columns row_of g placed = slice_get (keys_in_order g) placed.group ≡ Some (key_of columns (row_of placed.row))
+
+-- of the groups of any query that await the rows of a page came those that hold them too
+abbrev pub AddsPage : (ℕ → Row) → List PlacedRow → Grouped → Grouped → Type 0
+AddsPage row_of page old new =
+    (query : Query) (rows : List Row)
+    → Awaits query rows (rows_on row_of page) old
+    → AllByRecursion (IsPlaced query.groups row_of old) page
+    → Holds query (rows ++ rows_on row_of page) new
+
+-- of the groups of any query and any rows came those of the rows and one more
 abbrev pub Adds : Row → Grouped → Grouped → Type 0
 Adds row old new =
     (query : Query) (rows : List Row)
@@ -103,11 +136,6 @@ Merges old other new =
     → Holds query others other
     → length rows + length others < 9223372036854775808
     → Holds query (rows ++ others) new
-
--- each group keeps its index
-abbrev pub KeysStay : Grouped → Grouped → Type 0
-KeysStay old new =
-    (i : ℕ) (key : List Value) → slice_get (keys_in_order old) i ≡ Some key → slice_get (keys_in_order new) i ≡ Some key
 
 -- of the groups of any query and any rows comes the answer for them
 abbrev pub Finishes : Grouped → List ResultRow → Type 0

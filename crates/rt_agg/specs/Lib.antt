@@ -5,6 +5,7 @@ pub mod GroupKeys
 pub mod GroupTable
 pub mod Grouped
 pub mod Merging
+pub mod Paging
 pub mod Ranking
 pub mod Reading
 pub mod ResultHolder

@@ -1,5 +1,5 @@
 -- What a holder has of each group for one item of the query, and how it takes rows.
-use Rattle.std.specs.Prelude.{ℕ, suc, ◌≤◌, List, ◌∷◌, ◌++◌, length, take, drop, Option, Some, None, slice_get, slice_index_or, slice_set, pos}
+use Rattle.std.specs.Prelude.{ℕ, suc, ◌≤◌, List, [], ◌∷◌, ◌++◌, length, take, drop, Option, Some, None, slice_get, slice_index_or, slice_set, pos}
 use Rattle.rt_schema.specs.declared.row.Row.{Row}
 use Rattle.rt_schema.specs.declared.value.Value.{Value}
 use Rattle.rt_model.specs.declared.answer.Cell.{Cell}
@@ -13,6 +13,8 @@ use Rattle.rt_agg.specs.Accumulator.{Accumulator, Column, Count, Sum, Min, Max}
 use Rattle.rt_agg.specs.Accumulators.{cell_in, least_with, greatest_with, scalar_cell, with_scalar}
 use Rattle.rt_agg.specs.declared.result_holder.ResultHolder.{ResultHolder}
 use Rattle.rt_agg.specs.declared.result_holder.ResultHolder.TheVariants.{Key, Counts, Sums, Least, Greatest}
+use Rattle.rt_agg.specs.declared.placed_row.PlacedRow.{PlacedRow}
+use Rattle.rt_agg.specs.declared.scalar.Scalar.{Scalar}
 use Rattle.rt_agg.specs.Reading.{scalar_at}
 use Rattle.rt_agg.specs.Summed.{Summed}
 use Rattle.rt_agg.specs.Totals.{counted, joined, with_one}
@@ -68,16 +70,32 @@ started_in group (Sums column totals) = Sums column (put_at group no_rows totals
 started_in group (Least column scalars) = Least column (put_at group None scalars)
 started_in group (Greatest column scalars) = Greatest column (put_at group None scalars)
 
+-- with one more scalar of a group
+abbrev pub summed_at : List Summed → ℕ → Option Scalar → List Summed
+summed_at totals group scalar = slice_set totals group (with_scalar scalar (slice_index_or totals group no_rows))
+
+abbrev pub lesser_at : List (Option Scalar) → ℕ → Option Scalar → List (Option Scalar)
+lesser_at scalars group scalar = slice_set scalars group (least_with (slice_index_or scalars group None) scalar)
+
+abbrev pub greater_at : List (Option Scalar) → ℕ → Option Scalar → List (Option Scalar)
+greater_at scalars group scalar = slice_set scalars group (greatest_with (slice_index_or scalars group None) scalar)
+
+-- with one more row of a group counted
+abbrev pub counted_at : List ℕ → ℕ → List ℕ
+counted_at counts group = slice_set counts group (with_one (slice_index_or counts group 0))
+
 -- after one more row of a group
 abbrev pub with_row_in : Row → ℕ → ResultHolder → ResultHolder
 with_row_in row group (Key column) = Key column
-with_row_in row group (Counts counts) = Counts (slice_set counts group (with_one (slice_index_or counts group 0)))
-with_row_in row group (Sums column totals) =
-    Sums column (slice_set totals group (with_scalar (scalar_at row column.place) (slice_index_or totals group no_rows)))
-with_row_in row group (Least column scalars) =
-    Least column (slice_set scalars group (least_with (slice_index_or scalars group None) (scalar_at row column.place)))
-with_row_in row group (Greatest column scalars) =
-    Greatest column (slice_set scalars group (greatest_with (slice_index_or scalars group None) (scalar_at row column.place)))
+with_row_in row group (Counts counts) = Counts (counted_at counts group)
+with_row_in row group (Sums column totals) = Sums column (summed_at totals group (scalar_at row column.place))
+with_row_in row group (Least column scalars) = Least column (lesser_at scalars group (scalar_at row column.place))
+with_row_in row group (Greatest column scalars) = Greatest column (greater_at scalars group (scalar_at row column.place))
+
+-- after the rows of a page, one after the other
+abbrev pub with_page_in : (ℕ → Row) → List PlacedRow → ResultHolder → ResultHolder
+with_page_in row_of [] holder = holder
+with_page_in row_of (placed ∷ page) holder = with_page_in row_of page (with_row_in (row_of placed.row) placed.group holder)
 
 -- an item, with another where there is one
 abbrev pub with_other : {X : Type 0} → (X → X → X) → X → Option X → X

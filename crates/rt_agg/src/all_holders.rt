@@ -1,11 +1,11 @@
 //! Steps of all holders of a list.
 ghost use Rattle.std.specs.Prelude.{◌≡◌, map, OnOk};
 ghost use Rattle.std.specs.List.{AllByRecursion};
-ghost use Rattle.rt_agg.specs.ResultHolder.{HasStarted, started_in, with_row_in};
+ghost use Rattle.rt_agg.specs.ResultHolder.{HasStarted, started_in, with_page_in};
 ghost use Rattle.rt_agg.specs.GroupTable.{StartsFront, all_merged_in};
 
-use crate::ReadRow;
 use crate::result_holder::ResultHolder;
+use crate::{PlacedRow, ReadTable};
 use rt_lists::Items;
 use std::alloc::AllocError;
 
@@ -21,18 +21,22 @@ pub(crate) fn start_all(holders: &mut Items<ResultHolder>, group: usize) -> Resu
     Ok(())
 }
 
-/// Takes one more row into a group of each holder.
-pub(crate) fn add_to_all<R: ReadRow>(holders: &mut Items<ResultHolder>, group: usize, row: &R)
-    ensures { holders.new ≡ map (with_row_in (R.meaning row.now) group) holders.old }
+/// Takes the rows of a page into each holder, each row into its group.
+pub(crate) fn add_page_to_all<R: ReadTable>(
+    holders: &mut Items<ResultHolder>,
+    page: &[PlacedRow],
+    table: &R,
+)
+    ensures { holders.new ≡ map (with_page_in (R.row_of table.now) page.now) holders.old }
 {
-    add_to_each(holders.as_mut_slice(), group, row);
+    add_page_to_each(holders.as_mut_slice(), page, table);
 }
 
-fn add_to_each<R: ReadRow>(holders: &mut [ResultHolder], group: usize, row: &R)
-    ensures { holders.new ≡ map (with_row_in (R.meaning row.now) group) holders.old }
+fn add_page_to_each<R: ReadTable>(holders: &mut [ResultHolder], page: &[PlacedRow], table: &R)
+    ensures { holders.new ≡ map (with_page_in (R.row_of table.now) page.now) holders.old }
 {
     for holder in holders.iter_mut() {
-        holder.add(group, row);
+        holder.add_page(page, table);
     }
 }
 

@@ -1,8 +1,10 @@
 //! Counts of rows, by the groups' numbers.
-ghost use Rattle.std.specs.Prelude.{◌≡◌, slice_index_or, slice_set};
-ghost use Rattle.rt_agg.specs.ResultHolder.{join_at};
+ghost use Rattle.std.specs.Prelude.{◌≡◌, None as Nothing, slice_index_or};
+ghost use Rattle.rt_agg.specs.Paging.{fed};
+ghost use Rattle.rt_agg.specs.ResultHolder.{counted_at, join_at};
 ghost use Rattle.rt_agg.specs.Totals.{counted, with_one};
 
+use crate::PlacedRow;
 use crate::total::ROW_LIMIT;
 use rt_lists::Items;
 
@@ -16,9 +18,18 @@ pub(crate) fn count_at(counts: &Items<u64>, group: usize) -> u64
     }
 }
 
-/// Counts one more row of a group.
-pub(crate) fn add_one(counts: &mut Items<u64>, group: usize)
-    ensures { counts.new ≡ slice_set counts.old group (with_one (slice_index_or counts.old group 0)) }
+/// Counts the rows of a page, each in its group.
+pub(crate) fn add_ones(counts: &mut Items<u64>, page: &[PlacedRow])
+    ensures { counts.new ≡ fed (λ counts group scalar. counted_at counts group) (λ number. Nothing) page.now counts.old }
+{
+    for placed in page {
+        add_one(counts, placed.group);
+    }
+}
+
+// Counts one more row of a group.
+fn add_one(counts: &mut Items<u64>, group: usize)
+    ensures { counts.new ≡ counted_at counts.old group }
 {
     if group < counts.len() {
         count_one(counts.at_mut(group));

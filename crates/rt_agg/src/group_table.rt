@@ -1,18 +1,18 @@
-ghost use Rattle.std.specs.Prelude.{◌≡◌, ◌<◌, ◌≤◌, ◌++◌, ◌∷◌, [], cond, List, length, map, take, slice_get, Some, None, IfSome, IfNone, IfOk, OnOk, OnErr};
+ghost use Rattle.std.specs.Prelude.{◌≡◌, ◌<◌, ◌++◌, ◌∷◌, [], cond, List, length, map, take, slice_get, Some, None, IfSome, IfNone, IfOk, OnOk, OnErr};
 ghost use Rattle.std.specs.List.{IsDistinct};
 ghost use Rattle.std.specs.Map.{lookup, keys_of};
 ghost use Rattle.rt_schema.specs.declared.value.Value.{Value as AnyValue};
 ghost use Rattle.rt_agg.specs.Accumulator.{Accumulator};
-ghost use Rattle.rt_agg.specs.Accumulators.{all_merged, known_of, ordering_items, with_row};
+ghost use Rattle.rt_agg.specs.Accumulators.{all_merged, known_of, ordering_items};
 ghost use Rattle.rt_agg.specs.Grouped.{same_key};
-ghost use Rattle.rt_agg.specs.GroupTable.{IsOfSame};
+ghost use Rattle.rt_agg.specs.GroupTable.{AddsRows, IsOfSame};
 ghost use Rattle.rt_agg.specs.Ranking.{ranked_at};
 ghost use Rattle.rt_model.specs.Aggregate.{result_cmp};
 
 use crate::group_keys::GroupKeys;
 use crate::group_ref::GroupRef;
 use crate::shared_holders::SharedHolders;
-use crate::{GroupKey, ReadRow};
+use crate::{GroupKey, PlacedRow, ReadTable};
 use rt_lists::{Copied, Items};
 use rt_model::{ColumnAt, Item, OrderKey, ResultRow};
 use std::alloc::{AllocError, Global};
@@ -115,15 +115,13 @@ impl GroupTable {
         Ok(next)
     }
 
-    /// Takes one more row into a group, where there is one. It takes no memory.
-    pub(crate) fn add<R: ReadRow>(&mut self, group: usize, row: &R)
-        ensures known { (k : List AnyValue) (known : List Accumulator) → slice_get self.old.entries group ≡ Some (k, known) → (q : List AnyValue) → lookup (same_key q) self.new.entries ≡ cond (same_key k q) (Some (map (with_row (R.meaning row.now)) known)) (lookup (same_key q) self.old.entries) }
+    /// Takes the rows of a page, one after the other, each into its group. It takes no memory.
+    pub(crate) fn add_page<R: ReadTable>(&mut self, page: &[PlacedRow], table: &R)
+        ensures rows { AddsRows (R.row_of table.now) page.now self.old self.new }
         ensures keys { keys_of self.new.entries ≡ keys_of self.old.entries }
-        ensures past { length self.old.entries ≤ group → self.new ≡ self.old }
         ensures same { IsOfSame self.old self.new }
-        ensures apart { IsDistinct same_key (keys_of self.new.entries) }
     {
-        self.holders.add(group, row);
+        self.holders.add_page(page, table);
     }
 
     /// Takes all rows of a group of another table for the same items into a group. It takes no memory.

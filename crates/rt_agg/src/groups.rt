@@ -1,9 +1,9 @@
-ghost use Rattle.std.specs.Prelude.{◌≡◌, ◌≤◌, ◌++◌, ◌∷◌, [], List, length, map, slice_get, Some, IfOk, OnOk, OnErr};
+ghost use Rattle.std.specs.Prelude.{◌≡◌, ◌++◌, ◌∷◌, [], List, map, slice_get, Some, IfOk, OnOk, OnErr};
 ghost use Rattle.std.specs.List.{Contains, IsDistinct};
 ghost use Rattle.std.specs.Map.{lookup, keys_of};
 ghost use Rattle.rt_schema.specs.declared.value.Value.{Value as AnyValue};
 ghost use Rattle.rt_agg.specs.Accumulators.{known_of, ordering_items};
-ghost use Rattle.rt_agg.specs.Grouped.{Adds, AddsUnder, Finishes, Merges, Holds, KeysStay, first_known, keys_in_order, same_key};
+ghost use Rattle.rt_agg.specs.Grouped.{Adds, AddsPage, AwaitsOne, Finishes, Merges, Holds, first_known, keys_in_order, same_key};
 ghost use Rattle.rt_agg.specs.GroupTable.{IsOfSame};
 
 use crate::foremost::{first_places, rows_at};
@@ -11,7 +11,7 @@ use crate::group_table::GroupTable;
 use crate::keys::key_of_row;
 use crate::merging::{merge_each, start_missing};
 use crate::ranked::{all_places, sort};
-use crate::{GroupKey, ReadRow};
+use crate::{GroupKey, PlacedRow, ReadTable};
 use rt_lists::{Copied, Items};
 use rt_model::{ColumnAt, Item, OrderKey, Query, ResultRow};
 use rt_schema::Row;
@@ -58,54 +58,25 @@ impl Groups {
         })
     }
 
-    /// Adds a row under its key, and gives the index of its group, which is new where the key is. Where memory runs out, all is
-    /// as before.
-    pub fn add<R: ReadRow>(
-        &mut self,
-        alloc: Global,
-        key: GroupKey,
-        row: &R,
-    ) -> Result<usize, AllocError>
-        ensures adds { OnOk result (AddsUnder key (R.meaning row.now) self.old self.new) }
-        ensures index { IfOk result (λ i. slice_get (keys_in_order self.new) i ≡ Some key) }
-        ensures keys { OnOk result (KeysStay self.old self.new) }
-        ensures err { OnErr result (self.new ≡ self.old) }
-    {
-        self.table.index(alloc)?;
-        match self.table.find(&key) {
-            Some(index) => {
-                drop(key);
-                self.table.add(index, row);
-                Ok(index)
-            }
-            None => {
-                let index = self.add_new(key, row)?;
-                Ok(index)
-            }
-        }
-    }
-
-    /// Adds a row under a key that no group has, and gives the index of its group, which is behind all others. Where memory
-    /// runs out, all is as before.
-    pub fn add_new<R: ReadRow>(&mut self, key: GroupKey, row: &R) -> Result<usize, AllocError>
+    /// Starts the group of a key that no group has, and gives its index, which is behind all others. Its first row is to follow.
+    /// Where memory runs out, all is as before.
+    pub fn start(&mut self, key: GroupKey) -> Result<usize, AllocError>
         requires { Contains (keys_in_order self.old) key → ⊥ }
-        ensures adds { OnOk result (AddsUnder key (R.meaning row.now) self.old self.new) }
+        ensures awaits { OnOk result (AwaitsOne key self.old self.new) }
         ensures index { IfOk result (λ i. slice_get (keys_in_order self.new) i ≡ Some key) }
         ensures keys { OnOk result (keys_in_order self.new ≡ keys_in_order self.old ++ key ∷ []) }
         ensures err { OnErr result (self.new ≡ self.old) }
     {
         let index = self.table.start(key)?;
-        self.table.add(index, row);
         Ok(index)
     }
 
-    /// Adds a row to the group at an index, where there is one; else all is as before. It takes no memory.
-    pub fn add_at<R: ReadRow>(&mut self, index: usize, row: &R)
-        ensures past { length self.old.groups ≤ index → self.new ≡ self.old }
-        ensures adds { (key : List AnyValue) → slice_get (keys_in_order self.old) index ≡ Some key → AddsUnder key (R.meaning row.now) self.old self.new }
+    /// Adds the rows of a page, one after the other, each to the group at its index. It takes no memory.
+    pub fn add_page<R: ReadTable>(&mut self, page: &[PlacedRow], table: &R)
+        ensures adds { AddsPage (R.row_of table.now) page.now self.old self.new }
         ensures keys { keys_in_order self.new ≡ keys_in_order self.old }
     {
-        self.table.add(index, row);
+        self.table.add_page(page, table);
     }
 
     /// Adds a row that the query takes. Where memory runs out, all is as before.
@@ -114,8 +85,28 @@ impl Groups {
         ensures err { OnErr result (self.new ≡ self.old) }
     {
         let key = key_of_row(alloc, self.table.columns(), row)?;
-        self.add(alloc, key, row)?;
+        let group = self.place(alloc, key)?;
+        self.add_page(&[PlacedRow { row: 0, group }], row);
         Ok(())
+    }
+
+    // The index of the group of a key, which is started where the key is new. Where memory runs out, all is as before.
+    fn place(&mut self, alloc: Global, key: GroupKey) -> Result<usize, AllocError>
+        ensures awaits { OnOk result (AwaitsOne key self.old self.new) }
+        ensures index { IfOk result (λ i. slice_get (keys_in_order self.new) i ≡ Some key) }
+        ensures err { OnErr result (self.new ≡ self.old) }
+    {
+        self.table.index(alloc)?;
+        match self.table.find(&key) {
+            Some(index) => {
+                drop(key);
+                Ok(index)
+            }
+            None => {
+                let index = self.start(key)?;
+                Ok(index)
+            }
+        }
     }
 
     /// Takes all rows of other groups of the same query. Where memory runs out, all is as before.

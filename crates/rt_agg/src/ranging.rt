@@ -1,7 +1,7 @@
 //! The least and the greatest scalars, by the groups' numbers.
-ghost use Rattle.std.specs.Prelude.{◌≡◌, None as Nothing, slice_index_or, slice_set};
+ghost use Rattle.std.specs.Prelude.{◌≡◌, None as Nothing, slice_index_or};
 ghost use Rattle.rt_agg.specs.Accumulators.{greatest_with, least_with};
-ghost use Rattle.rt_agg.specs.ResultHolder.{join_at};
+ghost use Rattle.rt_agg.specs.ResultHolder.{greater_at, join_at, lesser_at};
 
 use crate::Scalar;
 use crate::compare::compare_scalars;
@@ -19,7 +19,7 @@ pub(crate) fn scalar_at(scalars: &Items<Option<Scalar>>, group: usize) -> Option
 
 /// Keeps the lesser of a group's scalar and another.
 pub(crate) fn take_lesser(scalars: &mut Items<Option<Scalar>>, group: usize, other: Option<Scalar>)
-    ensures { scalars.new ≡ slice_set scalars.old group (least_with (slice_index_or scalars.old group Nothing) other) }
+    ensures { scalars.new ≡ lesser_at scalars.old group other }
 {
     if group < scalars.len() {
         keep_lesser(scalars.at_mut(group), other);
@@ -28,7 +28,7 @@ pub(crate) fn take_lesser(scalars: &mut Items<Option<Scalar>>, group: usize, oth
 
 /// Keeps the greater of a group's scalar and another.
 pub(crate) fn take_greater(scalars: &mut Items<Option<Scalar>>, group: usize, other: Option<Scalar>)
-    ensures { scalars.new ≡ slice_set scalars.old group (greatest_with (slice_index_or scalars.old group Nothing) other) }
+    ensures { scalars.new ≡ greater_at scalars.old group other }
 {
     if group < scalars.len() {
         keep_greater(scalars.at_mut(group), other);

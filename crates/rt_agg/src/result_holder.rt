@@ -1,16 +1,17 @@
 ghost use Rattle.std.specs.Prelude.{◌≡◌, IfOk, OnOk, OnErr};
 ghost use Rattle.rt_model.specs.Aggregate.{cell_cmp};
 ghost use Rattle.rt_agg.specs.Accumulators.{scalar_cell};
-ghost use Rattle.rt_agg.specs.ResultHolder.{HasStarted, bare_cell_of, cell_held, item_of, merged_in, started_in, with_row_in};
+ghost use Rattle.rt_agg.specs.ResultHolder.{HasStarted, bare_cell_of, cell_held, item_of, merged_in, started_in, with_page_in};
 
 use crate::compare::compare_cells;
-use crate::counting::{add_count, add_one, count_at};
+use crate::counting::{add_count, add_ones, count_at};
+use crate::greatest_scalars::GreatestScalars;
 use crate::group_ref::GroupRef;
 use crate::key_column::{compare_by_column, copy_of_key};
+use crate::least_scalars::LeastScalars;
 use crate::placing::put;
-use crate::ranging::{join_greater, join_lesser, scalar_at, take_greater, take_lesser};
-use crate::totalling::{add_sum, add_to_sum, sum_at};
-use crate::{ReadRow, Scalar, Total};
+use crate::totals::Totals;
+use crate::{PlacedRow, ReadTable, Scalar};
 use rt_lists::{Copied, Items};
 use rt_model::{Aggregate, Cell, ColumnAt, Item};
 use std::alloc::{AllocError, Global};
@@ -25,17 +26,17 @@ pub(crate) enum ResultHolder {
     Counts(Items<u64>),
     Sums {
         column: ColumnAt,
-        totals: Items<Total>,
+        totals: Totals,
     },
     /// The least value, once there is a row.
     Least {
         column: ColumnAt,
-        scalars: Items<Option<Scalar>>,
+        scalars: LeastScalars,
     },
     /// The greatest value, once there is a row.
     Greatest {
         column: ColumnAt,
-        scalars: Items<Option<Scalar>>,
+        scalars: GreatestScalars,
     },
 }
 
@@ -49,15 +50,15 @@ impl ResultHolder {
             Item::Aggregate(Aggregate::Count) => Ok(ResultHolder::Counts(Items::new(alloc))),
             Item::Aggregate(Aggregate::Sum(column)) => Ok(ResultHolder::Sums {
                 column: column.copied(alloc)?,
-                totals: Items::new(alloc),
+                totals: Totals::new(alloc),
             }),
             Item::Aggregate(Aggregate::Min(column)) => Ok(ResultHolder::Least {
                 column: column.copied(alloc)?,
-                scalars: Items::new(alloc),
+                scalars: LeastScalars::new(alloc),
             }),
             Item::Aggregate(Aggregate::Max(column)) => Ok(ResultHolder::Greatest {
                 column: column.copied(alloc)?,
-                scalars: Items::new(alloc),
+                scalars: GreatestScalars::new(alloc),
             }),
         }
     }
@@ -71,28 +72,22 @@ impl ResultHolder {
         match self {
             ResultHolder::Key(_) => Ok(()),
             ResultHolder::Counts(counts) => put(counts, group, 0),
-            ResultHolder::Sums { totals, .. } => put(totals, group, Total::none()),
-            ResultHolder::Least { scalars, .. } => put(scalars, group, None),
-            ResultHolder::Greatest { scalars, .. } => put(scalars, group, None),
+            ResultHolder::Sums { totals, .. } => totals.start(group),
+            ResultHolder::Least { scalars, .. } => scalars.start(group),
+            ResultHolder::Greatest { scalars, .. } => scalars.start(group),
         }
     }
 
-    /// Takes one more row into a group that was started.
-    pub(crate) fn add<R: ReadRow>(&mut self, group: usize, row: &R)
-        ensures { self.new ≡ with_row_in (R.meaning row.now) group self.old }
+    /// Takes the rows of a page, each into its group.
+    pub(crate) fn add_page<R: ReadTable>(&mut self, page: &[PlacedRow], table: &R)
+        ensures { self.new ≡ with_page_in (R.row_of table.now) page.now self.old }
     {
         match self {
             ResultHolder::Key(_) => (),
-            ResultHolder::Counts(counts) => add_one(counts, group),
-            ResultHolder::Sums { column, totals } => {
-                add_to_sum(totals, group, row.scalar(column.place));
-            }
-            ResultHolder::Least { column, scalars } => {
-                take_lesser(scalars, group, row.scalar(column.place));
-            }
-            ResultHolder::Greatest { column, scalars } => {
-                take_greater(scalars, group, row.scalar(column.place));
-            }
+            ResultHolder::Counts(counts) => add_ones(counts, page),
+            ResultHolder::Sums { column, totals } => table.feed(column.place, page, totals),
+            ResultHolder::Least { column, scalars } => table.feed(column.place, page, scalars),
+            ResultHolder::Greatest { column, scalars } => table.feed(column.place, page, scalars),
         }
     }
 
@@ -105,7 +100,7 @@ impl ResultHolder {
                 add_count(counts, group, others, from);
             }
             (ResultHolder::Sums { totals, .. }, ResultHolder::Sums { totals: others, .. }) => {
-                add_sum(totals, group, others, from);
+                totals.join(group, others, from);
             }
             (
                 ResultHolder::Least { scalars, .. },
@@ -114,7 +109,7 @@ impl ResultHolder {
                     ..
                 },
             ) => {
-                join_lesser(scalars, group, others, from);
+                scalars.join(group, others, from);
             }
             (
                 ResultHolder::Greatest { scalars, .. },
@@ -123,7 +118,7 @@ impl ResultHolder {
                     ..
                 },
             ) => {
-                join_greater(scalars, group, others, from);
+                scalars.join(group, others, from);
             }
             _ => (),
         }
@@ -153,9 +148,9 @@ impl ResultHolder {
         match self {
             ResultHolder::Key(_) => Cell::Null,
             ResultHolder::Counts(counts) => Cell::Whole(i128::from(count_at(counts, group))),
-            ResultHolder::Sums { totals, .. } => Cell::Whole(sum_at(totals, group)),
-            ResultHolder::Least { scalars, .. } => cell_of_scalar(scalar_at(scalars, group)),
-            ResultHolder::Greatest { scalars, .. } => cell_of_scalar(scalar_at(scalars, group)),
+            ResultHolder::Sums { totals, .. } => Cell::Whole(totals.sum(group)),
+            ResultHolder::Least { scalars, .. } => cell_of_scalar(scalars.scalar(group)),
+            ResultHolder::Greatest { scalars, .. } => cell_of_scalar(scalars.scalar(group)),
         }
     }
 

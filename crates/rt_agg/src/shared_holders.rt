@@ -5,14 +5,14 @@ ghost use Rattle.rt_model.specs.Aggregate.{order_cmp};
 ghost use Rattle.rt_model.specs.Values.{key_cmp};
 ghost use Rattle.rt_agg.specs.Accumulators.{ordering_items};
 ghost use Rattle.rt_agg.specs.GroupTable.{StartsSome, all_merged_in};
-ghost use Rattle.rt_agg.specs.ResultHolder.{HasStarted, cell_held, item_of, started_in, with_row_in};
+ghost use Rattle.rt_agg.specs.ResultHolder.{HasStarted, cell_held, item_of, started_in, with_page_in};
 
-use crate::ReadRow;
-use crate::all_holders::{add_to_all, merge_all, start_all};
+use crate::all_holders::{add_page_to_all, merge_all, start_all};
 use crate::group_cells::{before, behind, cells_of, compare_groups};
 use crate::group_ref::GroupRef;
 use crate::result_holder::ResultHolder;
 use crate::sharing::{hold_all, items_of, places_of};
+use crate::{PlacedRow, ReadTable};
 use rt_lists::Items;
 use rt_model::{Cell, ColumnAt, Item, OrderKey};
 use std::alloc::{AllocError, Global};
@@ -66,11 +66,11 @@ impl SharedHolders {
         start_all(&mut self.held, group)
     }
 
-    /// Takes one more row into a group of each holder.
-    pub(crate) fn add<R: ReadRow>(&mut self, group: usize, row: &R)
-        ensures { self.new ≡ map (with_row_in (R.meaning row.now) group) self.old }
+    /// Takes the rows of a page into each holder, each row into its group.
+    pub(crate) fn add_page<R: ReadTable>(&mut self, page: &[PlacedRow], table: &R)
+        ensures { self.new ≡ map (with_page_in (R.row_of table.now) page.now) self.old }
     {
-        add_to_all(&mut self.held, group, row);
+        add_page_to_all(&mut self.held, page, table);
     }
 
     /// Takes the rows of a group of other holders for the same items into a group of each.

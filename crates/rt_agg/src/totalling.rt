@@ -1,7 +1,7 @@
 //! Sums, by the groups' numbers.
-ghost use Rattle.std.specs.Prelude.{◌≡◌, slice_index_or, slice_set};
+ghost use Rattle.std.specs.Prelude.{◌≡◌, slice_index_or};
 ghost use Rattle.rt_agg.specs.Accumulators.{with_scalar};
-ghost use Rattle.rt_agg.specs.ResultHolder.{join_at, no_rows};
+ghost use Rattle.rt_agg.specs.ResultHolder.{join_at, no_rows, summed_at};
 ghost use Rattle.rt_agg.specs.Totals.{joined};
 
 use crate::{Scalar, Total};
@@ -19,7 +19,7 @@ pub(crate) fn sum_at(totals: &Items<Total>, group: usize) -> i128
 
 /// Adds a scalar to the sum of a group, where there is one.
 pub(crate) fn add_to_sum(totals: &mut Items<Total>, group: usize, scalar: Option<Scalar>)
-    ensures { totals.new ≡ slice_set totals.old group (with_scalar scalar (slice_index_or totals.old group no_rows)) }
+    ensures { totals.new ≡ summed_at totals.old group scalar }
 {
     if group < totals.len() {
         add_scalar(totals.at_mut(group), scalar);

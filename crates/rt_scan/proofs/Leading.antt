@@ -13,11 +13,11 @@ use Rattle.rt_model.specs.Match.{value_in}
 use Rattle.rt_model.specs.declared.query.Query.{Query}
 use Rattle.rt_agg.specs.Accumulator.{Accumulator}
 use Rattle.rt_agg.specs.Accumulators.{all_known_of}
-use Rattle.rt_agg.specs.Grouped.{Grouped, Holds, KeysStay, keys_in_order, known_if, same_key}
+use Rattle.rt_agg.specs.Grouped.{Grouped, Holds, keys_in_order, known_if, same_key}
 use Rattle.rt_agg.proofs.Apart.{absent, stays_before}
 use Rattle.rt_agg.proofs.Holding.{keys_equiv, same_is}
 use Rattle.rt_scan.specs.GroupIds.{Met}
-use Rattle.rt_scan.specs.Grouping.{value_by, value_with, key_by, AreLeast, IsLeast, Leads}
+use Rattle.rt_scan.specs.Grouping.{value_by, value_with, key_by, AreLeast, IsLeast, KeysStay, Leads}
 use Rattle.rt_scan.specs.IndexById.{IsAt, Notes}
 use Rattle.rt_scan.proofs.Noted.{met_of}
 use Rattle.std.proofs.lemmas.List.Elements.{Contains-append_left, Contains-push, Contains-push_cases}

@@ -1,7 +1,9 @@
+pub mod ColumnRows
 pub mod Filters
 pub mod Noted
 pub mod Leading
 pub mod Walked
+pub mod Paged
 pub mod SealedRows
 pub mod ConsumingRows
 pub mod FilledRows

@@ -1,12 +1,28 @@
 -- Groups that are found by ids.
-use Rattle.std.specs.Prelude.{◌≡◌, ℕ, ◌≤◌, List, [], ◌∷◌, Option, Some, None, false, length, slice_get}
-use Rattle.std.specs.List.{Contains}
+use Rattle.std.specs.Prelude.{◌≡◌, ℕ, ◌≤◌, List, [], ◌∷◌, ◌++◌, Option, Some, None, false, length, slice_get}
+use Rattle.std.specs.List.{AllByRecursion, Contains}
+use Rattle.rt_schema.specs.declared.row.Row.{Row}
 use Rattle.rt_schema.specs.declared.value.Value.{Value}
 use Rattle.rt_schema.specs.declared.value.Value.TheVariants.{Bool as Truth}
+use Rattle.rt_model.specs.declared.query.Query.{Query}
 use Rattle.rt_model.specs.declared.query_parts.ColumnAt.{ColumnAt}
-use Rattle.rt_agg.specs.Grouped.{Grouped, keys_in_order}
+use Rattle.rt_agg.specs.declared.placed_row.PlacedRow.{PlacedRow}
+use Rattle.rt_agg.specs.Grouped.{Awaits, Grouped, IsPlaced, keys_in_order}
+use Rattle.rt_agg.specs.Paging.{rows_on}
 use Rattle.rt_scan.specs.GroupIds.{IsAbsent, Met}
 use Rattle.rt_scan.specs.IndexById.{IsAt, IsFree}
+
+-- each key keeps its place
+abbrev pub KeysStay : Grouped → Grouped → Type 0
+KeysStay old new =
+    (i : ℕ) (key : List Value) → slice_get (keys_in_order old) i ≡ Some key → slice_get (keys_in_order new) i ≡ Some key
+
+-- the groups hold rows and await those of a page, which come last
+pub record HoldsOrAwaits (query : Query) (row_of : ℕ → Row) (rows : List Row) (page : List PlacedRow) (g : Grouped) : Type 0 where
+  pub before : List Row
+  pub waits : Awaits query before (rows_on row_of page) g
+  pub all : before ++ rows_on row_of page ≡ rows
+  pub placed : AllByRecursion (IsPlaced query.groups row_of g) page
 
 module _ {C : Type 0} (value_of : C → ℕ → Value) where
   abbrev pub value_with : Option C → ℕ → Value

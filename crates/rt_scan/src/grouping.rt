@@ -1,21 +1,27 @@
-//! The groups of the rows of a set.
-ghost use Rattle.std.specs.Prelude.{◌≡◌, ◌<◌, ◌≤◌, ◌^◌, ◌∷◌, [], ℕ, All, length, map, IfOk, IfNone, IfSome, OnOk};
+//! The groups of the rows of a set. Rows go to their groups a page at a time: the group of each is found first, or started, and
+//! then each item of the query takes the whole page.
+ghost use Rattle.std.specs.Prelude.{◌≡◌, ◌<◌, ◌≤◌, ◌^◌, ◌∷◌, [], ℕ, All, List, Some, length, map, slice_get, IfOk, IfNone, IfSome, OnOk};
+ghost use Rattle.rt_schema.specs.declared.row.Row.{Row as AnyRow};
+ghost use Rattle.rt_model.specs.declared.query.Query.{Query as AnyQuery};
 ghost use Rattle.rt_model.specs.Aggregate.{key_of, taken};
 ghost use Rattle.rt_model.specs.Match.{passes, value_in};
-ghost use Rattle.rt_agg.specs.Grouped.{AddsUnder, Fits, Holds};
+ghost use Rattle.rt_agg.specs.Grouped.{AwaitsOne, Fits, Holds, keys_in_order};
 ghost use Rattle.rt_agg.specs.ValueRef.{value_lent};
 ghost use Rattle.rt_seek.specs.Table.{row_at, rows_by};
-ghost use Rattle.rt_scan.specs.Grouping.{key_by, value_by, AreLeast, IsLeast, Leads};
+ghost use Rattle.rt_scan.specs.Grouping.{key_by, value_by, AreLeast, HoldsOrAwaits, IsLeast, KeysStay, Leads};
 
+use crate::column_table::ColumnTable;
 use crate::group_ids::GroupIds;
-use crate::row_reader::RowReader;
-use rt_agg::{GroupKey, Groups, ValueRef};
+use rt_agg::{GroupKey, Groups, PlacedRow, ValueRef};
 use rt_lists::Items;
 use rt_model::{ColumnAt, Query};
 use rt_postings::DocSet;
 use rt_schema::Value;
 use rt_seek::ScanColumn;
 use std::alloc::{AllocError, Global};
+
+// So many rows are added to their groups at once.
+const PAGE_ROWS: usize = 1_024;
 
 /// The groups of the rows of a set. Fails only where memory is refused.
 pub(crate) fn groups_of<C: ScanColumn>(
@@ -33,17 +39,32 @@ pub(crate) fn groups_of<C: ScanColumn>(
     let mut groups = Groups::make(alloc, query)?;
     let mut met = GroupIds::new(alloc);
     let mut ids = Items::new(alloc);
+    let mut page = Vec::new(alloc);
     let mut from = 0;
     while let Some(row) = set.next_from(from) {
         let by = query.groups.as_slice();
-        add_row(alloc, by, columns, row, &mut ids, &mut met, &mut groups)?;
+        let group = place_row(alloc, by, columns, row, &mut ids, &mut met, &mut groups)?;
+        page.push(PlacedRow { row, group })?;
+        turn_page(columns, &mut page, &mut groups);
         from = row + 1;
     }
+    groups.add_page(&page, &ColumnTable { columns });
     Ok(groups)
 }
 
-// Adds a row to its group.
-fn add_row<C: ScanColumn>(
+// Adds the rows of a full page to their groups, and begins the next one.
+fn turn_page<C: ScanColumn>(columns: &[C], page: &mut Vec<PlacedRow>, groups: &mut Groups)
+    ensures turns { (query : AnyQuery) (rows : List AnyRow) → HoldsOrAwaits query (row_at C.values columns.now) rows page.old.items groups.old → HoldsOrAwaits query (row_at C.values columns.now) rows page.new.items groups.new }
+    ensures keys { keys_in_order groups.new ≡ keys_in_order groups.old }
+{
+    if page.len() >= PAGE_ROWS {
+        groups.add_page(page, &ColumnTable { columns });
+        page.clear();
+    }
+}
+
+// The index of a row's group, which is started where there is none.
+fn place_row<C: ScanColumn>(
     alloc: Global,
     by: &[ColumnAt],
     columns: &[C],
@@ -51,47 +72,47 @@ fn add_row<C: ScanColumn>(
     ids: &mut Items<u32>,
     met: &mut GroupIds,
     groups: &mut Groups,
-) -> Result<(), AllocError>
+) -> Result<usize, AllocError>
     requires row { All (λ column. row < length (C.values column)) columns.now }
     requires met { Leads C.value_of columns.now by.now groups.old met.old }
-    ensures adds { OnOk result (AddsUnder (key_of by.now (row_at C.values columns.now row)) (row_at C.values columns.now row) groups.old groups.new) }
+    ensures awaits { OnOk result (AwaitsOne (key_of by.now (row_at C.values columns.now row)) groups.old groups.new) }
+    ensures index { IfOk result (λ i. slice_get (keys_in_order groups.new) i ≡ Some (key_of by.now (row_at C.values columns.now row))) }
+    ensures keys { OnOk result (KeysStay groups.old groups.new) }
     ensures met { OnOk result (Leads C.value_of columns.now by.now groups.new met.new) }
 {
     if by.is_empty() {
-        groups.add_at(0, &RowReader { columns, row });
-        return Ok(());
+        return Ok(0);
     }
     match only_column(by) {
-        Some(column) => add_by_id(alloc, column, columns, row, met, groups),
-        None => add_by_ids(alloc, by, columns, row, ids, met, groups),
+        Some(column) => place_by_id(alloc, column, columns, row, met, groups),
+        None => place_by_ids(alloc, by, columns, row, ids, met, groups),
     }
 }
 
-// Adds a row to its group, where one column groups the rows.
-fn add_by_id<C: ScanColumn>(
+// The index of a row's group, where one column groups the rows.
+fn place_by_id<C: ScanColumn>(
     alloc: Global,
     by: &ColumnAt,
     columns: &[C],
     row: u32,
     met: &mut GroupIds,
     groups: &mut Groups,
-) -> Result<(), AllocError>
+) -> Result<usize, AllocError>
     requires row { All (λ column. row < length (C.values column)) columns.now }
     requires met { Leads C.value_of columns.now (by.now ∷ []) groups.old met.old }
-    ensures adds { OnOk result (AddsUnder (key_of (by.now ∷ []) (row_at C.values columns.now row)) (row_at C.values columns.now row) groups.old groups.new) }
+    ensures awaits { OnOk result (AwaitsOne (key_of (by.now ∷ []) (row_at C.values columns.now row)) groups.old groups.new) }
+    ensures index { IfOk result (λ i. slice_get (keys_in_order groups.new) i ≡ Some (key_of (by.now ∷ []) (row_at C.values columns.now row))) }
+    ensures keys { OnOk result (KeysStay groups.old groups.new) }
     ensures met { OnOk result (Leads C.value_of columns.now (by.now ∷ []) groups.new met.new) }
 {
     let id = id_in(columns, row, by);
-    let reader = RowReader { columns, row };
     match met.find_one(id) {
-        Some(index) => {
-            groups.add_at(index, &reader);
-            Ok(())
-        }
+        Some(index) => Ok(index),
         None => {
             let key = GroupKey::of_one(alloc, value_in(columns, row, by))?;
-            let index = groups.add_new(key, &reader)?;
-            met.note_one(id, index)
+            let index = groups.start(key)?;
+            met.note_one(id, index)?;
+            Ok(index)
         }
     }
 }
@@ -106,8 +127,8 @@ fn only_column(by: &[ColumnAt]) -> Option<&ColumnAt>
     }
 }
 
-// Adds a row to its group, where several columns group the rows.
-fn add_by_ids<C: ScanColumn>(
+// The index of a row's group, where several columns group the rows.
+fn place_by_ids<C: ScanColumn>(
     alloc: Global,
     by: &[ColumnAt],
     columns: &[C],
@@ -115,24 +136,23 @@ fn add_by_ids<C: ScanColumn>(
     ids: &mut Items<u32>,
     met: &mut GroupIds,
     groups: &mut Groups,
-) -> Result<(), AllocError>
+) -> Result<usize, AllocError>
     requires several { 2 ≤ length by.now }
     requires row { All (λ column. row < length (C.values column)) columns.now }
     requires met { Leads C.value_of columns.now by.now groups.old met.old }
-    ensures adds { OnOk result (AddsUnder (key_of by.now (row_at C.values columns.now row)) (row_at C.values columns.now row) groups.old groups.new) }
+    ensures awaits { OnOk result (AwaitsOne (key_of by.now (row_at C.values columns.now row)) groups.old groups.new) }
+    ensures index { IfOk result (λ i. slice_get (keys_in_order groups.new) i ≡ Some (key_of by.now (row_at C.values columns.now row))) }
+    ensures keys { OnOk result (KeysStay groups.old groups.new) }
     ensures met { OnOk result (Leads C.value_of columns.now by.now groups.new met.new) }
 {
     read_ids(by, columns, row, ids)?;
-    let reader = RowReader { columns, row };
     match met.find(ids) {
-        Some(index) => {
-            groups.add_at(index, &reader);
-            Ok(())
-        }
+        Some(index) => Ok(index),
         None => {
             let values = read_values(alloc, by, columns, row)?;
-            let index = groups.add_new(GroupKey::of(values), &reader)?;
-            met.note(copy_of(alloc, ids)?, index)
+            let index = groups.start(GroupKey::of(values))?;
+            met.note(copy_of(alloc, ids)?, index)?;
+            Ok(index)
         }
     }
 }

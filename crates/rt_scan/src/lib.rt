@@ -4,13 +4,13 @@
 //! group.
 #![tactic(auto)]
 
+mod column_table;
 mod filling;
 mod group_ids;
 mod grouping;
 mod index_by_id;
 mod laws;
 mod matching;
-mod row_reader;
 mod scanning;
 mod skipping;
 mod standing;

@@ -3,17 +3,17 @@ use Rattle.std.proofs.Common.{◌≡◌, ℕ, zero, suc, ◌+◌, ◌<◌, ◌�
 use Rattle.std.specs.List.{position_or_len}
 use Rattle.std.proofs.Math.ListN.{get_or-map}
 use Rattle.std.proofs.lemmas.Bool.{cases_lt, false≢true}
-use Rattle.std.proofs.lemmas.List.{length-map, length-take, get_or_default, get_or-take, get_or_past, take-map, take_min, same_lists}
+use Rattle.std.proofs.lemmas.List.{length-map, length-take, get_or_default, get_or-take, take-map, take_min, same_lists}
 use Rattle.std.proofs.lemmas.List.Elements.{All-take}
 use Rattle.std.proofs.lemmas.Option.{slice_get-get_or, get_or_from_slice_get}
 use Rattle.rt_schema.specs.declared.value.Value.{Value}
 use Rattle.rt_schema.specs.declared.value.Value.TheVariants as value
 use Rattle.rt_mutable.specs.Arrivals.{arrivals_of, id_among, ids_of}
 use Rattle.rt_mutable.specs.Column.{same_value}
-use Rattle.rt_mutable.proofs.Arriving.{value_of_row, id_of_row_within, length_ids, length_arrivals}
+use Rattle.rt_mutable.proofs.Arriving.{value_of_row, id_of_row_within, length_ids}
 use Rattle.rt_mutable.proofs.Same.{same_laws, same_exact}
-use Rattle.rt_agg.specs.Reading.{scalar_of}
 use Rattle.rt_seek.specs.RowSets.{truth_at}
+use Rattle.rt_seek.specs.Scalars.{led}
 use Rattle.rt_seek.specs.Table.{item_at}
 use Rattle.rt_seek.proofs.Held.{by_truths}
 
@@ -54,6 +54,14 @@ module _ (vs : List Value) where
       ∙ ap (take rows) (by_truths t (arrivals_of same_value vs) ids truths e all_known ∙ ap (map t) values_led)
       ∙ take-map t rows vs
 
+  -- the values of the first rows
+  pub first_values_led : (rows : ℕ) → led (arrivals_of same_value vs) (take (min (length (ids_of same_value vs)) rows) (ids_of same_value vs)) ≡ take rows vs
+  first_values_led rows =
+      let f = λ (id : ℕ). item_at (arrivals_of same_value vs) id in
+      let ids = ids_of same_value vs in
+      let least : min (length ids) rows ≡ min rows (length ids) = omega arith in
+      ap (λ n. map f (take n ids)) least ∙ ap (map f) (take_min rows ids) ∙ sym (take-map f rows ids) ∙ ap (take rows) values_led
+
   pub some_known : (n : ℕ) → All (λ id. id < length (arrivals_of same_value vs)) (take n (ids_of same_value vs))
   some_known n = All-take (λ id. id < length (arrivals_of same_value vs)) n (ids_of same_value vs) all_known
 
@@ -67,20 +75,8 @@ module _ (vs : List Value) where
     pub first_led : row < rows → row < length vs → item_at (arrivals_of same_value vs) (get_or (ids_of same_value vs) row 0) ≡ item_at (take rows vs) row
     first_led less inside = value_led row inside ∙ sym (first_item less)
 
-    pub first_none : rows ≤ row → item_at (take rows vs) row ≡ value.Bool false
-    first_none past = get_or_past (take rows vs) row (value.Bool false) (omega (arith, past, length-take rows vs))
-
-    pub first_past : length vs ≤ row → item_at (take rows vs) row ≡ value.Bool false
-    first_past past = get_or_past (take rows vs) row (value.Bool false) (omega (arith, past, length-take rows vs))
-
 pub led_value : (vs : List Value) (id : ℕ) (v : Value) → slice_get (arrivals_of same_value vs) id ≡ Some v → v ≡ item_at (arrivals_of same_value vs) id
 led_value vs id v at = sym (get_or_from_slice_get (arrivals_of same_value vs) id v (value.Bool false) at)
-
-pub led_scalar : (vs : List Value) (id : ℕ) (v : Value) → slice_get (arrivals_of same_value vs) id ≡ Some v → scalar_of v ≡ scalar_of (item_at (arrivals_of same_value vs) id)
-led_scalar vs id v at = ap scalar_of (led_value vs id v at)
-
-pub few_arrivals : (vs : List Value) → length (arrivals_of same_value vs) ≤ length vs
-few_arrivals vs = length_arrivals same_laws same_exact vs
 
 -- ---- the least id of a value
 

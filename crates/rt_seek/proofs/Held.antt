@@ -11,7 +11,6 @@ use Rattle.rt_dict.specs.Values.{IsAscending}
 use Rattle.rt_dict.proofs.Ascending.{same_id}
 use Rattle.rt_schema.specs.declared.value.Value.{Value}
 use Rattle.rt_schema.specs.declared.value.Value.TheVariants as value
-use Rattle.rt_agg.specs.declared.scalar.Scalar.{Scalar}
 use Rattle.rt_agg.specs.Reading.{scalar_of}
 use Rattle.rt_model.specs.declared.query_parts.Comparison.TheVariants.{Equal, AtMost, AtLeast}
 use Rattle.rt_model.specs.declared.query_parts.Literal.{Literal}
@@ -76,9 +75,6 @@ no_scalar f none (x ∷ xs) (suc id) = no_scalar f none xs id
 
 pub value_is : {K : Type 0} (f : K → Value) (xs : List K) (id : ℕ) (x : K) → slice_get xs id ≡ Some x → f x ≡ item_at (map f xs) id
 value_is f xs id x at = sym (mapped_at f xs id (value.Bool false) x at)
-
-pub scalar_is : {K : Type 0} (f : K → Value) (s : K → Scalar) → ((x : K) → scalar_of (f x) ≡ Some (s x)) → (xs : List K) (id : ℕ) (x : K) → slice_get xs id ≡ Some x → Some (s x) ≡ scalar_of (item_at (map f xs) id)
-scalar_is f s is xs id x at = sym (is x) ∙ ap scalar_of (value_is f xs id x at)
 
 -- ---- the least id of a value
 

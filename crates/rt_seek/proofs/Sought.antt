@@ -26,7 +26,7 @@ use Rattle.rt_seek.specs.RowSets.{with_rows}
 use Rattle.rt_seek.specs.Sought.{value_sought}
 use Rattle.rt_seek.proofs.Keys.{bool_same, accepted_by, same_itself, same_is}
 use Rattle.rt_seek.proofs.Posted.{among, kept_below, kept_first, kept_later, length_with_rows, get_with_rows}
-use Rattle.rt_seek.proofs.Sets.{map_agree, map_map, or_false, length_either, get_or_either, either_assoc, either_maps, either_none, none_either}
+use Rattle.rt_seek.proofs.Sets.{map_agree, map_map, length_either, get_or_either, either_assoc, either_maps, either_none, none_either}
 
 -- a row is among those that pass where its value does
 module _ {X : Type 0} (t : X → Bool) where
@@ -123,7 +123,3 @@ module _ (xs : List Value) (rows : ℕ) (ls : List Literal) where
   pub found_end : (s : List Bool) (i : ℕ) → length s ≡ length (take rows xs) → length ls ≤ i → found_with i s ≡ all_found → s ≡ all_found
   found_end s i size past e =
       sym (ap (λ ms. either s (map (λ v. is_one_of v ms) (take rows xs))) (drop_all i ls past) ∙ either_none s (take rows xs) size) ∙ e
-
--- one literal is a list of one
-pub one_alone : (l : Literal) (vs : List Value) → map (λ v. is_one_of v (l ∷ [])) vs ≡ map (λ v. compares Equal v l) vs
-one_alone l vs = map_agree _ _ (λ v. or_false (compares Equal v l)) vs

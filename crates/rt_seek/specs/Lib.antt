@@ -3,6 +3,7 @@ pub mod Keys
 pub mod KeyLaws
 pub mod RowSets
 pub mod Table
+pub mod Scalars
 pub mod FileColumn
 pub mod ConsumingColumn
 pub mod Sought

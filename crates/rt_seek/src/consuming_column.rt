@@ -1,19 +1,22 @@
-ghost use Rattle.std.specs.Prelude.{◌≡◌, ℕ, ◌<◌, ◌≤◌, length, map, IfOk};
-ghost use Rattle.rt_agg.specs.declared.scalar.Scalar.TheVariants.{Int, Long, Time};
-ghost use Rattle.rt_agg.specs.Reading.{scalar_of};
+ghost use Rattle.std.specs.Prelude.{◌≡◌, ℕ, ◌<◌, ◌≤◌, All, length, map, IfOk};
+ghost use Rattle.rt_agg.specs.Paging.{fed};
 ghost use Rattle.rt_agg.specs.ValueRef.{value_lent};
 ghost use Rattle.rt_mutable.specs.Arrivals.{arrivals_of};
 ghost use Rattle.rt_mutable.specs.Column.{same_value, values_in};
 ghost use Rattle.rt_seek.specs.ColumnTest.{passes_test};
 ghost use Rattle.rt_seek.specs.ConsumingColumn.{first_values, arrival_of};
+ghost use Rattle.rt_seek.specs.Scalars.{led, scalar_on};
 ghost use Rattle.rt_seek.specs.Table.{item_at};
 
+use crate::arrived_scalars::{ArrivedInts, ArrivedLongs, ArrivedTimes, int_scalar, long_scalar};
 use crate::column_test::ColumnTest;
+use crate::held_scalars::time_scalar;
 use crate::row_sets::rows_with;
+use crate::scalars_by_id::feed_led;
 use crate::scan_column::ScanColumn;
 use crate::seeking::rows_sought;
 use crate::truths::truths_of_keys;
-use rt_agg::{Scalar, ValueRef};
+use rt_agg::{PlacedRow, TakeScalar, ValueRef, take_same};
 use rt_mutable::{ColumnValues, MutableColumn};
 use rt_postings::DocSet;
 use std::alloc::{AllocError, Global};
@@ -43,8 +46,8 @@ impl<'a> ScanColumn for ConsumingColumn<'a> {
         first_value(self.column, self.rows, row)
     }
 
-    fn scalar(&self, row: u32) -> Option<Scalar> {
-        first_scalar(self.column, self.rows, row)
+    fn feed<T: TakeScalar>(&self, page: &[PlacedRow], taker: &mut T) {
+        feed_first(self.column, self.rows, page, taker);
     }
 }
 
@@ -127,44 +130,44 @@ fn value_with(values: &ColumnValues, id: u32) -> ValueRef<'_>
     }
 }
 
-fn first_scalar(column: &MutableColumn, rows: u32, row: u32) -> Option<Scalar>
-    ensures { result ≡ scalar_of (item_at (first_values column.now rows) row) }
+// Hands on the whole numbers of the rows of a page, none past the first rows.
+fn feed_first<T: TakeScalar>(
+    column: &MutableColumn,
+    rows: u32,
+    page: &[PlacedRow],
+    taker: &mut T,
+)
+    ensures { taker.new ≡ fed T.takes (scalar_on (first_values column.now rows)) page.now taker.old }
 {
     let ids = column.ids();
-    if row < rows && (row as usize) < ids.len() {
-        scalar_with(column.values(), ids[row as usize])
-    } else {
-        None
-    }
+    let count = ids.len().min(rows as usize);
+    feed_arrived(column.values(), &ids[..count], page, taker);
 }
 
-fn scalar_with(values: &ColumnValues, id: u32) -> Option<Scalar>
-    requires { id < length (arrivals_of same_value (values_in values.now)) }
-    ensures { result ≡ scalar_of (item_at (arrivals_of same_value (values_in values.now)) id) }
+// Hands on the whole numbers of the rows of a page, by the kind of values.
+fn feed_arrived<T: TakeScalar>(
+    values: &ColumnValues,
+    ids: &[u32],
+    page: &[PlacedRow],
+    taker: &mut T,
+)
+    requires { All (λ id. id < length (arrivals_of same_value (values_in values.now))) ids.now }
+    ensures { taker.new ≡ fed T.takes (scalar_on (led (arrivals_of same_value (values_in values.now)) ids.now)) page.now taker.old }
 {
     match values {
-        ColumnValues::Int(arrivals) => Some(int_scalar(arrivals.key(id))),
-        ColumnValues::Long(arrivals) => Some(long_scalar(arrivals.key(id))),
-        ColumnValues::Text(_) => None,
-        ColumnValues::Bool(_) => None,
-        ColumnValues::Time(arrivals) => Some(time_scalar(arrivals.key(id))),
+        ColumnValues::Int(arrivals) => {
+            let keys = arrivals.keys();
+            feed_led(&ArrivedInts { keys }, ids, page, taker);
+        }
+        ColumnValues::Long(arrivals) => {
+            let keys = arrivals.keys();
+            feed_led(&ArrivedLongs { keys }, ids, page, taker);
+        }
+        ColumnValues::Text(_) => take_same(page, None, taker),
+        ColumnValues::Bool(_) => take_same(page, None, taker),
+        ColumnValues::Time(arrivals) => {
+            let keys = arrivals.keys();
+            feed_led(&ArrivedTimes { keys }, ids, page, taker);
+        }
     }
-}
-
-fn int_scalar(number: &i32) -> Scalar
-    ensures { result ≡ Int number.now }
-{
-    Scalar::Int(*number)
-}
-
-fn long_scalar(number: &i64) -> Scalar
-    ensures { result ≡ Long number.now }
-{
-    Scalar::Long(*number)
-}
-
-fn time_scalar(millis: &i64) -> Scalar
-    ensures { result ≡ Time millis.now }
-{
-    Scalar::Time(*millis)
 }

@@ -1,18 +1,20 @@
-ghost use Rattle.std.specs.Prelude.{◌≡◌, ℕ, ◌<◌, ◌≤◌, true, length, map, replicate, IfOk};
-ghost use Rattle.rt_agg.specs.declared.scalar.Scalar.TheVariants.{Time};
-ghost use Rattle.rt_agg.specs.Reading.{scalar_of};
+ghost use Rattle.std.specs.Prelude.{◌≡◌, ℕ, ◌<◌, ◌≤◌, All, true, length, map, replicate, IfOk};
+ghost use Rattle.rt_agg.specs.Paging.{fed};
 ghost use Rattle.rt_agg.specs.ValueRef.{value_lent};
 ghost use Rattle.rt_segment.specs.Column.{count_in, values_in, values_of};
 ghost use Rattle.rt_seek.specs.ColumnTest.{passes_test};
 ghost use Rattle.rt_seek.specs.FileColumn.{file_values, file_value_of};
+ghost use Rattle.rt_seek.specs.Scalars.{led, scalar_on};
 ghost use Rattle.rt_seek.specs.Table.{item_at};
 ghost use Rattle.rt_seek.specs.RowSets.{noted_id, truth_at};
 
 use crate::column_test::ColumnTest;
+use crate::held_scalars::{HeldInts, HeldLongs, HeldTimes, time_scalar};
 use crate::row_sets::{add_rows, all_rows, rows_with};
+use crate::scalars_by_id::feed_led;
 use crate::scan_column::ScanColumn;
 use crate::truths::truths_of;
-use rt_agg::{Scalar, ValueRef};
+use rt_agg::{PlacedRow, Scalar, TakeScalar, ValueRef, take_same};
 use rt_postings::DocSet;
 use rt_schema::Value;
 use rt_segment::{Dictionary, SegmentColumn};
@@ -52,10 +54,10 @@ impl<'a> ScanColumn for FileColumn<'a> {
         }
     }
 
-    fn scalar(&self, row: u32) -> Option<Scalar> {
+    fn feed<T: TakeScalar>(&self, page: &[PlacedRow], taker: &mut T) {
         match self {
-            FileColumn::Held(column) => held_scalar(column, row),
-            FileColumn::Missing { value, rows } => missing_scalar(value, *rows, row),
+            FileColumn::Held(column) => feed_held(column.dictionary(), column.ids(), page, taker),
+            FileColumn::Missing { value, rows } => feed_missing(value, *rows, page, taker),
         }
     }
 }
@@ -83,8 +85,16 @@ fn missing_rows(
     }
 }
 
+fn feed_missing<T: TakeScalar>(value: &Value, rows: u32, page: &[PlacedRow], taker: &mut T)
+    ensures { taker.new ≡ fed T.takes (scalar_on (replicate rows value.now)) page.now taker.old }
+{
+    for placed in page {
+        taker.take(placed.group, missing_scalar(value, rows, placed.row));
+    }
+}
+
 fn missing_scalar(value: &Value, rows: u32, row: u32) -> Option<Scalar>
-    ensures { result ≡ scalar_of (item_at (replicate rows value.now) row) }
+    ensures { result ≡ scalar_on (replicate rows value.now) row }
 {
     if row < rows { Scalar::of(value) } else { None }
 }
@@ -109,34 +119,23 @@ fn value_with(dictionary: &Dictionary, id: u32) -> ValueRef<'_>
     }
 }
 
-fn held_scalar(column: &SegmentColumn, row: u32) -> Option<Scalar>
-    ensures { result ≡ scalar_of (item_at (values_of column.now) row) }
-{
-    let ids = column.ids();
-    if (row as usize) < ids.len() {
-        scalar_with(column.dictionary(), ids[row as usize])
-    } else {
-        None
-    }
-}
-
-fn scalar_with(dictionary: &Dictionary, id: u32) -> Option<Scalar>
-    requires { id < count_in dictionary.now }
-    ensures { result ≡ scalar_of (item_at (values_in dictionary.now) id) }
+// Hands on the whole numbers of the rows of a page, by the kind of a dictionary.
+fn feed_held<T: TakeScalar>(
+    dictionary: &Dictionary,
+    ids: &[u32],
+    page: &[PlacedRow],
+    taker: &mut T,
+)
+    requires { All (λ id. id < count_in dictionary.now) ids.now }
+    ensures { taker.new ≡ fed T.takes (scalar_on (led (values_in dictionary.now) ids.now)) page.now taker.old }
 {
     match dictionary {
-        Dictionary::Int(dict) => Some(Scalar::Int(*dict.value(id))),
-        Dictionary::Long(dict) => Some(Scalar::Long(*dict.value(id))),
-        Dictionary::Text(_) => None,
-        Dictionary::Bool(_) => None,
-        Dictionary::Time(dict) => Some(time_scalar(dict.value(id))),
+        Dictionary::Int(dict) => feed_led(&HeldInts { dict }, ids, page, taker),
+        Dictionary::Long(dict) => feed_led(&HeldLongs { dict }, ids, page, taker),
+        Dictionary::Text(_) => take_same(page, None, taker),
+        Dictionary::Bool(_) => take_same(page, None, taker),
+        Dictionary::Time(dict) => feed_led(&HeldTimes { dict }, ids, page, taker),
     }
-}
-
-fn time_scalar(millis: &i64) -> Scalar
-    ensures { result ≡ Time millis.now }
-{
-    Scalar::Time(*millis)
 }
 
 // Which rows of a column pass a test.

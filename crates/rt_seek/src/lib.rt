@@ -1,14 +1,18 @@
-//! Columns of rows that are scanned: which rows of one have a value that passes a test.
+//! Columns of rows that are scanned: which rows of one have a value that passes a test, and what numbers rows have in one.
 //!
-//! A test is evaluated once for each distinct value of the column, and the ids that pass give the set of rows.
+//! A test is evaluated once for each distinct value of the column, and the ids that pass give the set of rows. The kind of a
+//! column's values is asked for once for each page of rows.
 #![tactic(auto)]
 
+mod arrived_scalars;
 mod column_test;
 mod comparable;
 mod consuming_column;
 mod file_column;
+mod held_scalars;
 mod key_test;
 mod row_sets;
+mod scalars_by_id;
 mod scan_column;
 mod seeking;
 mod truths;

@@ -1,12 +1,13 @@
 ghost use Rattle.std.specs.Prelude.{◌≡◌, ℕ, ◌<◌, ◌≤◌, List, length, map, IfOk};
 ghost use Rattle.rt_schema.specs.declared.value.Value.{Value as AnyValue};
-ghost use Rattle.rt_agg.specs.Reading.{scalar_of};
+ghost use Rattle.rt_agg.specs.Paging.{fed};
 ghost use Rattle.rt_agg.specs.ValueRef.{value_lent};
 ghost use Rattle.rt_seek.specs.ColumnTest.{passes_test};
+ghost use Rattle.rt_seek.specs.Scalars.{scalar_on};
 ghost use Rattle.rt_seek.specs.Table.{item_at};
 
 use crate::column_test::ColumnTest;
-use rt_agg::{Scalar, ValueRef};
+use rt_agg::{PlacedRow, TakeScalar, ValueRef};
 use rt_postings::DocSet;
 use std::alloc::{AllocError, Global};
 
@@ -33,7 +34,7 @@ pub trait ScanColumn {
         requires { row < length (values self.now) }
         ensures { value_lent result ≡ item_at (values self.now) row };
 
-    /// A row's value, where it is a whole number; none past the last row.
-    fn scalar(&self, row: u32) -> Option<Scalar>
-        ensures { result ≡ scalar_of (item_at (values self.now) row) };
+    /// Hands on the whole numbers of the rows of a page, one after the other: none where a value isn't one, or past the last row.
+    fn feed<T: TakeScalar>(&self, page: &[PlacedRow], taker: &mut T)
+        ensures { taker.new ≡ fed T.takes (scalar_on (values self.now)) page.now taker.old };
 }

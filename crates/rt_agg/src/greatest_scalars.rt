@@ -1,0 +1,69 @@
+ghost use Rattle.std.specs.Prelude.{[], ◌≡◌, ◌≤◌, None as Nothing, length, slice_index_or, OnOk, OnErr};
+ghost use Rattle.rt_agg.specs.Accumulators.{greatest_with};
+ghost use Rattle.rt_agg.specs.ResultHolder.{join_at, put_at};
+
+use crate::placing::put;
+use crate::ranging::{join_greater, scalar_at, take_greater};
+use crate::{Scalar, TakeScalar};
+use rt_lists::Items;
+use std::alloc::{AllocError, Global};
+use std::marker::Model;
+
+/// The greatest scalars of groups, by their numbers.
+#[derive(Drop)]
+pub(crate) struct GreatestScalars {
+    scalars: Items<Option<Scalar>>,
+}
+
+impl Model for GreatestScalars {
+    ghost use Rattle.std.specs.Prelude.{List, Option};
+    ghost use Rattle.rt_agg.specs.declared.scalar.Scalar.{Scalar as AnyScalar};
+
+    ghost Value = { List (Option AnyScalar) };
+
+    ghost view = { λ a. a.scalars };
+}
+
+impl GreatestScalars {
+    /// The scalar of no group.
+    pub(crate) fn new(alloc: Global) -> GreatestScalars
+        ensures { result ≡ [] }
+    {
+        GreatestScalars {
+            scalars: Items::new(alloc),
+        }
+    }
+
+    /// Starts a group that has no row: that of the next number, or one that was started before.
+    pub(crate) fn start(&mut self, group: usize) -> Result<(), AllocError>
+        requires { group ≤ length self.old }
+        ensures ok { OnOk result (self.new ≡ put_at group Nothing self.old) }
+        ensures err { OnErr result (self.new ≡ self.old) }
+    {
+        put(&mut self.scalars, group, None)
+    }
+
+    /// The scalar of a group, where it has one.
+    pub(crate) fn scalar(&self, group: usize) -> Option<Scalar>
+        ensures { result ≡ slice_index_or self.now group Nothing }
+    {
+        scalar_at(&self.scalars, group)
+    }
+
+    /// Keeps the greater of a group's scalar and that of a group of others.
+    pub(crate) fn join(&mut self, group: usize, others: &GreatestScalars, from: usize)
+        ensures { self.new ≡ join_at greatest_with Nothing group self.old from others.now }
+    {
+        join_greater(&mut self.scalars, group, &others.scalars, from);
+    }
+}
+
+impl TakeScalar for GreatestScalars {
+    ghost use Rattle.rt_agg.specs.ResultHolder.{greater_at};
+
+    ghost takes = { greater_at };
+
+    fn take(&mut self, group: usize, scalar: Option<Scalar>) {
+        take_greater(&mut self.scalars, group, scalar);
+    }
+}
