@@ -1,4 +1,3 @@
-pub mod ColumnRows
 pub mod Filters
 pub mod Noted
 pub mod Leading

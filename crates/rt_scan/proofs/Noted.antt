@@ -67,8 +67,3 @@ last_at k v e es false t none rest = ap (λ xs. e ∷ xs) rest
 pub inserted : (k : List ℕ) (v : ℕ) (es : List (List ℕ × ℕ)) → IsAbsent es k → insert_entry (pointwise nat_eq) es k v ≡ es ++ (k, v) ∷ []
 inserted k v [] none = refl
 inserted k v (e ∷ es) none = last_at k v e es (pointwise nat_eq k e.0) refl none (inserted k v es (λ index at. none index (later e es (k, index) at)))
-
--- what holds in any case holds at an Ok
-pub on_ok_always : {T E P : Type 0} (result : Result T E) → P → OnOk result P
-on_ok_always (Ok x) p = p
-on_ok_always (Err e) p = tt

@@ -4,7 +4,8 @@ use Rattle.rt_postings.specs.DocSet.{IsNextFrom}
 use Rattle.rt_model.specs.Aggregate.{key_of}
 use Rattle.rt_model.specs.declared.query_parts.ColumnAt.{ColumnAt}
 use Rattle.rt_model.specs.Match.{passes}
-use Rattle.rt_agg.specs.Grouped.{AwaitsOne, Holds, keys_in_order}
+use Rattle.rt_agg.specs.declared.placed_row.PlacedRow.{PlacedRow}
+use Rattle.rt_agg.specs.Grouped.{AddsPage, AwaitsOne, Holds, keys_in_order}
 use Rattle.rt_seek.specs.Table.{row_at, rows_by}
 use Rattle.rt_scan.specs.Grouping.{HoldsOrAwaits, Leads}
 use Rattle.rt_scan.proofs.Filters.{length_rows}
@@ -15,7 +16,8 @@ use Rattle.rt_scan.proofs.grouping.groups_of.Goals as goal
 
 pub loop-row-init : goal.loop-row-init
 loop-row-init g c = record {
-  listed = none_listed c.args.query.now (row_at g.C.ScanColumn.values c.args.columns.now) c.in_ok-groups.groups (c.in_ok-groups.ensures {u = tt});
+  listed = subst (λ (page : List PlacedRow). HoldsOrAwaits c.args.query.now (row_at g.C.ScanColumn.values c.args.columns.now) [] page c.in_ok-groups.groups) (sym c.new-page.ensures.items)
+      (none_listed c.args.query.now (row_at g.C.ScanColumn.values c.args.columns.now) c.in_ok-groups.groups (c.in_ok-groups.ensures {u = tt}));
   met = leads_none g.C.ScanColumn.values g.C.ScanColumn.value_of c.args.columns.now c.args.query.now c.in_ok-groups.groups c.new-met.result (c.in_ok-groups.ensures {u = tt}) c.new-met.ensures;
   within = omega arith;
 }
@@ -60,4 +62,5 @@ returns g c =
     let rows = rows_by g.C.ScanColumn.values c.args.columns.now n in
     subst (λ rs. Holds query rs c.add_page.new.self)
     (all_taken (passes query.filter) rows (row_at g.C.ScanColumn.values c.args.columns.now 0) c.args.set.now c.loop-row.from c.requires.taken (omega (arith, c.loop-row.invariant.within, length_rows g.C.ScanColumn.values c.args.columns.now n)) c.in_default.ensures.none)
-    (page_held query (row_at g.C.ScanColumn.values c.args.columns.now) _ c.loop-row.page.items c.loop-row.groups c.add_page.new.self c.loop-row.invariant.listed c.add_page.ensures.adds)
+    (page_held query (row_at g.C.ScanColumn.values c.args.columns.now) _ c.loop-row.page.items c.loop-row.groups c.add_page.new.self c.loop-row.invariant.listed
+    (subst (λ (page : List PlacedRow). AddsPage (row_at g.C.ScanColumn.values c.args.columns.now) page c.loop-row.groups c.add_page.new.self) c.deref.ensures.value c.add_page.ensures.adds))

@@ -23,3 +23,10 @@ start-requires g c there =
     (subst (λ (key : List Value). Contains (keys_in_order c.args.groups.now) key)
     (c.in_ok-key-in-None.ensures {u = tt} ∙ ap (λ v. v ∷ []) c.value_in.ensures ∙ ap (λ v. v ∷ []) (sym c.id_in-id.ensures.value)) there)
     c.in-None.ensures.none
+
+pub returns-in_ok-note_one-in-None-clause-met : goal.returns-in_ok-note_one-in-None-clause-met
+returns-in_ok-note_one-in-None-clause-met g c =
+    leads_one g.C.ScanColumn.values g.C.ScanColumn.value_of c.args.columns.now (c.args.by.now ∷ []) c.args.groups.now c.start.new.self c.args.met.now c.note_one.new.self
+    c.requires.met c.in_ok-key-in-None.key c.in_ok-index-in-None.ensures.keys c.in_ok-index-in-None.index c.in_ok-index-in-None.ensures.index c.id_in-id.result refl
+    (ap (λ v. v ∷ []) c.id_in-id.ensures.value ∙ sym (c.in_ok-key-in-None.ensures {u = tt} ∙ ap (λ v. v ∷ []) c.value_in.ensures))
+    (c.id_in-id.ensures.least, tt) c.in_ok-note_one-in-None.ensures.noted c.note_one.ensures.same

@@ -27,3 +27,13 @@ start-requires g c there =
 
 pub note-requires : goal.note-requires
 note-requires g c = subst (IsAbsent c.args.met.now.by_ids) (sym (c.in_ok-copy_of-in-None.ensures {u = tt})) c.in-None.ensures.none
+
+pub returns-in_ok-note-in-None-clause-met : goal.returns-in_ok-note-in-None-clause-met
+returns-in_ok-note-in-None-clause-met g c =
+    let copied = c.in_ok-copy_of-in-None.ensures {u = tt} in
+    leads_more g.C.ScanColumn.values g.C.ScanColumn.value_of c.args.columns.now c.args.by.now c.args.groups.now c.start.new.self c.args.met.now c.note.new.self
+    c.requires.met c.of.result c.in_ok-index-in-None.ensures.keys c.in_ok-index-in-None.index c.in_ok-index-in-None.ensures.index
+    c.in_ok-copy_of-in-None.field-0 c.requires.several
+    (ap (key_by g.C.ScanColumn.value_of c.args.columns.now c.args.by.now) copied ∙ c.in_ok-read_ids.ensures.key ∙ sym (c.of.ensures ∙ c.in_ok-values-in-None.ensures {u = tt}))
+    (subst (λ (ids : List ℕ). AreLeast g.C.ScanColumn.value_of c.args.columns.now c.args.by.now ids) (sym copied) c.in_ok-read_ids.ensures.least)
+    (c.in_ok-note-in-None.ensures {u = tt})
