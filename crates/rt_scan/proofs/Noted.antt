@@ -1,6 +1,6 @@
 -- Ids and the indices noted for them.
 use Rattle.std.proofs.Common.{◌≡◌, ℕ, zero, suc, ◌<◌, Bool, true, false, cond, List, [], ◌∷◌, ◌++◌, length, get_or, slice_get, Option, None, Some, refl, ap, sym, subst, ◌∙◌, inl, inr, arith}
-use Rattle.std.specs.Prelude.{◌⊎◌, nat_eq, is_some, unwrap_or, Result, Ok, Err, OnOk}
+use Rattle.std.specs.Prelude.{◌⊎◌, nat_eq, is_some, unwrap_or}
 use Rattle.std.specs.List.{Contains}
 use Rattle.std.specs.Map.{lookup_key}
 use lib.Pointwise.{pointwise}

@@ -131,12 +131,7 @@ fn value_with(values: &ColumnValues, id: u32) -> ValueRef<'_>
 }
 
 // Hands on the whole numbers of the rows of a page, none past the first rows.
-fn feed_first<T: TakeScalar>(
-    column: &MutableColumn,
-    rows: u32,
-    page: &[PlacedRow],
-    taker: &mut T,
-)
+fn feed_first<T: TakeScalar>(column: &MutableColumn, rows: u32, page: &[PlacedRow], taker: &mut T)
     ensures { taker.new ≡ fed T.takes (scalar_on (first_values column.now rows)) page.now taker.old }
 {
     let ids = column.ids();

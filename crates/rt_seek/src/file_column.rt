@@ -120,12 +120,7 @@ fn value_with(dictionary: &Dictionary, id: u32) -> ValueRef<'_>
 }
 
 // Hands on the whole numbers of the rows of a page, by the kind of a dictionary.
-fn feed_held<T: TakeScalar>(
-    dictionary: &Dictionary,
-    ids: &[u32],
-    page: &[PlacedRow],
-    taker: &mut T,
-)
+fn feed_held<T: TakeScalar>(dictionary: &Dictionary, ids: &[u32], page: &[PlacedRow], taker: &mut T)
     requires { All (λ id. id < count_in dictionary.now) ids.now }
     ensures { taker.new ≡ fed T.takes (scalar_on (led (values_in dictionary.now) ids.now)) page.now taker.old }
 {

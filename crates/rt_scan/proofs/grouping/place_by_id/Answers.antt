@@ -2,10 +2,10 @@ use Rattle.std.proofs.Common.{List, [], ◌∷◌, ◌∙◌, Some, ap, refl, sy
 use Rattle.std.specs.List.{Contains}
 use Rattle.rt_schema.specs.declared.value.Value.{Value}
 use Rattle.rt_model.specs.Aggregate.{key_of}
-use Rattle.rt_agg.specs.Grouped.{AwaitsOne, keys_in_order}
+use Rattle.rt_agg.specs.Grouped.{keys_in_order}
 use Rattle.rt_agg.proofs.Awaiting.{awaits_one_there}
 use Rattle.rt_seek.specs.Table.{row_at}
-use Rattle.rt_scan.proofs.Leading.{leads_one, more_stay}
+use Rattle.rt_scan.proofs.Leading.{leads_one}
 use Rattle.rt_scan.proofs.grouping.place_by_id.Goals as goal
 
 pub returns-in-Some-clause-awaits : goal.returns-in-Some-clause-awaits

@@ -2,12 +2,12 @@ use Rattle.std.proofs.Common.{List, ℕ, ◌∙◌, ap, sym, subst, Some}
 use Rattle.std.specs.List.{Contains}
 use Rattle.rt_schema.specs.declared.value.Value.{Value}
 use Rattle.rt_model.specs.Aggregate.{key_of}
-use Rattle.rt_agg.specs.Grouped.{AwaitsOne, keys_in_order}
+use Rattle.rt_agg.specs.Grouped.{keys_in_order}
 use Rattle.rt_agg.proofs.Awaiting.{awaits_one_there}
 use Rattle.rt_seek.specs.Table.{row_at}
 use Rattle.rt_scan.specs.GroupIds.{IsAbsent}
 use Rattle.rt_scan.specs.Grouping.{AreLeast, key_by}
-use Rattle.rt_scan.proofs.Leading.{leads_more, more_stay}
+use Rattle.rt_scan.proofs.Leading.{leads_more}
 use Rattle.rt_scan.proofs.grouping.place_by_ids.Goals as goal
 
 pub returns-in-Some-clause-awaits : goal.returns-in-Some-clause-awaits
