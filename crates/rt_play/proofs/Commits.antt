@@ -29,7 +29,7 @@ use Rattle.rt_play.proofs.Keeping.{Keeps, choose_keeps, each_from_keeps, passed_
 use Rattle.rt_play.proofs.Known.{IsKnown, known_committed}
 use Rattle.rt_play.proofs.Leading.{leads_then}
 use Rattle.rt_play.proofs.LineReads.{beside, same_told, was_then}
-use Rattle.rt_play.proofs.Noted.{Holds, WasCommitted, job_kept, stays_and_more, stays_with_jobs}
+use Rattle.rt_play.proofs.Noted.{Holds, WasCommitted, job_kept, lie_below, stays_and_more, stays_with_jobs}
 use Rattle.rt_play.proofs.NotedAnswers.{names_so}
 use Rattle.rt_play.proofs.QueryLines.{query_answer}
 use Rattle.rt_play.proofs.Ranged.{AreRanged, are_ranged, range_in}
@@ -241,6 +241,7 @@ module _ (setup : Setup) (is : IsSetup setup) (ranges : Ranges) where
         now = here;
         rise = low;
         first = λ p lt none. mark_stays setup before g.world p is none started (within p lt);
+        below = lie_below ranges g.world notes safe k;
         so =
             subst (λ (o : Option Line). LineTells setup ranges here notes o run.text later) said
             (subst (λ (s : Setup). LineTells s ranges here notes (said_at g first) run.text later) same told);
@@ -248,7 +249,7 @@ module _ (setup : Setup) (is : IsSetup setup) (ranges : Ranges) where
 
 -- nothing was noted before the first line
 none_noted : (ranges : Ranges) (w : State) → Holds ranges w no_notes
-none_noted ranges w = record { requests = λ x has. absurd has; jobs = λ x has. absurd has; committed = λ s has. absurd has }
+none_noted ranges w = record { requests = λ x has. absurd has; jobs = λ x has. absurd has; committed = λ s has. absurd has; deleted = λ s has. absurd has }
 
 pub front_commits : (beginning : Beginning) (lines : List NumberedLine) (texts : List (List ℕ)) → IsSetup beginning.setup → FrontRuns lines (going_from beginning) texts
     → CommitsStay beginning.setup lines texts

@@ -28,7 +28,7 @@ use Rattle.rt_model.proofs.Histories.{value_of-last}
 use Rattle.rt_model.proofs.Kept.{last_write-Has}
 use Rattle.rt_model.specs.History.{value_of}
 use Rattle.rt_model.specs.Messages.{asked_of}
-use Rattle.rt_model.specs.Metadata.{IsDone, IsDoneStatus, IsFinal, IsFinalStatus, node_key}
+use Rattle.rt_model.specs.Metadata.{IsDeleted, IsDone, IsDoneStatus, IsFinal, IsFinalStatus, node_key}
 use Rattle.rt_model.specs.Tiled.{mark_of}
 use Rattle.rt_model.specs.declared.node.Node.{Node}
 use Rattle.rt_model.specs.declared.node.Node.TheVariants as node
@@ -45,13 +45,16 @@ use Rattle.rt_model.specs.declared.setup.Setup.{Setup}
 use Rattle.rt_model.specs.declared.status.Status.{Status}
 use Rattle.rt_model.specs.declared.status.Status.TheVariants.{Abandoned, Done, InProgress}
 use Rattle.rt_nodes.specs.declared.controller_node.ControllerNode.{ControllerNode}
+use Rattle.rt_play.proofs.Deleted.{was_deleted}
 use Rattle.rt_play.proofs.JobLines.{IsDoneTo, goes_on, sets_done, succeeds}
 use Rattle.rt_play.proofs.Known.{IsKnown, known_committed, taken_knows}
-use Rattle.rt_play.proofs.Noted.{Holds, IsAtWork, IsPosted, WasCommitted, committed_stays, its_range, job_stays, posted_stays, stands_from, stays_and_more, stays_but_jobs, stays_with_jobs, still_works}
+use Rattle.rt_play.proofs.Noted.{Holds, IsAtWork, IsPosted, WasCommitted, committed_stays, deleted_stays, its_range, job_stays, posted_stays, stands_from, stays_and_deleted, stays_and_more, stays_but_jobs, stays_with_jobs, still_works}
 use Rattle.rt_play.proofs.Ranged.{AreRanged, node_range}
 use Rattle.rt_play.proofs.Retired.{gone_below, there_above}
 use Rattle.rt_play.proofs.ShownStays.{node_of, stays_or_gone}
-use Rattle.rt_play.specs.Ledger.{IsDoneOver, Notes, Posted, Ranges, SaysDone, Segment, ShowsDone, StandFrom, TellsSo, Working, event_noted, is_commit_end, is_done_node, is_done_status, is_done_step, is_job, is_success, is_success_status, knows_commit, left_open, opens, segments_of, sent_noted, shows_done, shown_noted, started_noted, stepped_noted, tells_commit, took_noted}
+use Rattle.rt_play.specs.Ledger.{IsDoneOver, Notes, Posted, Ranges, SaysDone, Segment, ShowsDone, StandFrom, TellsSo, Working, event_noted, is_commit_end, is_done_node, is_done_status, is_done_step, is_job, is_success, is_success_status, knows_commit, left_open, opens, retired_noted, segments_of, sent_noted, shows_done, shown_noted, started_noted, stepped_noted, tells_commit, took_noted}
+use Rattle.rt_repair.specs.declared.retiring.RetireStep.{RetireStep}
+use Rattle.rt_repair.specs.declared.retiring.RetireStep.TheVariants as step
 use Rattle.rt_safety.proofs.CommitOpens.{commit_opens}
 use Rattle.rt_safety.proofs.Runs.{leads_safe}
 use Rattle.rt_safety.specs.CommitRun.{IsOpen}
@@ -173,6 +176,7 @@ module _ (ranges : Ranges) (w v : State) (notes : Notes) (safe : IsSafeWorld w) 
         requests = by_kind its (is_commit_end its.request.kind) refl;
         jobs = jobs;
         committed = λ s has. committed_stays ranges w v s goes (k.committed s has);
+        deleted = λ s has. deleted_stays w v s goes (k.deleted s has);
       })
     where
       -- what was noted before
@@ -453,6 +457,24 @@ module _ (ranges : Ranges) (w v : State) (notes : Notes) (safe : IsSafeWorld w) 
             stays_and_more ranges v notes (record { partition = p; sequence = q } ∷ []) holds
             (λ s has. ⊎_elim (λ same. subst (WasCommitted ranges v) same (shown_done p q (node_of w p q) in_cluster refl e)) (λ none. absurd none) has)
 
+  -- ---- a segment that is deleted
+
+  retain_noted : (c : ControllerId) (p : Partition) (o : Outcome) → Steps w (event.Retain c p) v (Ok o) → ((x : Working) → Has notes.jobs x → IsAtWork w x → IsAtWork v x)
+      → Holds ranges v (retired_noted p o notes)
+  retain_noted c p o steps jobs = by_told o (λ q is. was_deleted w v c p o q safe steps is)
+    where
+      stays : Holds ranges v notes
+      stays = stays_with_jobs ranges w v notes goes jobs k
+
+      by_step : (x : RetireStep) → ((q : Sequence) → came.Retired x ≡ came.Retired (step.Deleted q) → IsDeleted v.store.writes p q.0)
+          → Holds ranges v (retired_noted p (came.Retired x) notes)
+      by_step (step.Deleted q) gone = stays_and_deleted ranges v notes (record { partition = p; sequence = q }) stays (gone q refl)
+      by_step other gone = stays
+
+      by_told : (x : Outcome) → ((q : Sequence) → x ≡ came.Retired (step.Deleted q) → IsDeleted v.store.writes p q.0) → Holds ranges v (retired_noted p x notes)
+      by_told (came.Retired x) gone = by_step x gone
+      by_told other gone = stays
+
   -- ---- any event
 
   crash_noted : (c : ControllerId) (o : Outcome) → Steps w (event.CrashController c) v (Ok o)
@@ -478,6 +500,8 @@ module _ (ranges : Ranges) (w v : State) (notes : Notes) (safe : IsSafeWorld w) 
   noted (event.CrashController c) o fits steps = crash_noted c o steps
   noted (event.ShowMeta p q) o fits steps =
       show_noted p q o steps (λ x has. job_stays w v x (event.ShowMeta p q) o safe goes fits steps refl (λ e. cc) (k.jobs x has))
+  noted (event.Retain c p) o fits steps =
+      retain_noted c p o steps (λ x has at. job_stays w v x (event.Retain c p) o safe goes fits steps refl (λ f. cc) at)
   noted e o fits steps =
       stays_with_jobs ranges w v notes goes (λ x has at. job_stays w v x e o safe goes fits steps refl (λ f. cc) at) k
 

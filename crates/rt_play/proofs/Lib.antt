@@ -8,6 +8,7 @@ pub mod ComingReports
 pub mod Commits
 pub mod Completes
 pub mod Covered
+pub mod Deleted
 pub mod EventNotes
 pub mod ExchangeLines
 pub mod Gathered

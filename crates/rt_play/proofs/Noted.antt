@@ -10,7 +10,7 @@ use Rattle.rt_base.specs.declared.numbers.Partition.{Partition}
 use Rattle.rt_base.specs.declared.numbers.Sequence.{Sequence}
 use Rattle.rt_model.specs.History.{value_of}
 use Rattle.rt_model.specs.Messages.{asked_of}
-use Rattle.rt_model.specs.Metadata.{node_key}
+use Rattle.rt_model.specs.Metadata.{IsDeleted, node_key}
 use Rattle.rt_model.specs.Tiled.{done_range, mark_of}
 use Rattle.rt_model.specs.declared.node.Seen.{Seen}
 use Rattle.rt_model.specs.declared.request.Request.{Request}
@@ -19,8 +19,8 @@ use Rattle.rt_model.specs.declared.sent.Sent.{Sent}
 use Rattle.rt_model.specs.declared.setup.Setup.{Setup}
 use Rattle.rt_nodes.specs.declared.controller_node.ControllerNode.{ControllerNode}
 use Rattle.rt_play.proofs.Ranged.{node_range}
-use Rattle.rt_play.proofs.Retired.{there_above}
-use Rattle.rt_play.specs.Ledger.{Notes, Posted, Ranges, SaysDone, Segment, StandFrom, Working}
+use Rattle.rt_play.proofs.Retired.{deleted_gone, gone_below, there_above}
+use Rattle.rt_play.specs.Ledger.{AreBelow, Notes, Posted, Ranges, SaysDone, Segment, StandFrom, Working}
 use Rattle.rt_safety.proofs.CommitRuns.{commit_runs}
 use Rattle.rt_safety.specs.CommitRun.{IsOpen, is_crash, job_in}
 use Rattle.rt_safety.specs.GoesOn.{GoesOn}
@@ -59,10 +59,15 @@ pub record WasCommitted (ranges : Ranges) (w : State) (s : Segment) : Type 0 whe
   pub of : write.key ≡ node_key s.partition s.sequence.0
   pub done : SaysDone (ranges s.partition s.sequence) write.node
 
+-- a segment was deleted
+abbrev pub WasDeleted : State → Segment → Type 0
+WasDeleted w s = IsDeleted w.store.writes s.partition s.sequence.0
+
 pub record Holds (ranges : Ranges) (w : State) (notes : Notes) : Type 0 where
   pub requests : (x : Posted) → Has notes.requests x → IsPosted w x
   pub jobs : (x : Working) → Has notes.jobs x → IsAtWork w x
   pub committed : (s : Segment) → Has notes.committed s → WasCommitted ranges w s
+  pub deleted : (s : Segment) → Has notes.deleted s → WasDeleted w s
 
 -- ---- in a later world
 
@@ -93,6 +98,9 @@ committed_stays ranges w v s goes k = record {
   of = k.of;
   done = k.done;
 }
+
+pub deleted_stays : (w v : State) (s : Segment) → GoesOn w v → WasDeleted w s → WasDeleted v s
+deleted_stays w v s goes d = (d.0, Has-front w.store.writes v.store.writes d.0 goes.past.history d.1, d.2, d.3)
 
 -- a job that goes on, with so many steps left
 pub still_works : (w v : State) (x : Working) (left : ℕ) → GoesOn w v → (k : IsAtWork w x) → IsOpen v x.controller x.job (asked_of k.request) k.request.offset left
@@ -139,6 +147,7 @@ stays_but_jobs ranges w v notes jobs goes k at = record {
   requests = λ x has. posted_stays w v x goes (k.requests x has);
   jobs = at;
   committed = λ s has. committed_stays ranges w v s goes (k.committed s has);
+  deleted = λ s has. deleted_stays w v s goes (k.deleted s has);
 }
 
 pub stays_with_jobs : (ranges : Ranges) (w v : State) (notes : Notes) → GoesOn w v → ((x : Working) → Has notes.jobs x → IsAtWork w x → IsAtWork v x)
@@ -152,6 +161,17 @@ stays_and_more ranges w notes more k new = record {
   requests = k.requests;
   jobs = k.jobs;
   committed = λ s has. ⊎_elim (new s) (k.committed s) (Has-append_cases more notes.committed s has);
+  deleted = k.deleted;
+}
+
+-- one more was deleted
+pub stays_and_deleted : (ranges : Ranges) (w : State) (notes : Notes) (s : Segment) → Holds ranges w notes → WasDeleted w s
+    → Holds ranges w (record notes { deleted = s ∷ notes.deleted })
+stays_and_deleted ranges w notes s k d = record {
+  requests = k.requests;
+  jobs = k.jobs;
+  committed = k.committed;
+  deleted = λ x has. ⊎_elim (λ (same : s ≡ x). subst (WasDeleted w) same d) (k.deleted x) has;
 }
 
 -- ---- where segments stand that were committed
@@ -168,3 +188,11 @@ stands_from ranges w notes p q seen safe k there s has same le =
     subst (λ (x : Partition). mark_of w.store.writes x ≤ (ranges s.partition s.sequence).start.0) same
     (there_above (starting_of w.setup) w.store.writes s.partition safe.safe.past.lawful c.within q.0 s.sequence.0 seen c.write (ranges s.partition s.sequence)
     (subst (λ (x : Partition). value_of w.store.writes (node_key x q.0) ≡ Some seen) (sym same) there) le c.has c.of (its_range ranges w s c))
+
+-- what was committed and deleted lies below the mark
+pub lie_below : (ranges : Ranges) (w : State) (notes : Notes) → IsSafeWorld w → Holds ranges w notes → AreBelow ranges (mark_of w.store.writes) notes
+lie_below ranges w notes safe k s gone has =
+    let c = k.committed s has in
+    gone_below (starting_of w.setup) w.store.writes s.partition safe.safe.past.lawful c.within s.sequence.0 c.write (ranges s.partition s.sequence)
+    (deleted_gone (starting_of w.setup) w.store.writes s.partition safe.safe.past.lawful c.within s.sequence.0 (k.deleted s gone)) c.has c.of
+    (its_range ranges w s c)

@@ -9,9 +9,9 @@ use Rattle.rt_base.specs.declared.numbers.Sequence.{Sequence}
 use Rattle.rt_base.specs.declared.range.Range.{Range}
 use Rattle.rt_events.specs.declared.event.Event.{Event}
 use Rattle.rt_events.specs.declared.event.Event.TheVariants as event
-use Rattle.rt_events.specs.declared.event.Event.TheVariants.{Consume, CrashController, Deliver, Job, Report, ShowMeta}
+use Rattle.rt_events.specs.declared.event.Event.TheVariants.{Consume, CrashController, Deliver, Job, Report, Retain, ShowMeta}
 use Rattle.rt_events.specs.declared.outcome.Outcome.{Outcome}
-use Rattle.rt_events.specs.declared.outcome.Outcome.TheVariants.{Sent, Shown, Started, Stepped, Took}
+use Rattle.rt_events.specs.declared.outcome.Outcome.TheVariants.{Retired, Sent, Shown, Started, Stepped, Took}
 use Rattle.rt_lines.specs.Header.{NumberedLine}
 use Rattle.rt_lists.specs.Members.{Has}
 use Rattle.rt_model.specs.declared.answer.Answer.{Answer}
@@ -34,6 +34,7 @@ use Rattle.rt_model.specs.declared.setup.Setup.{Setup}
 use Rattle.rt_model.specs.declared.status.Status.{Status}
 use Rattle.rt_model.specs.declared.status.Status.TheVariants.{Abandoned, Done, InProgress}
 use Rattle.rt_play.specs.Named.{Each, Spares, ranges_at, span}
+use Rattle.rt_repair.specs.declared.retiring.RetireStep.TheVariants.{Deleted}
 use Rattle.rt_report.specs.BrokerTexts.{answer_line}
 use Rattle.rt_report.specs.MacroTexts.{exchanged_text}
 use Rattle.rt_report.specs.Outcome.{outcome_text}
@@ -61,14 +62,15 @@ pub record Working : Type 0 where
   pub segment : Segment
   pub end : Offset
 
--- the commitEnds that were told, the commit jobs that go on for them, and the segments that were told to be committed
+-- the commitEnds that were told, the commit jobs that go on for them, and the segments that were told to be committed, and to be deleted
 pub record Notes : Type 0 where
   pub requests : List Posted
   pub jobs : List Working
   pub committed : List Segment
+  pub deleted : List Segment
 
 abbrev pub no_notes : Notes
-no_notes = record { requests = []; jobs = []; committed = [] }
+no_notes = record { requests = []; jobs = []; committed = []; deleted = [] }
 
 abbrev pub is_commit_end : RequestKind → Bool
 is_commit_end (CommitEnd path) = true
@@ -179,8 +181,13 @@ shown_noted partition sequence (Shown seen) notes =
     }
 shown_noted partition sequence other notes = notes
 
+abbrev pub retired_noted : Partition → Outcome → Notes → Notes
+retired_noted partition (Retired (Deleted sequence)) notes =
+    record notes { deleted = record { partition = partition; sequence = sequence } ∷ notes.deleted }
+retired_noted partition other notes = notes
+
 -- a `report` line tells a commitEnd, a `deliver` line a job that it opened, a `job` line its steps, a `reply` line where the replica then
--- stands, and a `show meta` line a node. A controller that crashes loses its jobs
+-- stands, a `show meta` line a node, and a `retain` line a segment that is deleted. A controller that crashes loses its jobs
 abbrev pub event_noted : Event → Outcome → Notes → Notes
 event_noted (Report instance partition sequence) outcome notes = sent_noted partition sequence outcome notes
 event_noted (Deliver message controller) outcome notes = started_noted message controller outcome notes
@@ -189,6 +196,7 @@ event_noted (event.Reply message) outcome notes = took_noted outcome notes
 event_noted (CrashController controller) outcome notes =
     record notes { jobs = filter (λ w. not (w.controller.0 == controller.0)) notes.jobs }
 event_noted (ShowMeta partition sequence) outcome notes = shown_noted partition sequence outcome notes
+event_noted (Retain controller partition) outcome notes = retired_noted partition outcome notes
 event_noted event outcome notes = notes
 
 -- an exchange tells of a commit of its segment by the reply, a COMMIT_SUCCESS, or by where the replica then stands
@@ -311,11 +319,17 @@ LineTells setup ranges marks notes (Some (line.Macro (macro.Query query))) text 
 LineTells setup ranges marks notes (Some (line.Macro (macro.Exchange instance p q controller))) text later = ExchangeTells notes p q text later
 LineTells setup ranges marks notes other text later = later notes
 
--- no mark falls, and each is 0 in a table without a retention; with these marks a line tells so
-pub record Risen (setup : Setup) (marks : Marks) (tells : Marks → Type 0) : Type 0 where
+-- a segment that was told to be committed, and to be deleted, lies below the mark
+abbrev pub AreBelow : Ranges → Marks → Notes → Type 0
+AreBelow ranges marks notes =
+    (s : Segment) → Has notes.deleted s → Has notes.committed s → (ranges s.partition s.sequence).end.0 ≤ marks s.partition
+
+-- no mark falls, each is 0 in a table without a retention, and what was deleted lies below; with these marks a line tells so
+pub record Risen (setup : Setup) (ranges : Ranges) (marks : Marks) (notes : Notes) (tells : Marks → Type 0) : Type 0 where
   pub now : Marks
   pub rise : (p : Partition) → p.0 < setup.partitions → marks p ≤ now p
   pub first : (p : Partition) → p.0 < setup.partitions → setup.retention ≡ None → now p ≡ 0
+  pub below : AreBelow ranges now notes
   pub so : tells now
 
 -- so it is of each line that has a text
@@ -323,7 +337,7 @@ abbrev pub AllTellSo : Setup → Ranges → Marks → Notes → List NumberedLin
 AllTellSo setup ranges marks notes lines [] = Unit {0}
 AllTellSo setup ranges marks notes [] (text ∷ texts) = ⊥
 AllTellSo setup ranges marks notes (line ∷ lines) (text ∷ texts) =
-    Risen setup marks (λ now. LineTells setup ranges now notes (line_in setup line.1) text (λ more. AllTellSo setup ranges now more lines texts))
+    Risen setup ranges marks notes (λ now. LineTells setup ranges now notes (line_in setup line.1) text (λ more. AllTellSo setup ranges now more lines texts))
 
 -- each segment has one range, as far as it was committed, with which all lines agree; and each partition has its mark at each line
 pub record CommitsStay (setup : Setup) (lines : List NumberedLine) (texts : List (List ℕ)) : Type 0 where

@@ -19,7 +19,7 @@ use Rattle.rt_state.proofs.Dues.{Spends, both, controller_there, priced_spends}
 use Rattle.rt_state.proofs.Possible.{only_passed, priced_room, then_passed}
 use Rattle.rt_state.specs.Clock.{tick_due, lead_due}
 use Rattle.rt_state.specs.Finding.{find_controller, has_controller, has_partition, has_server, is_controller_up, is_server_up, is_up, request_at, reply_at}
-use Rattle.rt_state.specs.IsSafe.{IsControllerAt, IsUpkeepOver, past_of}
+use Rattle.rt_state.specs.IsSafe.{IsControllerAt, IsUpkeepAt, past_of}
 use Rattle.rt_state.specs.IsSafeWorld.{IsSafeWorld}
 use Rattle.rt_state.specs.Jobs.{has_job, job_due, sets_of_job, job_told, job_told_by, stepped, stepped_by}
 use Rattle.rt_state.specs.Shows.{show_meta_due}
@@ -129,7 +129,7 @@ upkeep_there w c p h =
     record { controller = ltb-true _ _ has.0; partition = ltb-true _ _ has.1 }
 
 begun_ready : (w : State) (p : Partition) (u : Upkeep) (r : Option Repairing) → IsSafeWorld w → p.0 < w.setup.partitions
-    → u.repair ≡ r → IsUpkeepOver w.setup (past_of w) u → IsReadyRepair w.store.writes (begun w.setup p r)
+    → u.repair ≡ r → IsUpkeepAt w.setup (past_of w) p.0 u → IsReadyRepair w.store.writes (begun w.setup p r)
 begun_ready w p u None s within e k = (
   tt,
   (
@@ -157,7 +157,7 @@ retention_kept None set = absurd (cc)
 retention_kept (Some keep) set = refl
 
 retiring_ready : (w : State) (p : Partition) (u : Upkeep) (r : Option Retirement) → IsSafeWorld w → p.0 < w.setup.partitions
-    → (IsNone r → IsSome w.setup.retention) → u.retirement ≡ r → IsUpkeepOver w.setup (past_of w) u
+    → (IsNone r → IsSome w.setup.retention) → u.retirement ≡ r → IsUpkeepAt w.setup (past_of w) p.0 u
     → IsReadyRetirement w.store.writes (retiring w.setup p r)
 retiring_ready w p u None s within set e k = (
   tt,
@@ -193,7 +193,7 @@ retirement_there : (w : State) (c : ControllerId) (p : Partition) (n : Controlle
 retirement_there w c p n u found stands = ap (λ o. retirement_in (upkeep_in o p)) found ∙ ap (λ o. retirement_in o) stands
 
 chore_ready : (w : State) (c : ControllerId) (p : Partition) (n : ControllerNode) (u : Upkeep) (chore : Chore) (cost : Cost) → IsSafeWorld w → p.0 < w.setup.partitions
-    → slice_get w.controllers c.0 ≡ Some n → slice_get n.upkeep p.0 ≡ Some u → IsUpkeepOver w.setup (past_of w) u
+    → slice_get w.controllers c.0 ≡ Some n → slice_get n.upkeep p.0 ≡ Some u → IsUpkeepAt w.setup (past_of w) p.0 u
     → chore_by chore w c (upkeep_at w c p) ≡ Ok cost → IsReadyFor chore w.setup w.store.writes p u
 chore_ready w c p n u Repair cost s within found stands k due = begun_ready w p u u.repair s within refl k
 chore_ready w c p n u Retire cost s within found stands k due =

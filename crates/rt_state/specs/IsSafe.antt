@@ -36,15 +36,14 @@ HasDrawn past i n = AreDrawn past.sent n.server.numbers
 
 -- ---- controllers
 
--- what is under way for a partition, and hasn't ended
-pub record IsUpkeepOver (setup : Setup) (past : Past) (u : Upkeep) : Type 0 where
+-- what is under way for the partition of this number, a repair and a retirement of it, and hasn't ended
+pub record IsUpkeepAt (setup : Setup) (past : Past) (p : ℕ) (u : Upkeep) : Type 0 where
   pub repair : IfSome u.repair (IsRepairOver setup past)
   pub repair_goes : IfSome u.repair (λ r. IsUnendedRepair r.stage)
+  pub repairs_its : IfSome u.repair (λ r. r.partition.0 ≡ p)
   pub retirement : IfSome u.retirement (IsRetireOver setup past)
   pub retirement_goes : IfSome u.retirement (λ r. IsUnendedRetirement r.stage)
-
-abbrev pub IsUpkeepAt : Setup → Past → ℕ → Upkeep → Type 0
-IsUpkeepAt setup past p u = IsUpkeepOver setup past u
+  pub retires_its : IfSome u.retirement (λ r. r.partition.0 ≡ p)
 
 -- the controller of this number, with all that lasts of a controller
 pub record IsControllerAt (setup : Setup) (past : Past) (c : ℕ) (n : ControllerNode) : Type 0 where

@@ -1,9 +1,11 @@
 -- A step of a chore keeps a world safe.
-use Rattle.std.proofs.Common.{◌≡◌, ℕ, ◌+◌, ◌<◌, ◌≤◌, Bool, true, false, cond, Ok, Option, Some, None, refl, sym, ◌∙◌, ap, subst, slice_get, length, arith, ◌&&◌}
+use Rattle.std.proofs.Common.{◌≡◌, ℕ, ◌+◌, ◌<◌, ◌≤◌, Bool, true, false, cond, Ok, Err, Option, Some, None, refl, sym, ◌∙◌, ap, subst, slice_get, length, arith, ◌&&◌}
 use Rattle.std.specs.Prelude.{slice_set, IfSome, IsNone, IsSome}
 use Rattle.std.proofs.lemmas.Bool.{ltb-true, and_parts, true≢false}
 use Rattle.std.proofs.lemmas.List.{length-set}
+use Rattle.std.proofs.lemmas.Option.{none-some, same_Some}
 use Rattle.rt_base.specs.declared.numbers.ControllerId.{ControllerId}
+use Rattle.rt_base.specs.declared.numbers.Moment.{Moment}
 use Rattle.rt_base.specs.declared.numbers.Partition.{Partition}
 use Rattle.rt_events.specs.declared.refusal.Refusal.TheVariants.{NoSuchNode}
 use Rattle.rt_model.specs.declared.setup.Setup.{Setup}
@@ -24,7 +26,10 @@ use Rattle.rt_repair.proofs.Growing.{repair_lasts, retire_lasts, repair_begins_o
 use Rattle.rt_repair.proofs.RightRepair.{repair_past, repair_kept}
 use Rattle.rt_repair.proofs.RightRetire.{retire_past, retire_kept}
 use Rattle.rt_repair.proofs.Telling.{told_repair, told_retire}
-use Rattle.rt_store.specs.Meaning.{Told}
+use Rattle.rt_store.specs.Meaning.{Meaning, Told}
+use Rattle.rt_store.specs.Memory.{means}
+use Rattle.rt_store.specs.declared.refused.StoreRefused.{StoreRefused}
+use Rattle.rt_store.specs.declared.refused.StoreRefused.TheVariants.{NoNode, Exists, VersionChanged, Failed, Memory}
 use Rattle.rt_state.specs.Applying.{Next}
 use Rattle.rt_state.specs.Finding.{has_controller, has_partition}
 use Rattle.rt_state.specs.IsSafe.{IsUpkeepAt, IsSafe, past_of}
@@ -51,14 +56,14 @@ use Rattle.rt_world.specs.Step.{set_by}
 -- ---- what is under way is put back
 
 -- what a step leaves: all that there is has grown to a right past, by one write at most, and what is under way is right there
-pub record UpkeepWrites (w : State) (new : Upkeep) (store : Told) : Type 0 where
+pub record UpkeepWrites (w : State) (p : Partition) (new : Upkeep) (store : Told) : Type 0 where
   pub grows : Grows (past_of w) (with_history (past_of w) store.writes)
   pub right : IsPast w.setup (with_history (past_of w) store.writes)
   pub few : length store.writes ≤ length w.store.writes + 1
-  pub upkeep : IsUpkeepAt w.setup (with_history (past_of w) store.writes) 0 new
+  pub upkeep : IsUpkeepAt w.setup (with_history (past_of w) store.writes) p.0 new
 
 upkeep_put : (w : State) (c : ControllerId) (p : Partition) (n : ControllerNode) (new : Upkeep) (store : Told) (sets : Option ℕ) (cost : Cost) → IsSafeWorld w
-    → slice_get w.controllers c.0 ≡ Some n → priced w (set_cost sets) ≡ Ok cost → UpkeepWrites w new store → IsSafeWorld (after_upkeep w c p n new store cost)
+    → slice_get w.controllers c.0 ≡ Some n → priced w (set_cost sets) ≡ Ok cost → UpkeepWrites w p new store → IsSafeWorld (after_upkeep w c p n new store cost)
 upkeep_put w c p n new store sets cost s there possible k =
     let a = past_of w in
     let b = with_history a store.writes in
@@ -133,8 +138,36 @@ going_unended r = by_test (is_ended r.stage) refl
     by_test true e = tt
     by_test false e = unended r.stage e
 
+-- it goes on with its partition
+begun_its : (setup : Setup) (p : Partition) (o : Option Repairing) → IfSome o (λ r. r.partition.0 ≡ p.0) → (begun setup p o).partition.0 ≡ p.0
+begun_its setup p None k = refl
+begun_its setup p (Some r) k = k
+
+going_its : (p : ℕ) (r : Repairing) → r.partition.0 ≡ p → IfSome (going_on r) (λ x. x.partition.0 ≡ p)
+going_its p r k = by_test (is_ended r.stage)
+  where
+    by_test : (b : Bool) → IfSome (cond b None (Some r)) (λ x. x.partition.0 ≡ p)
+    by_test true = tt
+    by_test false = k
+
+fails_its : (r : Repairing) (refused : StoreRefused) (x : of_repair.Stepped) → of_repair.fails r refused ≡ Some x → x.repair.partition ≡ r.partition
+fails_its r NoNode x e = ap (λ (y : of_repair.Stepped). y.repair.partition) (sym (same_Some _ x e))
+fails_its r (Exists found) x e = ap (λ (y : of_repair.Stepped). y.repair.partition) (sym (same_Some _ x e))
+fails_its r (VersionChanged expected found) x e = ap (λ (y : of_repair.Stepped). y.repair.partition) (sym (same_Some _ x e))
+fails_its r Failed x e = ap (λ (y : of_repair.Stepped). y.repair.partition) (sym (same_Some _ x e))
+fails_its r Memory x e = absurd (none-some x e)
+
+repair_its : (old new : Meaning) (r : Repairing) (now : Moment) (x : of_repair.Stepped) (stage : RepairStage) → of_repair.StepsAt old new r now x stage
+    → x.repair.partition ≡ r.partition
+repair_its old new r now x repair.Listing (Ok nodes, lists, e) = ap (λ (y : of_repair.Stepped). y.repair.partition) (sym (same_Some _ x e))
+repair_its old new r now x repair.Listing (Err refused, lists, e) = fails_its r refused x e
+repair_its old new r now x (repair.Reading last follows) (Ok ideal, reads, e) = ap (λ (y : of_repair.Stepped). y.repair.partition) (sym (same_Some _ x e))
+repair_its old new r now x (repair.Reading last follows) (Err refused, reads, e) = fails_its r refused x e
+repair_its old new r now x (repair.Writing last follows ideal) (goes, does) = ap (λ (y : Repairing). y.partition) goes
+repair_its old new r now x repair.Ended none = absurd none
+
 pub repair_writes : (w : State) (p : Partition) (old new : Upkeep) (store : Told) (did : RepairStep) → IsSafe w → p.0 < w.setup.partitions
-    → IsUpkeepAt w.setup (past_of w) p.0 old → UpkeepRepairs w.setup p w.moment w.store store old new did → UpkeepWrites w new store
+    → IsUpkeepAt w.setup (past_of w) p.0 old → UpkeepRepairs w.setup p w.moment w.store store old new did → UpkeepWrites w p new store
 repair_writes w p old new store did s within k (after, steps, is) =
     let a = past_of w in
     let r = begun w.setup p old.repair in
@@ -152,14 +185,18 @@ repair_writes w p old new store did s within k (after, steps, is) =
       right = grows.right;
       few = subst F (sym left.0) (repair_few w.store r w.moment r.stage);
       upkeep =
-          subst (IsUpkeepAt w.setup (with_history a store.writes) 0) (sym is)
+          subst (IsUpkeepAt w.setup (with_history a store.writes) p.0) (sym is)
           (record {
             repair = going_over w.setup (with_history a store.writes) after (subst K (sym left.0) kept);
             repair_goes = going_unended after;
+            repairs_its =
+                going_its p.0 after
+                (ap (λ (y : Partition). y.0) (repair_its (means w.store) (means store) r w.moment x r.stage steps) ∙ begun_its w.setup p old.repair k.repairs_its);
             retirement =
                 if_some (IsRetireOver w.setup a) (IsRetireOver w.setup (with_history a store.writes))
                 (λ t. retire_lasts w.setup a (with_history a store.writes) t grows.grows) old.retirement k.retirement;
             retirement_goes = k.retirement_goes;
+            retires_its = k.retires_its;
           });
     }
 
@@ -197,8 +234,36 @@ retention_set w c p old cost at due none =
     retention_needed w c (retirement_in (upkeep_at w c p)) cost due
     (subst (λ o. IsNone (retirement_in o)) (sym at) none)
 
+-- it goes on with its partition
+pub retiring_its : (setup : Setup) (p : Partition) (o : Option Retirement) → IfSome o (λ r. r.partition.0 ≡ p.0) → (retiring setup p o).partition.0 ≡ p.0
+retiring_its setup p None k = refl
+retiring_its setup p (Some r) k = k
+
+retiring_on_its : (p : ℕ) (r : Retirement) → r.partition.0 ≡ p → IfSome (retiring_on r) (λ x. x.partition.0 ≡ p)
+retiring_on_its p r k = by_test (retire_is_ended r.stage)
+  where
+    by_test : (b : Bool) → IfSome (cond b None (Some r)) (λ x. x.partition.0 ≡ p)
+    by_test true = tt
+    by_test false = k
+
+retire_fails_its : (r : Retirement) (refused : StoreRefused) (x : of_retire.Stepped) → of_retire.fails r refused ≡ Some x → x.retire.partition ≡ r.partition
+retire_fails_its r NoNode x e = ap (λ (y : of_retire.Stepped). y.retire.partition) (sym (same_Some _ x e))
+retire_fails_its r (Exists found) x e = ap (λ (y : of_retire.Stepped). y.retire.partition) (sym (same_Some _ x e))
+retire_fails_its r (VersionChanged expected found) x e = ap (λ (y : of_retire.Stepped). y.retire.partition) (sym (same_Some _ x e))
+retire_fails_its r Failed x e = ap (λ (y : of_retire.Stepped). y.retire.partition) (sym (same_Some _ x e))
+retire_fails_its r Memory x e = absurd (none-some x e)
+
+retire_its : (old new : Meaning) (r : Retirement) (now : Moment) (x : of_retire.Stepped) (stage : RetireStage) → of_retire.StepsAt old new r now x stage
+    → x.retire.partition ≡ r.partition
+retire_its old new r now x retirement.Listing (Ok nodes, lists, e) = ap (λ (y : of_retire.Stepped). y.retire.partition) (sym (same_Some _ x e))
+retire_its old new r now x retirement.Listing (Err refused, lists, e) = retire_fails_its r refused x e
+retire_its old new r now x (retirement.Reading lowest) (Ok ideal, reads, e) = ap (λ (y : of_retire.Stepped). y.retire.partition) (sym (same_Some _ x e))
+retire_its old new r now x (retirement.Reading lowest) (Err refused, reads, e) = retire_fails_its r refused x e
+retire_its old new r now x (retirement.Writing lowest ideal) (goes, does) = ap (λ (y : Retirement). y.partition) goes
+retire_its old new r now x retirement.Ended none = absurd none
+
 pub retire_writes : (w : State) (p : Partition) (old new : Upkeep) (store : Told) (did : RetireStep) → IsSafe w → p.0 < w.setup.partitions
-    → (IsNone old.retirement → IsSome w.setup.retention) → IsUpkeepAt w.setup (past_of w) p.0 old → UpkeepRetires w.setup p w.moment w.store store old new did → UpkeepWrites w new store
+    → (IsNone old.retirement → IsSome w.setup.retention) → IsUpkeepAt w.setup (past_of w) p.0 old → UpkeepRetires w.setup p w.moment w.store store old new did → UpkeepWrites w p new store
 retire_writes w p old new store did s within set k (after, steps, is) =
     let a = past_of w in
     let r = retiring w.setup p old.retirement in
@@ -216,14 +281,18 @@ retire_writes w p old new store did s within set k (after, steps, is) =
       right = grows.right;
       few = subst F (sym left.0) (retire_few w.store r w.moment r.stage);
       upkeep =
-          subst (IsUpkeepAt w.setup (with_history a store.writes) 0) (sym is)
+          subst (IsUpkeepAt w.setup (with_history a store.writes) p.0) (sym is)
           (record {
             repair =
                 if_some (IsRepairOver w.setup a) (IsRepairOver w.setup (with_history a store.writes))
                 (λ t. repair_lasts w.setup a (with_history a store.writes) t grows.grows) old.repair k.repair;
             repair_goes = k.repair_goes;
+            repairs_its = k.repairs_its;
             retirement = retiring_on_over w.setup (with_history a store.writes) after (subst K (sym left.0) kept);
             retirement_goes = retiring_unended after;
+            retires_its =
+                retiring_on_its p.0 after
+                (ap (λ (y : Partition). y.0) (retire_its (means w.store) (means store) r w.moment x r.stage steps) ∙ retiring_its w.setup p old.retirement k.retires_its);
           });
     }
 
@@ -240,7 +309,7 @@ chore_begins w c p Repair old cost at due = tt
 chore_begins w c p Retire old cost at due = retention_set w c p old cost at due
 
 pub chore_writes : (w : State) (p : Partition) (chore : Chore) (old new : Upkeep) (store : Told) (outcome : Outcome) → IsSafe w → p.0 < w.setup.partitions
-    → Begins chore w old → IsUpkeepAt w.setup (past_of w) p.0 old → UpkeepSteps chore w.setup p w.moment w.store store old new outcome → UpkeepWrites w new store
+    → Begins chore w old → IsUpkeepAt w.setup (past_of w) p.0 old → UpkeepSteps chore w.setup p w.moment w.store store old new outcome → UpkeepWrites w p new store
 chore_writes w p Repair old new store outcome s within begins k (did, steps, told) = repair_writes w p old new store did s within k steps
 chore_writes w p Retire old new store outcome s within begins k (did, steps, told) = retire_writes w p old new store did s within begins k steps
 

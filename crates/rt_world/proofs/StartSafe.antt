@@ -1,5 +1,5 @@
 -- The first world of a cluster is safe.
-use Rattle.std.proofs.Common.{◌≡◌, ℕ, zero, suc, ◌≤◌, ◌==◌, Bool, true, false, cond, [], ◌∷◌, refl, sym, subst, length, arith, length-append}
+use Rattle.std.proofs.Common.{◌≡◌, ℕ, zero, suc, ◌≤◌, ◌==◌, Bool, true, false, cond, [], ◌∷◌, Some, None, refl, sym, subst, slice_get, length, arith, length-append}
 use Rattle.std.specs.Prelude.{replicate}
 use Rattle.std.proofs.lemmas.Bool.{true≢false}
 use Rattle.std.proofs.lemmas.List.{length-replicate}
@@ -11,6 +11,7 @@ use Rattle.rt_controller.specs.Lasting.{IsControllerOver}
 use Rattle.rt_controller.proofs.Lasts.{begins_over, believes_over}
 use Rattle.rt_model.specs.declared.setup.Setup.{Setup}
 use Rattle.rt_model.specs.Setup.{IsSetup}
+use Rattle.rt_nodes.specs.declared.upkeep.Upkeep.{Upkeep}
 use Rattle.rt_past.specs.IsPast.{fresh_past}
 use Rattle.rt_past.proofs.Starts.{past_starts}
 use Rattle.rt_server.proofs.LastingStarts.{fresh_over}
@@ -56,11 +57,17 @@ by_belief P setup c without with = at (c == 0)
     at true = with
     at false = without
 
+-- nothing is under way, whichever partition it is
+nothing_at : (setup : Setup) (p : ℕ) → IsUpkeepAt setup (fresh_past setup) p (record { repair = None; retirement = None })
+nothing_at setup p = record { repair = tt; repair_goes = tt; repairs_its = tt; retirement = tt; retirement_goes = tt; retires_its = tt }
+
+upkeep_from : (setup : Setup) (p n i : ℕ) (x : Upkeep) → slice_get (fresh_upkeep n) i ≡ Some x → IsUpkeepAt setup (fresh_past setup) p x
+upkeep_from setup p zero i x e = absurd (none-some x e)
+upkeep_from setup p (suc n) zero x e = subst (IsUpkeepAt setup (fresh_past setup) p) (same_Some _ x e) (nothing_at setup p)
+upkeep_from setup p (suc n) (suc i) x e = upkeep_from setup p n i x e
+
 upkeep_start : (setup : Setup) (n : ℕ) → AreAt (IsUpkeepAt setup (fresh_past setup)) (fresh_upkeep n)
-upkeep_start setup zero i x e = absurd (none-some x e)
-upkeep_start setup (suc n) zero x e =
-    subst (IsUpkeepAt setup (fresh_past setup) 0) (same_Some _ x e) (record { repair = tt; repair_goes = tt; retirement = tt; retirement_goes = tt })
-upkeep_start setup (suc n) (suc i) x e = upkeep_start setup n i x e
+upkeep_start setup n i x e = upkeep_from setup i n i x e
 
 controllers_start : (setup : Setup) (n : ℕ) → AreAt (IsControllerAt setup (fresh_past setup)) (fresh_controllers setup n)
 controllers_start setup zero = at_none (IsControllerAt setup (fresh_past setup))

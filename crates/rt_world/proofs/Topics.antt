@@ -30,8 +30,10 @@ upkeep_at_grows setup a b g p u k =
     record {
       repair = if_some (IsRepairOver setup a) (IsRepairOver setup b) (λ r. repair_lasts setup a b r g) u.repair k.repair;
       repair_goes = k.repair_goes;
+      repairs_its = k.repairs_its;
       retirement = if_some (IsRetireOver setup a) (IsRetireOver setup b) (λ r. retire_lasts setup a b r g) u.retirement k.retirement;
       retirement_goes = k.retirement_goes;
+      retires_its = k.retires_its;
     }
 
 pub controller_at_grows : (setup : Setup) (a b : Past) → Grows a b → (c : ℕ) (n : ControllerNode) → IsControllerAt setup a c n → IsControllerAt setup b c n
