@@ -1,18 +1,21 @@
 -- An exchange puts its replica off, or leaves less ahead.
-use Rattle.std.proofs.Common.{◌≡◌, ◌⊎◌, inl, inr, ℕ, zero, suc, ◌<◌, ◌≤◌, ◌==◌, ◌&&◌, Bool, true, false, cond, List, [], length, Option, Some, None, Ok, refl, sym, ◌∙◌, ap, subst, arith, slice_get}
-use Rattle.std.specs.Prelude.{slice_set}
+use Rattle.std.proofs.Common.{◌≡◌, ◌⊎◌, inl, inr, ℕ, zero, suc, ◌+◌, ◌<◌, ◌≤◌, ◌==◌, ◌&&◌, Bool, true, false, cond, List, [], length, Option, Some, None, Ok, refl, sym, ◌∙◌, ap, subst, arith, slice_get}
 use Rattle.std.specs.List.{Contains}
+use Rattle.std.specs.Prelude.{slice_set}
 use Rattle.std.proofs.lemmas.Bool.{eq-eqb, true≢false}
 use Rattle.std.proofs.lemmas.Option.{none-some, same_Some}
+use Rattle.rt_assign.specs.Placement.{replicas_of}
 use Rattle.rt_base.specs.declared.numbers.ControllerId.{ControllerId}
 use Rattle.rt_base.specs.declared.numbers.Instance.{Instance}
 use Rattle.rt_base.specs.declared.numbers.Offset.{Offset}
 use Rattle.rt_base.specs.declared.numbers.Partition.{Partition}
 use Rattle.rt_base.specs.declared.numbers.Sequence.{Sequence}
+use Rattle.rt_base.specs.declared.which.Which.TheVariants.{Events}
 use Rattle.rt_commit.specs.Assignment.{replicas_in, Assigned}
 use Rattle.rt_commit.specs.Job.{commits}
 use Rattle.rt_commit.specs.Lasting.{commit_end, work_end}
 use Rattle.rt_commit.specs.Right.{EndsSo, MetFault, StatusSo}
+use Rattle.rt_commit.specs.Told.{store_after, IsExact}
 use Rattle.rt_commit.specs.declared.job.Job.{Job}
 use Rattle.rt_commit.specs.declared.job.JobStage.{JobStage}
 use Rattle.rt_commit.specs.declared.job.JobStage.TheVariants as stage
@@ -20,19 +23,30 @@ use Rattle.rt_commit.specs.declared.work.Work.{Work}
 use Rattle.rt_commit.specs.declared.work.Work.TheVariants as work
 use Rattle.rt_consumer.specs.Consumer.{cur, end_in, ends_at, is_at, state_at, state_of}
 use Rattle.rt_consumer.specs.Replies.{answered, replied as answered_by, turned}
-use Rattle.rt_consumer.specs.Requests.{kind_in, Requests as AsksItself, kind_at}
+use Rattle.rt_consumer.specs.Requests.{kind_at, kind_in, Requests as AsksItself}
 use Rattle.rt_consumer.specs.declared.consumer.Consumer.{Consumer}
+use Rattle.rt_consumer.specs.declared.phase.Phase.{Phase}
+use Rattle.rt_consumer.specs.declared.phase.Phase.TheVariants as phase
+use Rattle.rt_consumer.specs.declared.stage.Stage.{Stage}
+use Rattle.rt_consumer.specs.declared.stage.Stage.TheVariants.{Building, CatchingUp, ConsumingToOnline, Ending, Holding, InitialConsuming, Retaining, Starting, Uploading}
 use Rattle.rt_consumer.specs.declared.waited.Waited.TheVariants.{Step}
 use Rattle.rt_controller.specs.Controller.{Controlling}
-use Rattle.rt_controller.specs.Lasting.{IsControllerOver, IsMachineOver}
+use Rattle.rt_controller.specs.Lasting.{HaveOneMachine, IsControllerOver, IsMachineOver}
+use Rattle.rt_controller.specs.Requests.{call_of, handle_call, has_machine, has_none, not_assigned, not_leading, past_last, turn_of, uploads, Turn as Rule}
 use Rattle.rt_controller.specs.Right.{job_of, LeavesJob, WorksOver}
 use Rattle.rt_controller.specs.Steps.{Handles as HandlesIt}
+use Rattle.rt_controller.specs.Told.{worked_on}
+use Rattle.rt_controller.specs.Working.{work_call}
 use Rattle.rt_controller.specs.declared.handled.Handled.{Handled}
 use Rattle.rt_controller.specs.declared.handled.Handled.TheVariants as handled
+use Rattle.rt_controller.specs.declared.segment_machine.SegmentMachine.{SegmentMachine}
 use Rattle.rt_controller.proofs.CallsOver.{handles_over}
 use Rattle.rt_controller.proofs.JobsStay.{found_job}
+use Rattle.rt_controller.proofs.Telling.{told_request, told_work}
 use Rattle.rt_deep.specs.Meaning.{Told as ToldDeep}
 use Rattle.rt_deep.specs.Memory.{means as deep_means}
+use Rattle.rt_entry.specs.Transition.{is_open}
+use Rattle.rt_entry.specs.declared.entry.Entry.{Entry}
 use Rattle.rt_entry.specs.declared.entry.Entry.TheVariants.{Replica}
 use Rattle.rt_entry.specs.declared.refused.ServerRefused.TheVariants.{NotDue}
 use Rattle.rt_events.specs.Fits.{Fits as IsFitting}
@@ -41,22 +55,24 @@ use Rattle.rt_events.specs.declared.event.Event.TheVariants as event
 use Rattle.rt_events.specs.declared.outcome.Outcome.{Outcome}
 use Rattle.rt_events.specs.declared.outcome.Outcome.TheVariants as came
 use Rattle.rt_events.specs.declared.refusal.Refusal.TheVariants.{Limit, NothingToDo}
-use Rattle.rt_base.specs.declared.which.Which.TheVariants.{Events}
 use Rattle.rt_lists.specs.Members.{Has}
-use Rattle.rt_lists.proofs.Lists.{All-found, contains_found}
+use Rattle.rt_lists.proofs.Lists.{contains_found, All-found}
 use Rattle.rt_lists.proofs.Members.{Has-append_left, Has-append_right, Has-place, Has-push}
-use Rattle.rt_macros.specs.Doing.{Gives, Happens, Reached, after, stays}
+use Rattle.rt_macros.specs.Doing.{after, stays, Gives, Happens, Reached}
 use Rattle.rt_macros.specs.Exchanging.{AfterDelivery, AfterReply, AfterReport, AfterStep, EndsJob, Handles, MakesStep, TakesAnswer}
 use Rattle.rt_macros.specs.Outcomes.{delivered_in, ended_in, ending, replied, state_in}
 use Rattle.rt_macros.specs.declared.exchanging.Exchanged.{Exchanged}
 use Rattle.rt_macros.specs.declared.outcomes.Delivered.{Delivered}
 use Rattle.rt_macros.specs.declared.outcomes.Delivered.TheVariants as delivered
 use Rattle.rt_macros.specs.declared.outcomes.Replied.{Replied}
+use Rattle.rt_model.specs.Completion.{Completion}
 use Rattle.rt_model.specs.Messages.{asked_of, same_number}
 use Rattle.rt_model.specs.Metadata.{IsDoneStatus}
+use Rattle.rt_model.specs.declared.asked.Asked.{Asked}
 use Rattle.rt_model.specs.declared.job_step.JobStep.{JobStep}
 use Rattle.rt_model.specs.declared.job_step.StepName.{StepName}
 use Rattle.rt_model.specs.declared.node.Seen.{Seen}
+use Rattle.rt_model.specs.declared.replica_state.ReplicaState.{ReplicaState}
 use Rattle.rt_model.specs.declared.reply.Reply.{Reply}
 use Rattle.rt_model.specs.declared.reply.ReplyStatus.{ReplyStatus}
 use Rattle.rt_model.specs.declared.reply.ReplyStatus.TheVariants as status
@@ -64,68 +80,66 @@ use Rattle.rt_model.specs.declared.request.Request.{Request}
 use Rattle.rt_model.specs.declared.request.RequestKind.{RequestKind}
 use Rattle.rt_model.specs.declared.request.RequestKind.TheVariants as kind
 use Rattle.rt_model.specs.declared.request.RequestNumber.{RequestNumber}
-use Rattle.rt_model.specs.declared.replica_state.ReplicaState.{ReplicaState}
 use Rattle.rt_model.specs.declared.seg_meta.SeenMeta.{SeenMeta}
+use Rattle.rt_model.specs.declared.setup.Setup.{Setup}
 use Rattle.rt_model.specs.declared.status.Status.{Status}
-use Rattle.rt_msgs.specs.Numbered.{number_at, Numbered}
+use Rattle.rt_model.proofs.Lawful.{versions_count_writes}
+use Rattle.rt_msgs.specs.Numbered.{number_at, upload_path, Numbered}
 use Rattle.rt_nodes.specs.Messages.{node_took}
 use Rattle.rt_nodes.specs.Requests.{NodeAsks}
 use Rattle.rt_nodes.specs.declared.controller_node.ControllerNode.{ControllerNode}
 use Rattle.rt_nodes.specs.declared.server_node.ServerNode.{ServerNode}
+use Rattle.rt_past.specs.IsPast.{IsPast}
 use Rattle.rt_past.specs.Segments.{IsAssignedTo}
-use Rattle.rt_assign.specs.Placement.{replicas_of}
-use Rattle.rt_safety.proofs.JobsOn.{own_slot}
-use Rattle.rt_safety.proofs.SuccessEnds.{success_ends}
 use Rattle.rt_safety.specs.CommitRun.{job_in, open_job}
 use Rattle.rt_safety.specs.Runs.{happens, Turn}
-use Rattle.rt_server.proofs.LastingAsks.{answered_ok, no_answer}
+use Rattle.rt_safety.proofs.JobsOn.{handed_same, own_slot}
+use Rattle.rt_safety.proofs.SuccessEnds.{success_ends}
+use Rattle.rt_segment.specs.Spelling.{file_of}
 use Rattle.rt_server.specs.Calls.{replied_at, ThroughAt}
 use Rattle.rt_server.specs.Table.{put_back, replica_of, Segments}
-use Rattle.rt_state.proofs.Bounds.{few_writes}
+use Rattle.rt_server.proofs.LastingAsks.{answered_ok, no_answer}
 use Rattle.rt_state.specs.Applying.{Next}
 use Rattle.rt_state.specs.Finding.{reply_at, request_at}
 use Rattle.rt_state.specs.IsSafe.{past_of}
 use Rattle.rt_state.specs.IsSafeWorld.{IsSafeWorld}
-use Rattle.rt_state.specs.Jobs.{stepped_by, JobStepsAt, noted_set}
+use Rattle.rt_state.specs.Jobs.{noted_set, stepped_by, JobStepsAt}
 use Rattle.rt_state.specs.Messages.{after_step, handed, DeliversAt, RepliesAt}
 use Rattle.rt_state.specs.Nodes.{ServerDoesAt}
 use Rattle.rt_state.specs.Requests.{SendsAt}
 use Rattle.rt_state.specs.declared.state.State.{State}
-use Rattle.rt_store.specs.Meaning.{Told}
-use Rattle.rt_store.proofs.Told.{read_same}
-use Rattle.rt_commit.specs.Told.{store_after}
-use Rattle.rt_store.specs.Memory.{means}
-use Rattle.rt_stream.specs.Log.{messages_of, Log}
+use Rattle.rt_state.proofs.Bounds.{few_writes}
 use Rattle.rt_store.specs.Contents.{starting_of}
-use Rattle.rt_model.proofs.Lawful.{versions_count_writes}
-use Rattle.rt_model.specs.declared.asked.Asked.{Asked}
-use Rattle.rt_model.specs.declared.setup.Setup.{Setup}
+use Rattle.rt_store.specs.Meaning.{Told}
+use Rattle.rt_store.specs.Memory.{means}
+use Rattle.rt_store.proofs.Told.{read_same}
+use Rattle.rt_stream.specs.Log.{messages_of, Log}
 use Rattle.rt_unrefused.proofs.Answered.{delivers, delivery_leaves, job_leaves, job_steps, Behind as AnswersBehind, Delivers, IsAnswer}
 use Rattle.rt_unrefused.proofs.JobSteps.{is_open_job, over, own_step, there_then, OwnStep, SendsIts}
 use Rattle.rt_unrefused.proofs.Requested.{replica_put, requested, IsRequested}
-use Rattle.rt_world.proofs.KeepsMessages.{request_sent}
-use Rattle.rt_world.specs.Reading.{events_left_in}
+use Rattle.rt_world.specs.Reading.{events_left_in, leader_in}
 use Rattle.rt_world.specs.Step.{Steps}
-use Rattle.rt_heal.proofs.Quiet.{IsThen, then_parts, told_not, told_same}
-use Rattle.rt_consumer.specs.declared.phase.Phase.{Phase}
-use Rattle.rt_consumer.specs.declared.phase.Phase.TheVariants as phase
-use Rattle.rt_consumer.specs.declared.stage.Stage.{Stage}
-use Rattle.rt_consumer.specs.declared.stage.Stage.TheVariants.{InitialConsuming, CatchingUp, Holding, ConsumingToOnline, Retaining, Building, Starting, Uploading, Ending}
-use Rattle.rt_controller.specs.Requests.{Turn as Rule, not_leading, uploads, not_assigned, past_last, has_machine, has_none, call_of, handle_call, turn_of}
-use Rattle.rt_controller.specs.Working.{work_call}
-use Rattle.rt_controller.proofs.Telling.{told_request, told_work}
-use Rattle.rt_entry.specs.Transition.{is_open}
+use Rattle.rt_world.proofs.KeepsMessages.{request_sent}
 use Rattle.rt_heal.proofs.LessWorld.{put_calm, put_up, IsPut}
-use Rattle.rt_calm.proofs.Keeping.{calm_still, fetches_after, goes_on, keeps_still, keeps_then, servers_up, step_keeps, unplanned_after, IsGoing, KeepsOn}
+use Rattle.rt_heal.proofs.Quiet.{then_parts, told_not, told_same, IsThen}
+use Rattle.rt_calm.specs.Again.{again_entry, again_servers, ahead_still, asked_machines, machine_of, machines_by, machines_in, spent_again, stray_again, IsLeading}
 use Rattle.rt_calm.specs.Ahead.{ahead_in_world, ahead_of, ahead_servers}
-use Rattle.rt_calm.specs.Off.{IsPutOff, IsSuccess, IsTold, PutsOff, Succeeds}
-use Rattle.rt_calm.proofs.Fitting.{hands_out, Fits, HandsOut, Starts}
-use Rattle.rt_calm.proofs.Commits.{commits_within}
-use Rattle.rt_calm.proofs.Paying.{first_pays, job_pays, AfterPays, EndsPaid, IsFirst, Pays}
-use Rattle.rt_calm.proofs.Standing.{answer_falls}
 use Rattle.rt_calm.specs.Commits.{commits_of}
+use Rattle.rt_calm.specs.Off.{IsPutOff, IsSuccess, IsTold, PutsOff, Succeeds, Waits}
 use Rattle.rt_calm.specs.Spent.{Spends}
-use Rattle.rt_calm.proofs.Sums.{put_falls, put_still}
+use Rattle.rt_calm.proofs.Answering.{answer_again, IsWaiting}
+use Rattle.rt_calm.proofs.Commits.{commits_within}
+use Rattle.rt_calm.proofs.Delivered.{HasStarted, IsMoved, IsOwn, IsOwnBy, IsReadable, StatusTells}
+use Rattle.rt_calm.proofs.Fitting.{hands_out, Fits, HandsOut, Starts}
+use Rattle.rt_calm.proofs.Keeping.{calm_still, fetches_after, goes_on, keeps_still, keeps_then, servers_up, step_keeps, unplanned_after, IsGoing, KeepsOn}
+use Rattle.rt_calm.proofs.Leading.{handled_leads, leader_leads, leads_in, leads_put, leads_still, machines_after, worked_leads, worked_machines, KeepsLeads}
+use Rattle.rt_calm.proofs.Machines.{still_turned}
+use Rattle.rt_calm.proofs.Moving.{commit_moves, delivery_moves, machines_at, never_met, stop_moves, DeliveryMoves, IsPlain, MovedSo}
+use Rattle.rt_calm.proofs.Paying.{first_pays, job_pays, AfterPays, IsFirst, Pays, StatusPaid}
+use Rattle.rt_calm.proofs.Settling.{settling_reads, IsSettling}
+use Rattle.rt_calm.proofs.Sharing.{servers_put}
+use Rattle.rt_calm.proofs.Standing.{answer_falls}
+use Rattle.rt_calm.proofs.Sums.{put_falls, put_still, put_sum}
 
 -- ---- the request
 
@@ -145,6 +159,8 @@ record HasAsked (w u : State) (i : Instance) (p : Partition) (q : Sequence) (req
   log : u.log ≡ w.log
   store : u.store ≡ w.store
   deep : u.deep ≡ w.deep
+  controllers : u.controllers ≡ w.controllers
+  setup : u.setup ≡ w.setup
 
 abbrev pub came_sent : ℕ → Request → Outcome
 came_sent m request = came.Sent m request
@@ -194,6 +210,8 @@ has_asked w u i p q request (cost, due, h) = by_server (slice_get w.servers i.0)
               log = ap (λ (x : Next). x.0.log) is;
               store = ap (λ (x : Next). x.0.store) is;
               deep = ap (λ (x : Next). x.0.deep) is;
+              controllers = ap (λ (x : Next). x.0.controllers) is;
+              setup = ap (λ (x : Next). x.0.setup) is;
             }
           where
             some_kind : RequestKind → Option RequestKind
@@ -207,12 +225,12 @@ record IsAsking (u z : State) : Type 0 where
   servers : z.servers ≡ u.servers
 
 asking_on : (u z y : State) (e : Event) (o : Outcome) → IsAsking u z → IsFitting z.setup.schema e → Steps z e y (Ok o) → y.servers ≡ z.servers → y.log ≡ z.log
-    → (z.store.faults.plan ≡ [] → y.store.faults.plan ≡ []) → (z.deep.faults.plan ≡ [] → y.deep.faults.plan ≡ []) → IsAsking u y
-asking_on u z y e o k fits steps servers log plan fetches =
+    → KeepsLeads z y → (z.store.faults.plan ≡ [] → y.store.faults.plan ≡ []) → (z.deep.faults.plan ≡ [] → y.deep.faults.plan ≡ []) → IsAsking u y
+asking_on u z y e o k fits steps servers log leads plan fetches =
     record {
       keeps =
           keeps_then u z y k.keeps
-          (step_keeps z y e o k.keeps.going fits steps log plan fetches (servers_up z y servers) (λ same. calm_still z y servers same));
+          (step_keeps z y e o k.keeps.going fits steps log leads plan fetches (servers_up z y servers) (λ same. calm_still z y servers same));
       servers = servers ∙ k.servers;
     }
 
@@ -303,6 +321,23 @@ delivery_log w v m c o (cost, due, h) = by_found (request_at w m) (slice_get w.c
     by_found None n h = absurd h
     by_found (Some q) None h = absurd h
     by_found (Some q) (Some n) (new, what, store, deep, handles, is) = by_answer (after_step w c n new store deep) what refl is
+
+delivery_leads : (w v : State) (m : ℕ) (c : ControllerId) (o : Outcome) → Steps w (event.Deliver m c) v (Ok o) → KeepsLeads w v
+delivery_leads w v m c o (cost, due, h) = by_found (request_at w m) (slice_get w.controllers c.0) refl h
+  where
+    by_found : (q : Option Request) (n : Option ControllerNode) → slice_get w.controllers c.0 ≡ n → DeliversAt q n w c cost (v, o) → KeepsLeads w v
+    by_found None n at h = absurd h
+    by_found (Some q) None at h = absurd h
+    by_found (Some q) (Some n) at (new, what, store, deep, handles, is) =
+        leads_put w v c n (record n { controller = new }) at
+        (ap (λ (x : Next). x.0.controllers) is ∙ handed_same (after_step w c n new store deep) cost what) refl
+        (handled_leads n.controller q w.moment w.store store w.deep deep new what handles)
+
+job_keeps_leads : (w v : State) (c : ControllerId) (j : ℕ) (o : Outcome) → Steps w (event.Job c j) v (Ok o) → KeepsLeads w v
+job_keeps_leads w v c j o steps =
+    let did = own_step w v c j o steps in
+    leads_put w v c did.node (record did.node { controller = did.new }) did.at did.controllers refl
+    (worked_leads w.store did.store w.deep did.deep did.node.controller did.new j w.moment did.did did.works)
 
 job_log : (w v : State) (c : ControllerId) (j : ℕ) (o : Outcome) → Steps w (event.Job c j) v (Ok o) → v.log ≡ w.log
 job_log w v c j o (cost, due, h) = by_node (slice_get w.controllers c.0) h
@@ -481,57 +516,155 @@ step_behind z y c j q o safe is steps =
 
 -- ---- what a job pays
 
--- a job that is open, and has paid for what it has written since
-record IsPaying (u z : State) (c : ControllerId) (j : ℕ) : Type 0 where
+-- a job that is open, and has paid for what it has written since; and the segment's machine as it started
+record IsPaying (u z : State) (c : ControllerId) (j : ℕ) (q : Request) : Type 0 where
   job : Job
   there : open_job z c j ≡ Some job
   pays : Pays u.setup u.log u.store.writes job.asked z.store.writes job.stage
+  started : IsPlain u q → HasStarted u.store.writes (machines_at u c) (machines_at z c) q
 
-abbrev PaysBehind : State → State → ControllerId → ℕ → Option Replied → Type 0
-PaysBehind u y c j None = IsPaying u y c j
-PaysBehind u y c j (Some r) = EndsPaid u.setup u.log u.store.writes y.store.writes r.status
+-- behind it fewer writes are left, or nothing was written and the segment's machine has moved
+abbrev PaysBehind : State → State → ControllerId → ℕ → Request → Option Replied → Type 0
+PaysBehind u y c j q None = IsPaying u y c j q
+PaysBehind u y c j q (Some r) =
+    Spends u.setup u.log u.store.writes y.store.writes
+    × (IsPlain u q → y.store.writes ≡ u.store.writes → IsMoved u.store.writes (machines_at u c) (machines_at y c) q r.status)
 
-step_pays : (u z y : State) (c : ControllerId) (j : ℕ) (o : Outcome) → KeepsOn u z → KeepsOn u y → IsPaying u z c j → Steps z (event.Job c j) y (Ok o)
-    → PaysBehind u y c j (ended_in o)
-step_pays u z y c j o before behind is steps =
-    subst (λ (x : Outcome). PaysBehind u y c j (ended_in x)) (sym did.told.1) (by_reply did.did.reply did.sends paid)
-  where
-    safe : IsSafeWorld z
-    safe = before.going.safe
+module _ (u z y : State) (c : ControllerId) (j : ℕ) (q : Request) (o : Outcome) (before : KeepsOn u z) (behind : KeepsOn u y) (opened : IsOpenFor z c j q)
+    (is : IsPaying u z c j q) (steps : Steps z (event.Job c j) y (Ok o)) where
+  safe_before : IsSafeWorld z
+  safe_before = before.going.safe
 
-    did : OwnStep z y c j o
-    did = own_step z y c j o steps
+  did : OwnStep z y c j o
+  did = own_step z y c j o steps
 
-    writes : y.store.writes ≡ did.store.writes
-    writes = ap (λ (t : Told). t.writes) did.written
+  abbrev its : WorksOver z.setup (past_of z) z.store did.store z.deep did.deep did.node.controller did.new j did.did
+  its = over z y c j o safe_before did
 
-    few : (p : Partition) → p.0 < u.setup.partitions → commits_of did.store.writes p ≤ length (messages_of u.log p)
-    few p inside =
-        subst (λ (h : List Seen). commits_of h p ≤ length (messages_of u.log p)) writes
-        (subst (λ (l : Log). commits_of y.store.writes p ≤ length (messages_of l p)) behind.log
-        (commits_within y p behind.going.safe (subst (λ (s : Setup). p.0 < s.partitions) (sym behind.setup) inside)))
+  writes : y.store.writes ≡ did.store.writes
+  writes = ap (λ (t : Told). t.writes) did.written
 
-    paid : AfterPays u.setup u.log u.store.writes is.job.asked did.store.writes (job_of did.new j) did.did.reply
-    paid =
-        job_pays u.setup (past_of z) u.log u.store.writes z.store did.store z.deep did.deep did.node.controller did.new j is.job z.moment did.did refl
-        (subst (λ (s : Setup). IsControllerOver s (past_of z) did.node.controller) before.setup (safe.safe.controllers c.0 did.node did.at).over)
-        (versions_count_writes (starting_of z.setup) z.store.writes safe.safe.past.lawful) did.works
-        (ap (λ (n : Option ControllerNode). job_in n j) (sym did.at) ∙ is.there) few is.pays
+  few : (p : Partition) → p.0 < u.setup.partitions → commits_of did.store.writes p ≤ length (messages_of u.log p)
+  few p inside =
+      subst (λ (h : List Seen). commits_of h p ≤ length (messages_of u.log p)) writes
+      (subst (λ (l : Log). commits_of y.store.writes p ≤ length (messages_of l p)) behind.log
+      (commits_within y p behind.going.safe (subst (λ (s : Setup). p.0 < s.partitions) (sym behind.setup) inside)))
 
-    by_reply : (r : Option Reply) → SendsIts z.sent y did.told.0 r
-        → AfterPays u.setup u.log u.store.writes is.job.asked did.store.writes (job_of did.new j) r → PaysBehind u y c j (ending did.told.0 r)
-    by_reply None sends (k, there, own, pays) =
-        subst (PaysBehind u y c j) (sym (no_ending did.told.0))
-        (record {
-          job = k;
-          there = there_then z y c j o safe did ∙ there;
-          pays =
-              subst (λ (a : Asked). Pays u.setup u.log u.store.writes a y.store.writes k.stage) (sym own)
-              (subst (λ (h : List Seen). Pays u.setup u.log u.store.writes is.job.asked h k.stage) (sym writes) pays);
-        })
-    by_reply (Some reply) sends ends =
-        let at : ending did.told.0 (Some reply) ≡ Some (replied (length z.sent) reply) = ap (λ (m : Option ℕ). ending m (Some reply)) sends.0 in
-        subst (PaysBehind u y c j) (sym at) (subst (λ (h : List Seen). EndsPaid u.setup u.log u.store.writes h reply.status) (sym writes) ends)
+  paid : AfterPays u.setup u.log u.store.writes its.job.asked (commits its.job.stage) did.store.writes (job_of did.new j) did.did.reply
+  paid =
+      job_pays u.setup (past_of z) u.log u.store.writes z.store did.store z.deep did.deep did.node.controller did.new j its.job z.moment did.did refl
+      (subst (λ (s : Setup). IsControllerOver s (past_of z) did.node.controller) before.setup (safe_before.safe.controllers c.0 did.node did.at).over)
+      (versions_count_writes (starting_of z.setup) z.store.writes safe_before.safe.past.lawful) did.works its.open_job few
+      (subst (λ (k : Job). Pays u.setup u.log u.store.writes k.asked z.store.writes k.stage) (sym (is_open_job z y c j o safe_before did is.job is.there)) is.pays)
+
+  -- ---- the machines
+
+  machines_before : machines_at z c ≡ did.node.controller.machines
+  machines_before = ap machines_in did.at
+
+  machines_behind : machines_at y c ≡ machines_after (machines_at z c) its.job.asked (commits its.job.stage) did.did.reply
+  machines_behind =
+      ap (λ (cs : List ControllerNode). machines_in (slice_get cs c.0)) did.controllers
+      ∙ ap machines_in (own_slot z.controllers c.0 did.node (record did.node { controller = did.new }) did.at)
+      ∙ worked_machines z.store did.store z.deep did.deep did.node.controller did.new j z.moment did.did did.works its.job its.open_job
+      ∙ ap (λ (ms : List SegmentMachine). machines_after ms its.job.asked (commits its.job.stage) did.did.reply) (sym machines_before)
+
+  own_asked : its.job.asked ≡ asked_of q
+  own_asked = ap (λ (k : Job). k.asked) (is_open_job z y c j o safe_before did opened.job opened.there) ∙ opened.asked
+
+  module _ (plain : IsPlain u q) (same : y.store.writes ≡ u.store.writes) (reply : Reply) where
+    exact : IsExact z.store did.store z.deep did.deep (work_call did.node.controller j z.moment)
+        (worked_on z.store z.deep did.node.controller j z.moment) (record { controller = did.new; step = did.did })
+    exact = told_work z.store did.store z.deep did.deep did.node.controller j z.moment (record { controller = did.new; step = did.did }) did.works
+
+    unmet : MetFault z.store did.store z.deep did.deep → ⊥
+    unmet =
+        never_met z.store did.store z.deep did.deep (work_call did.node.controller j z.moment) exact.store exact.deep (before.unplanned plain.readable.unplanned)
+        (before.fetches plain.readable.fetches)
+
+    one : HaveOneMachine (machines_at z c)
+    one = subst HaveOneMachine (sym machines_before) (safe_before.safe.controllers c.0 did.node did.at).over.one
+
+    right : IsPast u.setup (past_of y)
+    right = subst (λ (s : Setup). IsPast s (past_of y)) behind.setup behind.going.safe.safe.past
+
+    abbrev StatusAt : Bool → Type 0
+    StatusAt commit =
+        StatusSo u.store.writes q.partition q.sequence (MetFault z.store did.store z.deep did.deep) commit did.did.step reply.status
+
+    status_at : StatusSo did.store.writes its.job.asked.partition its.job.asked.sequence (MetFault z.store did.store z.deep did.deep) (commits its.job.stage) did.did.step reply.status
+        → StatusAt (commits its.job.stage)
+    status_at so =
+        subst (λ (h : List Seen). StatusSo h q.partition q.sequence (MetFault z.store did.store z.deep did.deep) (commits its.job.stage) did.did.step reply.status) (sym writes ∙ same)
+        (subst (λ (a : Asked). StatusSo did.store.writes a.partition a.sequence (MetFault z.store did.store z.deep did.deep) (commits its.job.stage) did.did.step reply.status) own_asked so)
+
+    abbrev PaidAt : Bool → Type 0
+    PaidAt commit = StatusPaid u.setup u.log u.store.writes commit u.store.writes reply.status
+
+    paid_at : StatusPaid u.setup u.log u.store.writes (commits its.job.stage) did.store.writes reply.status → PaidAt (commits its.job.stage)
+    paid_at k = subst (λ (h : List Seen). StatusPaid u.setup u.log u.store.writes (commits its.job.stage) h reply.status) (sym writes ∙ same) k
+
+    started : HasStarted u.store.writes (machines_at u c) (machines_at z c) q
+    started = is.started plain
+
+    by_commit : (commit : Bool) → (commit ≡ true → IsOwn u.store.writes q started.moved.machine) → PaidAt commit → StatusAt commit
+        → IsMoved u.store.writes (machines_at u c) (machines_after (machines_at z c) its.job.asked commit (Some reply)) q reply.status
+    by_commit true own k so =
+        commit_moves u.setup u.log u (past_of y) right q plain.within same plain (machines_at u c) (machines_at z c) its.job.asked one started
+        (ap (λ (a : Asked). a.partition) own_asked) (ap (λ (a : Asked). a.sequence) own_asked) (MetFault z.store did.store z.deep did.deep) did.did.step reply.status
+        unmet (own refl) k so
+    by_commit false own k so =
+        stop_moves u.setup u.log u (past_of y) right q plain.within same plain (machines_at u c) (machines_at z c) its.job.asked one started
+        (ap (λ (a : Asked). a.partition) own_asked) (ap (λ (a : Asked). a.sequence) own_asked) (MetFault z.store did.store z.deep did.deep) did.did.step reply.status
+        unmet k so
+
+    -- a commit's request was a CommitEnd
+    own_machine : commits its.job.stage ≡ true → IsOwn u.store.writes q started.moved.machine
+    own_machine commit = by_kind q.kind refl started.own starts
+      where
+        starts : Starts q.offset q.kind its.job.stage
+        starts = subst (λ (k : Job). Starts q.offset q.kind k.stage) (sym (is_open_job z y c j o safe_before did opened.job opened.there)) opened.starts
+
+        by_kind : (k : RequestKind) → q.kind ≡ k → IsOwnBy u.store.writes q started.moved.machine k → Starts q.offset k its.job.stage
+            → IsOwn u.store.writes q started.moved.machine
+        by_kind (kind.CommitEnd path) at own begins = own
+        by_kind kind.Stopped at own begins = absurd (true≢false (sym commit ∙ does_not its.job.stage begins))
+        by_kind (kind.Extend millis) at own begins = absurd (plain.unextended millis at)
+        by_kind (kind.Consumed reason) at own begins = absurd begins
+        by_kind kind.CommitStart at own begins = absurd begins
+        by_kind (kind.Upload path bytes) at own begins = absurd begins
+
+    ended_moves : StatusPaid u.setup u.log u.store.writes (commits its.job.stage) did.store.writes reply.status
+        → StatusSo did.store.writes its.job.asked.partition its.job.asked.sequence (MetFault z.store did.store z.deep did.deep) (commits its.job.stage) did.did.step reply.status
+        → IsMoved u.store.writes (machines_at u c) (machines_after (machines_at z c) its.job.asked (commits its.job.stage) (Some reply)) q reply.status
+    ended_moves k so = by_commit (commits its.job.stage) own_machine (paid_at k) (status_at so)
+
+  step_pays : PaysBehind u y c j q (ended_in o)
+  step_pays =
+      subst (λ (x : Outcome). PaysBehind u y c j q (ended_in x)) (sym did.told.1) (by_reply did.did.reply did.sends paid its.ends machines_behind)
+    where
+      by_reply : (r : Option Reply) → SendsIts z.sent y did.told.0 r
+          → AfterPays u.setup u.log u.store.writes its.job.asked (commits its.job.stage) did.store.writes (job_of did.new j) r
+          → EndsSo did.store.writes its.job.asked.partition its.job.asked.sequence (MetFault z.store did.store z.deep did.deep) (commits its.job.stage) did.did.step r
+          → machines_at y c ≡ machines_after (machines_at z c) its.job.asked (commits its.job.stage) r → PaysBehind u y c j q (ending did.told.0 r)
+      by_reply None sends (k, there, own, pays) so machines =
+          subst (PaysBehind u y c j q) (sym (no_ending did.told.0))
+          (record {
+            job = k;
+            there = there_then z y c j o safe_before did ∙ there;
+            pays =
+                subst (λ (a : Asked). Pays u.setup u.log u.store.writes a y.store.writes k.stage) (sym own)
+                (subst (λ (h : List Seen). Pays u.setup u.log u.store.writes its.job.asked h k.stage) (sym writes) pays);
+            started =
+                λ plain. subst (λ (ms : List SegmentMachine). HasStarted u.store.writes (machines_at u c) ms q) (sym machines) (is.started plain);
+          })
+      by_reply (Some reply) sends ends so machines =
+          let at : ending did.told.0 (Some reply) ≡ Some (replied (length z.sent) reply) = ap (λ (m : Option ℕ). ending m (Some reply)) sends.0 in
+          subst (PaysBehind u y c j q) (sym at) (
+            subst (λ (h : List Seen). Spends u.setup u.log u.store.writes h) (sym writes) ends.0,
+            λ plain same.
+                subst (λ (ms : List SegmentMachine). IsMoved u.store.writes (machines_at u c) ms q reply.status) (sym machines) (ended_moves plain same reply ends.1 so),
+          )
 
 -- ---- a delivery
 
@@ -622,17 +755,18 @@ tells_behind b l v r whole t =
     }
 
 -- the request is answered so, in these turns
-record HasAnswered (u : State) (q : Request) (v : Reached) (r : Replied) : Type 0 where
+record HasAnswered (u : State) (c : ControllerId) (q : Request) (v : Reached) (r : Replied) : Type 0 where
   asking : IsAsking u v.world
   answer : IsAnswer v.world (asked_of q) r
   fits : Fits q.offset q.kind r.status
   wrote : (v.world.store.writes ≡ u.store.writes) ⊎ OffOrSuccess r.status
-  spends : EndsPaid u.setup u.log u.store.writes v.world.store.writes r.status
+  spends : Spends u.setup u.log u.store.writes v.world.store.writes
+  moves : IsPlain u q → v.world.store.writes ≡ u.store.writes → MovedSo u v.world c q r.status
   tells : Tells v r
 
 module _ (u : State) (c : ControllerId) (q : Request) where
   abbrev IsAnswered : Reached → Replied → Type 0
-  IsAnswered v r = HasAnswered u q v r
+  IsAnswered v r = HasAnswered u c q v r
 
   answered_behind : (b l v : Reached) (r : Replied) → v ≡ after b.turns l → IsAnswered l r → IsAnswered v r
   answered_behind b l v r whole k =
@@ -642,16 +776,17 @@ module _ (u : State) (c : ControllerId) (q : Request) where
         answer = subst (λ (x : State). IsAnswer x (asked_of q) r) (sym at) k.answer;
         fits = k.fits;
         wrote = subst (λ (x : State). (x.store.writes ≡ u.store.writes) ⊎ OffOrSuccess r.status) (sym at) k.wrote;
-        spends = subst (λ (x : State). EndsPaid u.setup u.log u.store.writes x.store.writes r.status) (sym at) k.spends;
+        spends = subst (λ (x : State). Spends u.setup u.log u.store.writes x.store.writes) (sym at) k.spends;
+        moves = subst (λ (x : State). IsPlain u q → x.store.writes ≡ u.store.writes → MovedSo u x c q r.status) (sym at) k.moves;
         tells = tells_behind b l v r whole k.tells;
       }
 
-  ends_job : (j left : ℕ) (z : State) (v : Reached) (r : Replied) → IsAsking u z → IsOpenFor z c j q → IsPaying u z c j
+  ends_job : (j left : ℕ) (z : State) (v : Reached) (r : Replied) → IsAsking u z → IsOpenFor z c j q → IsPaying u z c j q
       → EndsJob c j left z v (Ok r) → IsAnswered v r
   ends_job j zero z v r k is pay h = absurd (told_not r (Limit Events) h.1)
   ends_job j (suc left) z v r k is pay h =
       by_step t.told t.last (step_behind z s.between.world c j q s.told k.keeps.going.safe is s.came.by.0)
-      (step_pays u z s.between.world c j s.told k.keeps on_step.keeps pay s.came.by.0) made t.further t.whole
+      (step_pays u z s.between.world c j q s.told k.keeps on_step.keeps is pay s.came.by.0) made t.further t.whole
       (λ l goes paying further. ends_job j left t.between.world l r on goes paying further)
     where
       t : IsThen (MakesStep c j) (AfterStep (EndsJob c j left)) z v r
@@ -669,23 +804,24 @@ module _ (u : State) (c : ControllerId) (q : Request) where
       on_step : IsAsking u s.between.world
       on_step =
           asking_on u z s.between.world (event.Job c j) s.told k tt s.came.by.0 (job_leaves z s.between.world c j s.told s.came.by.0).servers
-          (job_log z s.between.world c j s.told s.came.by.0) (λ none. job_plan z s.between.world c j s.told s.came.by.0 none)
+          (job_log z s.between.world c j s.told s.came.by.0) (job_keeps_leads z s.between.world c j s.told s.came.by.0) (λ none. job_plan z s.between.world c j s.told s.came.by.0 none)
           (λ none. job_fetches z s.between.world c j s.told s.came.by.0 none)
 
       on : IsAsking u t.between.world
       on = subst (IsAsking u) (sym at) on_step
 
-      by_step : (o : Option Replied) (l : Reached) → Behind s.between.world c j q (ended_in s.told) → PaysBehind u s.between.world c j (ended_in s.told)
+      by_step : (o : Option Replied) (l : Reached) → Behind s.between.world c j q (ended_in s.told) → PaysBehind u s.between.world c j q (ended_in s.told)
           → o ≡ ended_in s.told → AfterStep (EndsJob c j left) o t.between.world l (Ok r) → v ≡ after t.between.turns l
-          → ((l : Reached) → IsOpenFor t.between.world c j q → IsPaying u t.between.world c j → EndsJob c j left t.between.world l (Ok r)
+          → ((l : Reached) → IsOpenFor t.between.world c j q → IsPaying u t.between.world c j q → EndsJob c j left t.between.world l (Ok r)
           → IsAnswered l r)
           → IsAnswered v r
       by_step None l behind pays same further whole more =
           answered_behind t.between l v r whole
           (more l (subst (λ (x : State). IsOpenFor x c j q) (sym at) (subst (Behind s.between.world c j q) (sym same) behind))
-          (subst (λ (x : State). IsPaying u x c j) (sym at) (subst (PaysBehind u s.between.world c j) (sym same) pays)) further)
+          (subst (λ (x : State). IsPaying u x c j q) (sym at) (subst (PaysBehind u s.between.world c j q) (sym same) pays)) further)
       by_step (Some x) l behind pays same further whole more =
           let own = subst (Behind s.between.world c j q) (sym same) behind in
+          let paid = subst (PaysBehind u s.between.world c j q) (sym same) pays in
           let is_r : x ≡ r = sym (told_same r x further.1) in
           let end : v.world ≡ t.between.world = ap (λ (y : Reached). y.world) whole ∙ ap (λ (y : Reached). y.world) further.0 in
           let in_turn : Tells s.between x =
@@ -701,9 +837,10 @@ module _ (u : State) (c : ControllerId) (q : Request) where
             answer = subst (λ (y : State). IsAnswer y (asked_of q) x) (sym (end ∙ at)) own.0;
             fits = own.1;
             wrote = inr own.2;
-            spends =
-                subst (λ (y : State). EndsPaid u.setup u.log u.store.writes y.store.writes x.status) (sym (end ∙ at))
-                (subst (PaysBehind u s.between.world c j) (sym same) pays);
+            spends = subst (λ (y : State). Spends u.setup u.log u.store.writes y.store.writes) (sym (end ∙ at)) paid.0;
+            moves =
+                subst (λ (y : State). IsPlain u q → y.store.writes ≡ u.store.writes → MovedSo u y c q x.status) (sym (end ∙ at))
+                (λ plain unwritten. inr (inr (paid.1 plain unwritten)));
             tells = tells_first t.between l v x whole (tells_first s.between s.last t.between x s.whole in_turn);
           })
 
@@ -719,7 +856,11 @@ module _ (u : State) (c : ControllerId) (q : Request) where
           asking_on u u t.between.world (event.Deliver m c) t.told
           (record { keeps = keeps_still u going; servers = refl }) tt t.came.by.0
           (delivery_leaves u t.between.world m c t.told t.came.by.0).servers (delivery_log u t.between.world m c t.told t.came.by.0)
+          (delivery_leads u t.between.world m c t.told t.came.by.0)
           (λ none. delivery_plan u t.between.world m c t.told t.came.by.0 none) (λ none. delivery_fetches u t.between.world m c t.told t.came.by.0 none)
+
+      moved : IsPlain u q → DeliveryMoves u t.between.world c q (delivered_in t.told)
+      moved plain = delivery_moves u t.between.world m c q t.told going.safe asks t.came.by.0 plain
 
       by_delivered : (d : Delivered) → delivered_in t.told ≡ d → DeliversSo t.between.world c q d → (l : Reached) → AfterDelivery c d t.between.world l (Ok r)
           → v ≡ after t.between.turns l → IsAnswered v r
@@ -732,7 +873,10 @@ module _ (u : State) (c : ControllerId) (q : Request) where
             answer = subst (λ (y : State). IsAnswer y (asked_of q) x) (sym end) so.0;
             fits = so.1;
             wrote = inl (ap (λ (y : State). y.store.writes) end ∙ delivery_writes u t.between.world m c t.told t.came.by.0);
-            spends = inr (inl (ap (λ (y : State). y.store.writes) end ∙ delivery_writes u t.between.world m c t.told t.came.by.0));
+            spends = inl (ap (λ (y : State). y.store.writes) end ∙ delivery_writes u t.between.world m c t.told t.came.by.0);
+            moves =
+                subst (λ (y : State). IsPlain u q → y.store.writes ≡ u.store.writes → MovedSo u y c q x.status) (sym end)
+                (λ plain unwritten. subst (DeliveryMoves u t.between.world c q) same (moved plain));
             tells =
                 tells_first t.between l v x whole
                 (record {
@@ -750,6 +894,7 @@ module _ (u : State) (c : ControllerId) (q : Request) where
             pays =
                 first_pays u.setup u.log u.store.writes t.between.world.store.writes so.0.job.asked so.0.job.stage so.1
                 (delivery_writes u t.between.world m c t.told t.came.by.0);
+            started = λ plain. subst (DeliveryMoves u t.between.world c q) same (moved plain);
           }) further)
       by_delivered delivered.Neither same so l further whole = absurd (told_not r NothingToDo further.1)
 
@@ -771,6 +916,7 @@ record HasTaken (z y : State) (i : Instance) (p : Partition) (q : Sequence) (nod
   log : y.log ≡ z.log
   store : y.store ≡ z.store
   deep : y.deep ≡ z.deep
+  controllers : y.controllers ≡ z.controllers
 
 takes : (z y : State) (m : ℕ) (o : Outcome) (i : Instance) (p : Partition) (q : Sequence) (node : ServerNode) (r : Consumer) (reply : Reply)
     → reply_at z m ≡ Some reply → reply.number.instance.0 ≡ i.0 → reply.partition ≡ p → reply.sequence ≡ q → slice_get z.servers i.0 ≡ Some node
@@ -800,6 +946,7 @@ takes z y m o i p q node r reply there place of_p of_q stands found (cost, due, 
           log = ap (λ (x : State). x.log) is;
           store = ap (λ (x : State). x.store) is;
           deep = ap (λ (x : State). x.deep) is;
+          controllers = ap (λ (x : State). x.controllers) is;
         }
 
 -- ---- an exchange
@@ -822,57 +969,59 @@ told_behind P b l v whole x =
 abbrev pub Wrote : State → Reached → Type 0
 Wrote w v = (v.world.store.writes ≡ w.store.writes) ⊎ PutsOff v ⊎ Succeeds v
 
--- it puts its replica off, or leaves fewer writes if it writes anything
-abbrev pub OffOrSpent : State → Reached → Type 0
-OffOrSpent w v = PutsOff v ⊎ Spends w.setup w.log w.store.writes v.world.store.writes
+-- where it writes nothing, and nobody is told HOLD or NOT_LEADER, less lies ahead and may lie ahead again
+abbrev pub WaitsOrLess : State → Reached → Type 0
+WaitsOrLess w v = IsSettling w → v.world.store.writes ≡ w.store.writes → Waits w v ⊎ (ahead_still v.world < ahead_still w)
 
 -- and the run goes on
 pub record HasExchanged (w : State) (v : Reached) : Type 0 where
   pub on : KeepsOn w v.world
   pub less : OffOrLess w v
   pub wrote : Wrote w v
-  pub spends : OffOrSpent w v
+  pub spends : Spends w.setup w.log w.store.writes v.world.store.writes
+  pub still : WaitsOrLess w v
 
-pub exchanged_behind : (w : State) (b l v : Reached) → v ≡ after b.turns l → HasExchanged w l → HasExchanged w v
-exchanged_behind w b l v whole x =
-    record { on = subst (KeepsOn w) (sym at) x.on; less = by_less x.less; wrote = by_wrote x.wrote; spends = by_spent x.spends }
+pub waits_behind : (w m : State) (b l v : Reached) → (IsLeading w → IsLeading m) → v ≡ after b.turns l → Waits m l → Waits w v
+waits_behind w m b l v leading whole (inl held) = inl (told_behind (λ s. s ≡ status.Hold) b l v whole held)
+waits_behind w m b l v leading whole (inr (away, none)) =
+    inr (told_behind (λ s. s ≡ status.NotLeader) b l v whole away, λ k. none (leading k))
+
+pub waits_first : (w : State) (b l v : Reached) → v ≡ after b.turns l → Waits w b → Waits w v
+waits_first w b l v whole (inl held) = inl (told_first (λ s. s ≡ status.Hold) b l v whole held)
+waits_first w b l v whole (inr (away, none)) = inr (told_first (λ s. s ≡ status.NotLeader) b l v whole away, none)
+
+-- the same in these turns and others
+exchanged_as : (w : State) (l v : Reached) → v.world ≡ l.world → ((P : ReplyStatus → Type 0) → IsTold P l → IsTold P v) → HasExchanged w l → HasExchanged w v
+exchanged_as w l v at told x =
+    record {
+      on = subst (KeepsOn w) (sym at) x.on;
+      less = by_less x.less;
+      wrote = by_wrote x.wrote;
+      spends = subst (λ (y : State). Spends w.setup w.log w.store.writes y.store.writes) (sym at) x.spends;
+      still = λ settling same. by_still (x.still settling (ap (λ (y : State). y.store.writes) (sym at) ∙ same));
+    }
   where
-    at : v.world ≡ l.world
-    at = ap (λ (y : Reached). y.world) whole
-
     by_less : OffOrLess w l → OffOrLess w v
-    by_less (inl off) = inl (told_behind IsPutOff b l v whole off)
+    by_less (inl off) = inl (told IsPutOff off)
     by_less (inr less) = inr (subst (λ (y : State). ahead_in_world y < ahead_in_world w) (sym at) less)
 
     by_wrote : Wrote w l → Wrote w v
     by_wrote (inl same) = inl (ap (λ (y : State). y.store.writes) at ∙ same)
-    by_wrote (inr (inl off)) = inr (inl (told_behind IsPutOff b l v whole off))
-    by_wrote (inr (inr done)) = inr (inr (told_behind IsSuccess b l v whole done))
+    by_wrote (inr (inl off)) = inr (inl (told IsPutOff off))
+    by_wrote (inr (inr done)) = inr (inr (told IsSuccess done))
 
-    by_spent : OffOrSpent w l → OffOrSpent w v
-    by_spent (inl off) = inl (told_behind IsPutOff b l v whole off)
-    by_spent (inr spent) = inr (subst (λ (y : State). Spends w.setup w.log w.store.writes y.store.writes) (sym at) spent)
+    by_still : Waits w l ⊎ (ahead_still l.world < ahead_still w) → Waits w v ⊎ (ahead_still v.world < ahead_still w)
+    by_still (inl (inl held)) = inl (inl (told (λ s. s ≡ status.Hold) held))
+    by_still (inl (inr (away, none))) = inl (inr (told (λ s. s ≡ status.NotLeader) away, none))
+    by_still (inr less) = inr (subst (λ (y : State). ahead_still y < ahead_still w) (sym at) less)
+
+pub exchanged_behind : (w : State) (b l v : Reached) → v ≡ after b.turns l → HasExchanged w l → HasExchanged w v
+exchanged_behind w b l v whole x = exchanged_as w l v (ap (λ (y : Reached). y.world) whole) (λ P told. told_behind P b l v whole told) x
 
 -- nothing comes behind it
 pub exchanged_before : (w : State) (b l : Reached) → l ≡ after b.turns (stays b.world) → HasExchanged w b → HasExchanged w l
 exchanged_before w b l whole x =
-    record { on = subst (KeepsOn w) (sym at) x.on; less = by_less x.less; wrote = by_wrote x.wrote; spends = by_spent x.spends }
-  where
-    at : l.world ≡ b.world
-    at = ap (λ (y : Reached). y.world) whole
-
-    by_less : OffOrLess w b → OffOrLess w l
-    by_less (inl off) = inl (told_first IsPutOff b (stays b.world) l whole off)
-    by_less (inr less) = inr (subst (λ (y : State). ahead_in_world y < ahead_in_world w) (sym at) less)
-
-    by_wrote : Wrote w b → Wrote w l
-    by_wrote (inl same) = inl (ap (λ (y : State). y.store.writes) at ∙ same)
-    by_wrote (inr (inl off)) = inr (inl (told_first IsPutOff b (stays b.world) l whole off))
-    by_wrote (inr (inr done)) = inr (inr (told_first IsSuccess b (stays b.world) l whole done))
-
-    by_spent : OffOrSpent w b → OffOrSpent w l
-    by_spent (inl off) = inl (told_first IsPutOff b (stays b.world) l whole off)
-    by_spent (inr spent) = inr (subst (λ (y : State). Spends w.setup w.log w.store.writes y.store.writes) (sym at) spent)
+    exchanged_as w b l (ap (λ (y : Reached). y.world) whole) (λ P told. told_first P b (stays b.world) l whole told) x
 
 -- a replica that asks isn't told of a commit yet
 asks_open_at : (name : List ℕ) (number : RequestNumber) (stage : Stage) (k : RequestKind) → kind_at name number stage ≡ Some k
@@ -893,8 +1042,36 @@ asks_open name number (phase.Discarded d) k asks = refl
 asks_open name number (phase.Retained kept) k asks = absurd (none-some k asks)
 asks_open name number (phase.Committed kept) k asks = absurd (none-some k asks)
 
+-- it asks for no more time
+not_extended : (k l : RequestKind) (millis : ℕ) → Some k ≡ Some l → (k ≡ kind.Extend millis → ⊥) → l ≡ kind.Extend millis → ⊥
+not_extended k l millis same other is = other (same_Some k l same ∙ is)
+
+asks_no_time_at : (name : List ℕ) (number : RequestNumber) (stage : Stage) (k : RequestKind) (millis : ℕ) → kind_at name number stage ≡ Some k
+    → k ≡ kind.Extend millis → ⊥
+asks_no_time_at name number (Holding reason) k millis asks is = not_extended (kind.Consumed reason) k millis asks (λ e. cc) is
+asks_no_time_at name number (Starting reason built) k millis asks is = not_extended kind.CommitStart k millis asks (λ e. cc) is
+asks_no_time_at name number (Uploading reason built) k millis asks is = not_extended (kind.Upload (upload_path name number) (file_of built)) k millis asks (λ e. cc) is
+asks_no_time_at name number (Ending reason built path) k millis asks is = not_extended (kind.CommitEnd path) k millis asks (λ e. cc) is
+asks_no_time_at name number InitialConsuming k millis asks is = none-some k asks
+asks_no_time_at name number (CatchingUp target reason) k millis asks is = none-some k asks
+asks_no_time_at name number (ConsumingToOnline end done) k millis asks is = none-some k asks
+asks_no_time_at name number (Retaining done) k millis asks is = none-some k asks
+asks_no_time_at name number (Building reason) k millis asks is = none-some k asks
+
+asks_no_time : (name : List ℕ) (number : RequestNumber) (ph : Phase) (k : RequestKind) (millis : ℕ) → kind_in name number ph ≡ Some k
+    → k ≡ kind.Extend millis → ⊥
+asks_no_time name number (phase.Unsealed o) k millis asks is = asks_no_time_at name number o.stage k millis asks is
+asks_no_time name number (phase.Discarded d) k millis asks is = by_stop d.stopped asks
+  where
+    by_stop : (b : Bool) → cond b (Some kind.Stopped) None ≡ Some k → ⊥
+    by_stop true e = not_extended kind.Stopped k millis e (λ f. cc) is
+    by_stop false e = none-some k e
+asks_no_time name number (phase.Retained kept) k millis asks is = none-some k asks
+asks_no_time name number (phase.Committed kept) k millis asks is = none-some k asks
+
 module _ (w u : State) (i : Instance) (p : Partition) (q : Sequence) (request : Request) (asked : HasAsked w u i p q request)
-    (segment : (request.partition ≡ p) × (request.sequence ≡ q)) (own : request.number.instance.0 ≡ i.0) where
+    (segment : (request.partition ≡ p) × (request.sequence ≡ q)) (own : request.number.instance.0 ≡ i.0) (c : ControllerId) (led : leader_in w ≡ Some c)
+    (going : IsGoing w) (within : request.partition.0 < w.setup.partitions) where
   abbrev waiting : Consumer
   waiting = record asked.replica { waited = Some (Step request.number) }
 
@@ -904,8 +1081,8 @@ module _ (w u : State) (i : Instance) (p : Partition) (q : Sequence) (request : 
       put_still w u i.0 asked.old asked.new p q asked.replica waiting
       (record { there = asked.at; found = asked.found; table = asked.table; servers = asked.servers; log = asked.log }) refl
 
-  asked_keeps : (o : Outcome) → IsGoing w → Steps w (event.Report i p q) u (Ok o) → KeepsOn w u
-  asked_keeps o going steps =
+  asked_keeps : (o : Outcome) → Steps w (event.Report i p q) u (Ok o) → KeepsOn w u
+  asked_keeps o steps =
       let put : IsPut w u i.0 asked.old asked.new p q asked.replica waiting =
       record {
         there = asked.at;
@@ -917,7 +1094,7 @@ module _ (w u : State) (i : Instance) (p : Partition) (q : Sequence) (request : 
         log = asked.log;
         shut = λ shut. shut;
       } in
-      step_keeps w u (event.Report i p q) o going tt steps asked.log (λ none. ap (λ (t : Told). t.faults.plan) asked.store ∙ none)
+      step_keeps w u (event.Report i p q) o going tt steps asked.log (leads_still w u asked.controllers) (λ none. ap (λ (t : Told). t.faults.plan) asked.store ∙ none)
       (λ none. ap (λ (d : ToldDeep). d.faults.plan) asked.deep ∙ none)
       (put_up w u i.0 asked.old asked.new p q asked.replica waiting put)
       (λ same. put_calm w u i.0 asked.old asked.new p q asked.replica waiting put asked.store)
@@ -926,7 +1103,50 @@ module _ (w u : State) (i : Instance) (p : Partition) (q : Sequence) (request : 
   waits_there =
       ap (λ (t : Segments). replica_of t p q) asked.table ∙ replica_put asked.old.server.table p q asked.replica waiting asked.found
 
-  module _ (b : Reached) (r : Replied) (k : HasAnswered u request b r) where
+  -- ---- what may lie ahead again
+
+  abbrev h : List Seen
+  h = w.store.writes
+
+  -- the replica by its request's segment
+  found_own : replica_of asked.old.server.table request.partition request.sequence ≡ Some asked.replica
+  found_own =
+      ap (λ (x : Partition). replica_of asked.old.server.table x request.sequence) segment.0
+      ∙ ap (λ (x : Sequence). replica_of asked.old.server.table p x) segment.1 ∙ asked.found
+
+  put_own : (t : Segments) (e : Entry) → put_back t p q e ≡ put_back t request.partition request.sequence e
+  put_own t e =
+      ap (λ (x : Partition). put_back t x q e) (sym segment.0) ∙ ap (λ (x : Sequence). put_back t request.partition x e) (sym segment.1)
+
+  -- the request leaves no more
+  asked_again : (ms : List SegmentMachine) → again_servers h ms 0 u.servers ≤ again_servers h ms 0 w.servers
+  asked_again ms =
+      let put =
+      servers_put h ms ms request.number.instance request.partition request.sequence
+      (record {
+        machine = machine_of ms request.partition request.sequence;
+        left = machine_of ms request.partition request.sequence;
+        turned = still_turned ms request.partition request.sequence;
+        waits = λ j stage x other is. is;
+        spent = omega arith;
+      })
+      0 i.0 w.servers asked.old asked.new asked.replica waiting (omega (arith, own)) asked.at (going.safe.safe.servers i.0 asked.old asked.at).over.kept.ascending
+      found_own (asked.table ∙ put_own asked.old.server.table (Replica waiting)) in
+      omega (arith, put, ap (again_servers h ms 0) asked.servers)
+
+  settling_plain : IsSettling w → IsPlain u request
+  settling_plain s =
+      record {
+        within = subst (λ (x : Setup). request.partition.0 < x.partitions) (sym asked.setup) within;
+        readable =
+            subst (λ (t : Told). IsReadable t u.deep request.partition request.sequence) (sym asked.store)
+            (subst (λ (d : ToldDeep). IsReadable w.store d request.partition request.sequence) (sym asked.deep)
+            (settling_reads w s i asked.old request.partition request.sequence asked.replica asked.at found_own
+            (asks_open asked.replica.name request.number asked.replica.phase request.kind asked.kind) within));
+        unextended = λ millis is. asks_no_time asked.replica.name request.number asked.replica.phase request.kind millis asked.kind is;
+      }
+
+  module _ (b : Reached) (r : Replied) (k : HasAnswered u c request b r) where
     stands : slice_get b.world.servers i.0 ≡ Some asked.new
     stands =
         ap (λ (ns : List ServerNode). slice_get ns i.0) (k.asking.servers ∙ asked.servers)
@@ -956,6 +1176,80 @@ module _ (w u : State) (i : Instance) (p : Partition) (q : Sequence) (request : 
           takes b.world y r.message o i p q asked.new waiting k.answer.reply k.answer.there
           (ap (λ (n : RequestNumber). n.instance.0) k.answer.number ∙ own) (k.answer.partition ∙ segment.0) (k.answer.sequence ∙ segment.1) stands waits_there steps
 
+      -- the machine that has moved leaves less ahead, now and again
+      module _ (settling : IsSettling w) (same : b.world.store.writes ≡ u.store.writes)
+          (moved : IsMoved u.store.writes (machines_at u c) (machines_at b.world c) request r.status) where
+        abbrev ms : List SegmentMachine
+        ms = machines_at u c
+
+        abbrev ns : List SegmentMachine
+        ns = machines_at b.world c
+
+        abbrev next : Consumer
+        next = turned waiting (answered waiting.phase k.answer.reply.status)
+
+        abbrev again_of : List SegmentMachine → Consumer → ℕ
+        again_of ls x = again_entry u.store.writes ls request.number.instance.0 (request.partition, request.sequence) (Replica x)
+
+        -- of the replica itself
+        own_less : IsWaiting r.status ⊎ (ahead_of b.world.log next + again_of ns next < ahead_of b.world.log waiting + again_of ms waiting)
+        own_less =
+            by_way (answer_again u.store.writes request moved.moved.machine moved.moved.left moved.moved.spent b.world.log waiting request.number asked.kind asked.offset
+            k.answer.reply.status (subst (λ (s : ReplyStatus). Fits (cur asked.replica) request.kind s) k.answer.status (subst (λ (x : Offset). Fits x request.kind r.status) asked.offset k.fits))
+            (subst (StatusTells u.store.writes request moved.moved.machine moved.moved.left) k.answer.status moved.tells))
+          where
+            again_by_machine : Option Completion → Consumer → ℕ
+            again_by_machine m x =
+                spent_again u.store.writes request.partition request.sequence m + stray_again m request.number.instance.0 x.phase
+
+            by_way : IsWaiting k.answer.reply.status
+                ⊎ (ahead_of b.world.log next + again_by_machine moved.moved.left next < ahead_of b.world.log waiting + again_by_machine moved.moved.machine waiting)
+                → IsWaiting r.status ⊎ (ahead_of b.world.log next + again_of ns next < ahead_of b.world.log waiting + again_of ms waiting)
+            by_way (inl off) = inl (subst IsWaiting (sym k.answer.status) off)
+            by_way (inr less) =
+                inr (omega (
+                  arith,
+                  less,
+                  ap (λ (m : Option Completion). again_by_machine m next) moved.moved.turned.behind,
+                  ap (λ (m : Option Completion). again_by_machine m waiting) moved.moved.turned.before,
+                ))
+
+        moved_less : IsWaiting r.status ⊎ (ahead_in_world y + again_servers u.store.writes ns 0 y.servers < ahead_in_world w + again_servers u.store.writes ms 0 w.servers)
+        moved_less = by_own own_less
+          where
+            by_own : IsWaiting r.status ⊎ (ahead_of b.world.log next + again_of ns next < ahead_of b.world.log waiting + again_of ms waiting)
+                → IsWaiting r.status
+                ⊎ (ahead_in_world y + again_servers u.store.writes ns 0 y.servers < ahead_in_world w + again_servers u.store.writes ms 0 w.servers)
+            by_own (inl off) = inl off
+            by_own (inr less) =
+                let table = subst (λ (x : Consumer). taken.new.server.table ≡ put_back asked.new.server.table request.partition request.sequence (Replica x)) turns_so
+                (taken.table ∙ put_own asked.new.server.table (Replica (answered_by waiting k.answer.reply))) in
+                let waits_own : replica_of asked.new.server.table request.partition request.sequence ≡ Some waiting =
+                ap (λ (x : Partition). replica_of asked.new.server.table x request.sequence) segment.0
+                ∙ ap (λ (x : Sequence). replica_of asked.new.server.table p x) segment.1 ∙ waits_there in
+                let put =
+                servers_put u.store.writes ms ns request.number.instance request.partition request.sequence moved.moved 0 i.0 b.world.servers asked.new taken.new waiting next
+                (omega (arith, own)) stands (k.asking.keeps.going.safe.safe.servers i.0 asked.new stands).over.kept.ascending waits_own table in
+                let sum =
+                put_sum b.world y i.0 asked.new taken.new p q waiting next
+                (record {
+                  there = stands;
+                  found = waits_there;
+                  table = subst (λ (x : Consumer). taken.new.server.table ≡ put_back asked.new.server.table p q (Replica x)) turns_so taken.table;
+                  servers = taken.servers;
+                  log = taken.log;
+                }) in
+                inr (omega (
+                  arith,
+                  less,
+                  put,
+                  sum,
+                  before,
+                  ap (again_servers u.store.writes ns 0) taken.servers,
+                  ap (again_servers u.store.writes ms 0) k.asking.servers,
+                  subst (λ (g : List Seen). again_servers g ms 0 u.servers ≤ again_servers g ms 0 w.servers) (sym (ap (λ (t : Told). t.writes) asked.store)) (asked_again ms),
+                ))
+
       taken_less : IsPutOff r.status ⊎ (ahead_in_world y < ahead_in_world w)
       taken_less = by_way falls
         where
@@ -982,7 +1276,7 @@ module _ (w u : State) (i : Instance) (p : Partition) (q : Sequence) (request : 
             log = taken.log;
             shut = λ shut. absurd (true≢false (sym (asks_open waiting.name request.number waiting.phase request.kind asked.kind) ∙ shut));
           } in
-          step_keeps b.world y (event.Reply r.message) o k.asking.keeps.going tt steps taken.log (λ none. ap (λ (t : Told). t.faults.plan) taken.store ∙ none)
+          step_keeps b.world y (event.Reply r.message) o k.asking.keeps.going tt steps taken.log (leads_still b.world y taken.controllers) (λ none. ap (λ (t : Told). t.faults.plan) taken.store ∙ none)
           (λ none. ap (λ (d : ToldDeep). d.faults.plan) taken.deep ∙ none)
           (put_up b.world y i.0 asked.new taken.new p q waiting (answered_by waiting k.answer.reply) put)
           (λ same. put_calm b.world y i.0 asked.new taken.new p q waiting (answered_by waiting k.answer.reply) put taken.store)
@@ -1007,16 +1301,70 @@ module _ (w u : State) (i : Instance) (p : Partition) (q : Sequence) (request : 
         wrote_so (inr (inl off)) e = inr (inl (is_told IsPutOff off))
         wrote_so (inr (inr done)) e = inr (inr (is_told IsSuccess done))
 
-        spent_so : EndsPaid u.setup u.log u.store.writes b.world.store.writes r.status → v.world ≡ t.between.world → OffOrSpent w v
-        spent_so (inl off) e = inl (is_told IsPutOff off)
-        spent_so (inr spent) e =
+        spent_so : Spends u.setup u.log u.store.writes b.world.store.writes → v.world ≡ t.between.world
+            → Spends w.setup w.log w.store.writes v.world.store.writes
+        spent_so spent e =
             let now : v.world.store.writes ≡ b.world.store.writes =
             ap (λ (y : State). y.store.writes) e ∙ ap (λ (y : Told). y.writes) (taken t.between.world t.told t.came.by.0).store in
-            inr
             (subst (λ (h : List Seen). Spends w.setup w.log w.store.writes h) (sym now)
             (subst (λ (h : List Seen). Spends w.setup w.log h b.world.store.writes) (ap (λ (y : Told). y.writes) asked.store)
             (subst (λ (l : Log). Spends w.setup l u.store.writes b.world.store.writes) asked.log
             (subst (λ (s : Setup). Spends s u.log u.store.writes b.world.store.writes) first.setup spent))))
+
+        still_so : KeepsOn w v.world → v.world ≡ t.between.world → WaitsOrLess w v
+        still_so on e settling unwritten =
+            by_moved (k.moves (settling_plain settling) (sym at ∙ unwritten ∙ sym (ap (λ (y : Told). y.writes) asked.store)))
+          where
+            at : v.world.store.writes ≡ b.world.store.writes
+            at = ap (λ (y : State). y.store.writes) e ∙ ap (λ (y : Told). y.writes) (taken t.between.world t.told t.came.by.0).store
+
+            waits : IsWaiting r.status → (r.status ≡ status.NotLeader → IsLeading w → ⊥) → Waits w v
+            waits (inl hold) none = inl (is_told (λ s. s ≡ status.Hold) hold)
+            waits (inr away) none = inr (is_told (λ s. s ≡ status.NotLeader) away, none away)
+
+            -- the machines of the controller that is asked
+            machines_now : asked_machines v.world ≡ machines_at b.world c
+            machines_now =
+                ap (machines_by v.world.controllers) (on.leads.leader ∙ led)
+                ∙ ap (λ (y : State). machines_at y c) e
+                ∙ ap (λ (cs : List ControllerNode). machines_in (slice_get cs c.0)) (taken t.between.world t.told t.came.by.0).controllers
+
+            machines_then : asked_machines w ≡ machines_at u c
+            machines_then =
+                ap (machines_by w.controllers) led ∙ ap (λ (cs : List ControllerNode). machines_in (slice_get cs c.0)) (sym asked.controllers)
+
+            writes_now : v.world.store.writes ≡ u.store.writes
+            writes_now = unwritten ∙ sym (ap (λ (y : Told). y.writes) asked.store)
+
+            still_now : ahead_still v.world
+                ≡ ahead_in_world t.between.world + again_servers u.store.writes (machines_at b.world c) 0 t.between.world.servers
+            still_now =
+                ap (λ (g : List Seen). ahead_in_world v.world + again_servers g (asked_machines v.world) 0 v.world.servers) writes_now
+                ∙ ap (λ (ls : List SegmentMachine). ahead_in_world v.world + again_servers u.store.writes ls 0 v.world.servers) machines_now
+                ∙ ap (λ (y : State). ahead_in_world y + again_servers u.store.writes (machines_at b.world c) 0 y.servers) e
+
+            still_then : ahead_still w ≡ ahead_in_world w + again_servers u.store.writes (machines_at u c) 0 w.servers
+            still_then =
+                ap (λ (g : List Seen). ahead_in_world w + again_servers g (asked_machines w) 0 w.servers) (sym (ap (λ (y : Told). y.writes) asked.store))
+                ∙ ap (λ (ls : List SegmentMachine). ahead_in_world w + again_servers u.store.writes ls 0 w.servers) machines_then
+
+            by_less : (r.status ≡ status.NotLeader → IsLeading w → ⊥)
+                → IsWaiting r.status ⊎ (ahead_in_world t.between.world + again_servers u.store.writes (machines_at b.world c) 0 t.between.world.servers < ahead_in_world w + again_servers u.store.writes (machines_at u c) 0 w.servers)
+                → Waits w v ⊎ (ahead_still v.world < ahead_still w)
+            by_less none (inl off) = inl (waits off none)
+            by_less none (inr less) = inr (omega (arith, less, still_now, still_then))
+
+            by_moved : MovedSo u b.world c request r.status → Waits w v ⊎ (ahead_still v.world < ahead_still w)
+            by_moved (inl hold) = inl (inl (is_told (λ s. s ≡ status.Hold) hold))
+            by_moved (inr (inl (away, apart))) =
+                inl (inr (
+                  is_told (λ s. s ≡ status.NotLeader) away,
+                  λ leading. true≢false
+                      (sym (leader_leads w c leading led) ∙ ap (λ (cs : List ControllerNode). leads_in (slice_get cs c.0)) (sym asked.controllers) ∙ apart),
+                ))
+            by_moved (inr (inr moved)) =
+                by_less (λ away. absurd (subst (StatusTells u.store.writes request moved.moved.machine moved.moved.left) away moved.tells))
+                (moved_less t.between.world t.told t.came.by.0 settling (sym at ∙ writes_now) moved)
 
         by_less : (y : State) → IsPutOff r.status ⊎ (ahead_in_world t.between.world < ahead_in_world w) → y ≡ t.between.world
             → PutsOff v ⊎ (ahead_in_world y < ahead_in_world w)
@@ -1035,16 +1383,17 @@ module _ (w u : State) (i : Instance) (p : Partition) (q : Sequence) (request : 
               less = by_less v.world (taken_less t.between.world t.told t.came.by.0) end;
               wrote = wrote_so k.wrote end;
               spends = spent_so k.spends end;
+              still = still_so (subst (KeepsOn w) (sym end) kept) end;
             }
 
 -- a request that was sent is answered, and the answer taken
 pub finishes : (w u : State) (i : Instance) (p : Partition) (q : Sequence) (c : ControllerId) (o : Outcome) (v : Reached) (x : Exchanged) → IsGoing w
-    → Steps w (event.Report i p q) u (Ok o) → AfterReport c o u v (Ok x) → HasExchanged w v
-finishes w u i p q c o v x going steps h =
+    → leader_in w ≡ Some c → Steps w (event.Report i p q) u (Ok o) → AfterReport c o u v (Ok x) → HasExchanged w v
+finishes w u i p q c o v x going led steps h =
     let sent_so = then_parts (Handles c m) (TakesAnswer m) u v x (subst (λ (y : Outcome). AfterReport c y u v (Ok x)) its.told h) in
-    takes_answer w u i p q its.request asked its.segment its.instance sent_so.between sent_so.told
-    (handles u c its.request m sent_so.between sent_so.told (goes_on w u (event.Report i p q) o going tt steps) its.there sent_so.came) m sent_so.last v x
-    (asked_keeps w u i p q its.request asked its.segment its.instance o going steps) sent_so.whole sent_so.further
+    takes_answer w u i p q its.request asked its.segment its.instance c led going within sent_so.between sent_so.told
+    (handles u c its.request m sent_so.between sent_so.told going_on its.there sent_so.came) m sent_so.last v x
+    (asked_keeps w u i p q its.request asked its.segment its.instance c led going within o steps) sent_so.whole sent_so.further
   where
     its : IsRequested w u i p q o
     its = requested w u i p q o going.safe steps
@@ -1054,3 +1403,11 @@ finishes w u i p q c o v x going steps h =
 
     asked : HasAsked w u i p q its.request
     asked = has_asked w u i p q its.request (subst (λ (y : Outcome). Steps w (event.Report i p q) u (Ok y)) its.told steps)
+
+    going_on : IsGoing u
+    going_on = goes_on w u (event.Report i p q) o going tt steps
+
+    within : its.request.partition.0 < w.setup.partitions
+    within =
+        subst (λ (x : Setup). its.request.partition.0 < x.partitions) asked.setup
+        (going_on.safe.safe.past.requests its.request (request_sent u m its.request its.there)).partition

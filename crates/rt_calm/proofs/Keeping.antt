@@ -1,7 +1,7 @@
--- What turns leave as they go on: the log, a history that has grown, and a steady world where nothing was written.
+-- What turns leave as they go on: the log, a history that has grown, who leads, and a steady world where nothing was written.
 use Rattle.std.proofs.Common.{◌≡◌, List, [], ◌∷◌, ◌++◌, length, Ok, refl, sym, ◌∙◌, ap, subst, arith, slice_get}
 use Rattle.std.proofs.lemmas.List.{append-nil, length-append}
-use Rattle.rt_commit.specs.Calls.{Call, calls_nothing, creates, gets, puts, reads, sets}
+use Rattle.rt_commit.specs.Calls.{calls_nothing, creates, gets, puts, reads, sets, Call}
 use Rattle.rt_commit.specs.Told.{deep_after, store_after, ToldDeep}
 use Rattle.rt_events.specs.Fits.{Fits as IsFitting}
 use Rattle.rt_events.specs.declared.event.Event.{Event}
@@ -10,8 +10,8 @@ use Rattle.rt_lists.specs.Members.{IsFront}
 use Rattle.rt_lists.proofs.Members.{front_same, front_then}
 use Rattle.rt_model.specs.declared.node.Seen.{Seen}
 use Rattle.rt_nodes.specs.declared.server_node.ServerNode.{ServerNode}
-use Rattle.rt_safety.proofs.Runs.{leads_add, leads_safe}
 use Rattle.rt_safety.specs.Runs.{happens, Leads, Turn}
+use Rattle.rt_safety.proofs.Runs.{leads_add, leads_safe}
 use Rattle.rt_state.specs.IsSafeWorld.{IsSafeWorld}
 use Rattle.rt_state.specs.declared.state.State.{State}
 use Rattle.rt_store.specs.Meaning.{Told}
@@ -23,6 +23,7 @@ use Rattle.rt_heal.proofs.Dropped.{leads_told, IsToldRightly}
 use Rattle.rt_heal.proofs.Following.{all_follow}
 use Rattle.rt_heal.proofs.LessRounds.{IsSteady}
 use Rattle.rt_heal.proofs.Seeing.{plan_met}
+use Rattle.rt_calm.proofs.Leading.{leads_still, leads_then as keeps_leading, KeepsLeads}
 
 -- ---- worlds of a run
 
@@ -51,7 +52,7 @@ none_of [] e = refl
 none_of (x ∷ xs) e = absurd (omega (arith, e))
 
 -- what lies between two that are the same is the same
-middle_same : {X : Type 0} (a b c : List X) → IsFront a b → IsFront b c → c ≡ a → b ≡ a
+pub middle_same : {X : Type 0} (a b c : List X) → IsFront a b → IsFront b c → c ≡ a → b ≡ a
 middle_same a b c f g same =
     f.1 ∙ ap (λ more. a ++ more) (none_of f.0 none) ∙ append-nil a
   where
@@ -77,6 +78,7 @@ pub record KeepsOn (w v : State) : Type 0 where
   pub log : v.log ≡ w.log
   pub grows : IsFront w.store.writes v.store.writes
   pub setup : v.setup ≡ w.setup
+  pub leads : KeepsLeads w v
   pub led : (turns : List Turn) × Leads w turns v
   pub up : AreUp w → AreUp v
   pub unplanned : w.store.faults.plan ≡ [] → v.store.faults.plan ≡ []
@@ -90,6 +92,7 @@ keeps_still w k =
       log = refl;
       grows = front_same w.store.writes;
       setup = refl;
+      leads = leads_still w w refl;
       led = ([], refl);
       up = λ up. up;
       unplanned = λ none. none;
@@ -109,6 +112,7 @@ keeps_then w m v x y =
       log = y.log ∙ x.log;
       grows = front_then w.store.writes m.store.writes v.store.writes x.grows y.grows;
       setup = y.setup ∙ x.setup;
+      leads = keeps_leading w m v x.leads y.leads;
       led = (x.led.0 ++ y.led.0, leads_then w m v x.led.0 y.led.0 x.led.1 y.led.1);
       up = λ up. y.up (x.up up);
       unplanned = λ none. y.unplanned (x.unplanned none);
@@ -123,15 +127,16 @@ keeps_then w m v x y =
 
 -- a step that leaves the servers up and calm
 pub step_keeps : (u v : State) (e : Event) (o : Outcome) → IsGoing u → IsFitting u.setup.schema e → Steps u e v (Ok o) → v.log ≡ u.log
-    → (u.store.faults.plan ≡ [] → v.store.faults.plan ≡ []) → (u.deep.faults.plan ≡ [] → v.deep.faults.plan ≡ []) → (AreUp u → AreUp v) → (v.store.writes ≡ u.store.writes → AreAllCalm u → AreAllCalm v)
-    → KeepsOn u v
-step_keeps u v e o k fits steps log plan fetches up calm =
+    → KeepsLeads u v → (u.store.faults.plan ≡ [] → v.store.faults.plan ≡ []) → (u.deep.faults.plan ≡ [] → v.deep.faults.plan ≡ []) → (AreUp u → AreUp v)
+    → (v.store.writes ≡ u.store.writes → AreAllCalm u → AreAllCalm v) → KeepsOn u v
+step_keeps u v e o k fits steps log leads plan fetches up calm =
     let going = goes_on u v e o k fits steps in
     record {
       going = going;
       log = log;
       grows = step_grows u v e o k fits steps;
       setup = (leads_add u (happens e o ∷ []) v k.safe (v, (fits, steps), refl)).goes.setup;
+      leads = leads;
       led = (happens e o ∷ [], (v, (fits, steps), refl));
       up = up;
       unplanned = plan;

@@ -1,33 +1,51 @@
 -- Rounds of `settle` come to their end, where nobody is put off: each that writes leaves fewer writes, and between two such ones less lies
 -- ahead with each round.
 use Rattle.std.proofs.Common.{◌≡◌, ◌⊎◌, inl, inr, ℕ, zero, suc, ◌+◌, ◌*◌, ◌<◌, ◌≤◌, Bool, true, false, List, [], ◌++◌, Ok, refl, sym, ◌∙◌, ap, subst, arith}
-use Rattle.std.specs.Prelude.{◌==◌, ◌||◌, nat_lt}
+use Rattle.std.specs.Prelude.{◌==◌, ◌&&◌, ◌||◌, not, nat_lt, Option, Some, None, ◌∷◌}
 use Rattle.std.proofs.Math.Nat.{suc-mul}
 use Rattle.std.proofs.lemmas.Bool.{false≢true}
 use Rattle.std.proofs.lemmas.Nat.{mul-le}
+use Rattle.rt_base.specs.declared.numbers.Partition.{Partition}
+use Rattle.rt_base.specs.declared.numbers.Sequence.{Sequence}
+use Rattle.rt_consumer.specs.declared.phase.Phase.{Phase}
+use Rattle.rt_consumer.specs.declared.phase.Phase.TheVariants as phase
+use Rattle.rt_controller.specs.declared.segment_machine.SegmentMachine.{SegmentMachine}
+use Rattle.rt_entry.specs.declared.entry.Entry.{Entry}
+use Rattle.rt_entry.specs.declared.entry.Entry.TheVariants.{Committed, Replica}
 use Rattle.rt_events.specs.declared.refusal.Refusal.TheVariants.{NothingToDo}
 use Rattle.rt_macros.specs.Doing.{after, Choose, Reached, Refuses}
 use Rattle.rt_macros.specs.Settling.{AfterRound, ReplicasOfAll, Round, ServersTurn, Settles, SettlesIn}
 use Rattle.rt_macros.specs.declared.settling.TheConstants.{MOST_ROUNDS}
+use Rattle.rt_model.specs.Completion.{Completion}
+use Rattle.rt_model.specs.Entries.{entries_of}
 use Rattle.rt_model.specs.Setup.{IsSetup}
+use Rattle.rt_model.specs.declared.ideal_state.IdealEntry.{IdealEntry}
+use Rattle.rt_model.specs.declared.node.Seen.{Seen}
 use Rattle.rt_model.specs.declared.setup.Setup.{Setup}
-use Rattle.rt_safety.proofs.Later.{runs_are_safe}
+use Rattle.rt_nodes.specs.declared.server_node.ServerNode.{ServerNode}
 use Rattle.rt_safety.specs.Runs.{Runs, Turn}
+use Rattle.rt_safety.proofs.Later.{runs_are_safe}
+use Rattle.rt_server.specs.Table.{Segment}
 use Rattle.rt_state.specs.IsSafeWorld.{IsSafeWorld}
 use Rattle.rt_state.specs.Start.{start}
 use Rattle.rt_state.specs.declared.state.State.{State}
 use Rattle.rt_stream.specs.Log.{Log}
-use Rattle.rt_heal.proofs.Calming.{servers_calmed, HasCalmed}
-use Rattle.rt_heal.proofs.LessRounds.{servers_rest, HasRested, IsSteady}
-use Rattle.rt_heal.proofs.Quiet.{then_parts, told_not, told_same, IsThen}
 use Rattle.rt_heal.specs.AtRest.{AreUp}
-use Rattle.rt_calm.specs.Ahead.{ahead_in_world}
-use Rattle.rt_calm.specs.Off.{IsPutOff, PutsOff}
-use Rattle.rt_calm.specs.Spent.{most_yet, rounds_yet, writes_left, Spends}
-use Rattle.rt_calm.proofs.Exchanged.{told_behind, told_first}
-use Rattle.rt_calm.proofs.Keeping.{leads_then, IsGoing}
-use Rattle.rt_calm.proofs.Rounds.{calm_ahead, replicas_fall, rested_ahead, spends_then, HasFallen, OffOrFallen}
+use Rattle.rt_heal.proofs.Calming.{servers_calmed, HasCalmed}
+use Rattle.rt_heal.proofs.GivenUp.{consumable}
+use Rattle.rt_heal.proofs.LessRounds.{servers_rest, HasRested, IsSteady}
+use Rattle.rt_heal.proofs.Most.{asked_sum, calm_sum, servers_sum, table_sum}
+use Rattle.rt_heal.proofs.Quiet.{then_parts, told_not, told_same, IsThen}
+use Rattle.rt_calm.specs.Again.{again_entry, again_servers, again_table, ahead_still, asked_machines, awaits, commits_at, is_spent, machine_of, spent_again, steps_if, stray_again, IsLeading}
+use Rattle.rt_calm.specs.Ahead.{ahead_in_world, most_ahead, most_ahead_of}
+use Rattle.rt_calm.specs.Off.{IsHeld, IsPutOff, IsTurnedAway, PutsOff, Waits}
+use Rattle.rt_calm.specs.Spent.{most_yet, rounds_in_all, rounds_yet, writes_left, Spends}
+use Rattle.rt_calm.proofs.Exchanged.{told_behind, told_first, waits_behind, waits_first}
+use Rattle.rt_calm.proofs.Keeping.{leads_then}
+use Rattle.rt_calm.proofs.Leading.{leads_still}
+use Rattle.rt_calm.proofs.Rounds.{calm_ahead, replicas_go, rested_ahead, rested_still, spends_then, HasGone, Lessens}
 use Rattle.rt_calm.proofs.Serving.{servers_serve, HasServed}
+use Rattle.rt_calm.proofs.Settling.{AreConsumable, IsSettling}
 
 times_less : (a b c d : ℕ) → a < b → c ≤ d → a * c + d ≤ b * d
 times_less a b c d less most =
@@ -48,73 +66,119 @@ module _ (setup : Setup) (is : IsSetup setup) where
     unplanned : w.store.faults.plan ≡ []
     fetches : w.deep.faults.plan ≡ []
 
-  -- a round leaves such a world, in which fewer writes are left, or nothing was written and all servers are calm
-  record HasTurned (w v : State) (told : Bool) : Type 0 where
+  -- a round leaves such a world, in which fewer writes are left, or nothing was written and all servers are calm; and then less of what
+  -- is counted
+  record HasTurned (count : State → ℕ) (w v : State) (told : Bool) : Type 0 where
     ready : IsReady v
     same : v.setup ≡ w.setup
     log : v.log ≡ w.log
+    leading : IsLeading w → IsLeading v
     spends : Spends w.setup w.log w.store.writes v.store.writes
     steady : v.store.writes ≡ w.store.writes → IsSteady v
-    less : IsSteady w → told ≡ true → ahead_in_world v < ahead_in_world w
+    less : v.store.writes ≡ w.store.writes → IsSteady w → told ≡ true → count v < count w
 
-  module _ (paused : Bool) where
-    round_turns : (w : State) (v : Reached) (told : Bool) → IsReady w → Round paused w v (Ok told) → PutsOff v ⊎ HasTurned w v.world told
-    round_turns w v told k h = by_way (replicas_fall paused t.told t.between.world t.last told going t.further)
+  -- ---- a round
+
+  module _ (paused : Bool) (w : State) (v : Reached) (told : Bool) (k : IsReady w) (h : Round paused w v (Ok told)) where
+    abbrev t : IsThen (ServersTurn false) (ReplicasOfAll paused) w v told
+    t = then_parts (ServersTurn false) (ReplicasOfAll paused) w v told h
+
+    abbrev m : State
+    m = t.between.world
+
+    safe : IsSafeWorld w
+    safe = runs_are_safe setup k.turns w is k.run
+
+    c : HasCalmed w m
+    c = servers_calmed setup k.turns w t.between t.told is k.run k.up k.unplanned k.fetches t.came
+
+    served : HasServed w m
+    served = servers_serve w t.between t.told safe t.came
+
+    gone : HasGone m t.told t.last told
+    gone = replicas_go paused t.told m t.last told (record { safe = c.steady.safe; told = c.right }) t.further
+
+    rested : IsSteady w → HasRested w false m t.told
+    rested steady = servers_rest 0 w.setup.servers false w t.between t.told steady t.came
+
+    counts_less : (count : State → ℕ) → (HasRested w false m t.told → count m ≡ count w) → Lessens count m t.told t.last.world told → IsSteady w → told ≡ true
+        → count t.last.world < count w
+    counts_less count still less steady busy = by_less (less.1 busy)
       where
-        t : IsThen (ServersTurn false) (ReplicasOfAll paused) w v told
-        t = then_parts (ServersTurn false) (ReplicasOfAll paused) w v told h
+        by_less : (t.told ≡ true) ⊎ (count t.last.world < count m) → count t.last.world < count w
+        by_less (inl moved) = absurd (false≢true (sym (rested steady).idle ∙ moved))
+        by_less (inr lt) = omega (arith, lt, still (rested steady))
 
-        safe : IsSafeWorld w
-        safe = runs_are_safe setup k.turns w is k.run
+    turned : (count : State → ℕ) → (t.last.world.store.writes ≡ w.store.writes → IsSteady w → told ≡ true → count t.last.world < count w)
+        → HasTurned count w v.world told
+    turned count less =
+        subst (λ (y : State). HasTurned count w y told) (sym (ap (λ (y : Reached). y.world) t.whole))
+        (record {
+          ready = record {
+            turns = k.turns ++ (served.led.0 ++ gone.on.led.0);
+            run =
+                leads_then (start setup) w t.last.world k.turns (served.led.0 ++ gone.on.led.0) k.run
+                (leads_then w m t.last.world served.led.0 gone.on.led.0 served.led.1 gone.on.led.1);
+            up = gone.on.up c.steady.up;
+            unplanned = gone.on.unplanned c.steady.unplanned;
+            fetches = gone.on.fetches (served.fetches k.fetches);
+          };
+          same = gone.on.setup ∙ served.setup;
+          log = gone.on.log ∙ c.log;
+          leading = λ leads. gone.on.leads.leading ((leads_still w m c.controllers).leading leads);
+          spends = spends_then w m t.last.world served.setup c.log (inl c.written) gone.spends;
+          steady = λ same. gone.on.steady (same ∙ sym c.written) c.steady;
+          less = less;
+        })
 
-        c : HasCalmed w t.between.world
-        c = servers_calmed setup k.turns w t.between t.told is k.run k.up k.unplanned k.fetches t.came
+    -- a replica is put off, or less lies ahead
+    off_or_turned : PutsOff v ⊎ HasTurned ahead_in_world w v.world told
+    off_or_turned = by_less gone.less
+      where
+        by_less : PutsOff t.last ⊎ Lessens ahead_in_world m t.told t.last.world told → PutsOff v ⊎ HasTurned ahead_in_world w v.world told
+        by_less (inl off) = inl (told_behind IsPutOff t.between t.last v t.whole off)
+        by_less (inr less) =
+            inr (turned ahead_in_world (λ same steady busy. counts_less ahead_in_world (λ x. rested_ahead w false m t.told x) less steady busy))
 
-        served : HasServed w t.between.world
-        served = servers_serve w t.between t.told safe t.came
-
-        going : IsGoing t.between.world
-        going = record { safe = c.steady.safe; told = c.right }
-
-        falls : HasFallen t.between.world t.told t.last told → IsSteady w → told ≡ true → ahead_in_world t.last.world < ahead_in_world w
-        falls x steady busy =
-            let rested : HasRested w false t.between.world t.told = servers_rest 0 w.setup.servers false w t.between t.told steady t.came in
-            by_less rested (rested_ahead w false t.between.world t.told rested) (x.less busy)
-          where
-            by_less : HasRested w false t.between.world t.told → ahead_in_world t.between.world ≡ ahead_in_world w
-                → (t.told ≡ true) ⊎ (ahead_in_world t.last.world < ahead_in_world t.between.world) → ahead_in_world t.last.world < ahead_in_world w
-            by_less rested same (inl moved) = absurd (false≢true (sym rested.idle ∙ moved))
-            by_less rested same (inr less) = omega (arith, less, same)
-
-        turned : HasFallen t.between.world t.told t.last told → HasTurned w t.last.world told
-        turned x =
+    -- one is told HOLD or NOT_LEADER, or less lies ahead and may lie ahead again
+    waits_or_turned : Waits w v ⊎ HasTurned ahead_still w v.world told
+    waits_or_turned = by_spends gone.spends
+      where
+        settling : IsSettling m
+        settling =
             record {
-              ready = record {
-                turns = k.turns ++ (served.led.0 ++ x.on.led.0);
-                run =
-                    leads_then (start setup) w t.last.world k.turns (served.led.0 ++ x.on.led.0) k.run
-                    (leads_then w t.between.world t.last.world served.led.0 x.on.led.0 served.led.1 x.on.led.1);
-                up = x.on.up c.steady.up;
-                unplanned = x.on.unplanned c.steady.unplanned;
-                fetches = x.on.fetches (served.fetches k.fetches);
-              };
-              same = x.on.setup ∙ served.setup;
-              log = x.on.log ∙ c.log;
-              spends = spends_then w t.between.world t.last.world served.setup c.log (inl c.written) x.spends;
-              steady = λ same. x.on.steady (same ∙ sym c.written) c.steady;
-              less = falls x;
+              steady = c.steady;
+              fetches = served.fetches k.fetches;
+              consumable = subst AreConsumable (sym c.written) (λ e has mode. consumable setup k.turns w e is k.run has mode);
             }
 
-        by_way : OffOrFallen t.between.world t.told t.last told → PutsOff v ⊎ HasTurned w v.world told
-        by_way (inl off) = inl (told_behind IsPutOff t.between t.last v t.whole off)
-        by_way (inr x) = inr (subst (λ (y : State). HasTurned w y told) (sym (ap (λ (y : Reached). y.world) t.whole)) (turned x))
+        by_still : Waits m t.last ⊎ Lessens ahead_still m t.told t.last.world told → Waits w v ⊎ HasTurned ahead_still w v.world told
+        by_still (inl waits) = inl (waits_behind w m t.between t.last v (leads_still w m c.controllers).leading t.whole waits)
+        by_still (inr less) =
+            inr (turned ahead_still (λ same steady busy. counts_less ahead_still (λ x. rested_still w false m t.told x) less steady busy))
+
+        by_spends : Spends m.setup m.log m.store.writes t.last.world.store.writes → Waits w v ⊎ HasTurned ahead_still w v.world told
+        by_spends (inl same) = by_still (gone.still settling same)
+        by_spends (inr fewer) =
+            inr (turned ahead_still (λ same steady busy. absurd (omega (arith, fewer.0, ap (writes_left m.setup m.log) (same ∙ sym c.written)))))
+
+  -- ---- rounds
+
+  -- what ends them, or a round does so; and what is counted is at most so many times what can lie ahead
+  module _ (paused : Bool) (Off : State → Reached → Type 0) (count : State → ℕ) (weight : ℕ)
+      (first : (w : State) (b l u : Reached) → u ≡ after b.turns l → Off w b → Off w u)
+      (behind : (w m : State) (b l u : Reached) → (IsLeading w → IsLeading m) → u ≡ after b.turns l → Off m l → Off w u)
+      (most : (w : State) → IsSteady w → count w ≤ weight * most_ahead w)
+      (turns : (w : State) (v : Reached) (told : Bool) → IsReady w → Round paused w v (Ok told) → Off w v ⊎ HasTurned count w v.world told) where
+    abbrev bound : State → ℕ
+    bound w = weight * yet_of w
 
     -- so many rounds are enough: for all writes that are left and all that can lie ahead, or in a steady world for what does
     abbrev AreEnough : ℕ → State → Type 0
     AreEnough rounds w =
-        (left_of w * (yet_of w + 2) + (yet_of w + 1) < rounds) ⊎ (IsSteady w × (left_of w * (yet_of w + 2) + ahead_in_world w < rounds))
+        (left_of w * (bound w + 2) + (bound w + 1) < rounds) ⊎ (IsSteady w × (left_of w * (bound w + 2) + count w < rounds))
 
-    enough_then : (rounds : ℕ) (w b : State) → HasTurned w b true → AreEnough (suc rounds) w → AreEnough rounds b
+    enough_then : (rounds : ℕ) (w b : State) → HasTurned count w b true → AreEnough (suc rounds) w → AreEnough rounds b
     enough_then rounds w b x enough = by_spends x.spends
       where
         left : left_of b ≡ writes_left w.setup w.log b.store.writes
@@ -130,33 +194,37 @@ module _ (setup : Setup) (is : IsSetup setup) where
             steady : IsSteady b
             steady = x.steady same
 
-            same_yet : yet_of b ≡ yet_of w
-            same_yet = yet ∙ ap (most_yet w.setup w.log) same
+            same_bound : bound b ≡ bound w
+            same_bound = ap (λ (n : ℕ). weight * n) (yet ∙ ap (most_yet w.setup w.log) same)
 
-            same_both : left_of b * (yet_of b + 2) ≡ left_of w * (yet_of w + 2)
+            same_both : left_of b * (bound b + 2) ≡ left_of w * (bound w + 2)
             same_both =
-                ap (λ (n : ℕ). n * (yet_of b + 2)) (left ∙ ap (writes_left w.setup w.log) same) ∙ ap (λ (n : ℕ). left_of w * (n + 2)) same_yet
+                ap (λ (n : ℕ). n * (bound b + 2)) (left ∙ ap (writes_left w.setup w.log) same) ∙ ap (λ (n : ℕ). left_of w * (n + 2)) same_bound
+
+            few_ahead : count b ≤ bound b
+            few_ahead = omega (arith, most b steady, mul-le weight (most_ahead b) weight (yet_of b) (omega arith) (omega arith))
 
             by_enough : AreEnough (suc rounds) w → AreEnough rounds b
-            by_enough (inl few) = inr (steady, omega (arith, few, same_both, same_yet, calm_ahead b steady))
-            by_enough (inr (was, few)) = inr (steady, omega (arith, few, same_both, x.less was refl))
+            by_enough (inl few) = inr (steady, omega (arith, few, same_both, same_bound, few_ahead))
+            by_enough (inr (was, few)) = inr (steady, omega (arith, few, same_both, x.less same was refl))
 
-        fewer : left_of b < left_of w → yet_of b ≤ yet_of w → AreEnough (suc rounds) w → AreEnough rounds b
-        fewer less most (inl few) =
-            inl (omega (arith, few, most, times_less (left_of b) (left_of w) (yet_of b + 2) (yet_of w + 2) less (omega (arith, most))))
-        fewer less most (inr (was, few)) =
-            inl (omega (arith, few, most, times_less (left_of b) (left_of w) (yet_of b + 2) (yet_of w + 2) less (omega (arith, most))))
+        fewer : left_of b < left_of w → bound b ≤ bound w → AreEnough (suc rounds) w → AreEnough rounds b
+        fewer less fits (inl few) =
+            inl (omega (arith, few, fits, times_less (left_of b) (left_of w) (bound b + 2) (bound w + 2) less (omega (arith, fits))))
+        fewer less fits (inr (was, few)) =
+            inl (omega (arith, few, fits, times_less (left_of b) (left_of w) (bound b + 2) (bound w + 2) less (omega (arith, fits))))
 
         by_spends : Spends w.setup w.log w.store.writes b.store.writes → AreEnough rounds b
         by_spends (inl same) = still same enough
-        by_spends (inr less) = fewer (omega (arith, less.0, left)) (omega (arith, less.1, yet)) enough
+        by_spends (inr less) =
+            fewer (omega (arith, less.0, left)) (mul-le weight (yet_of b) weight (yet_of w) (omega arith) (omega (arith, less.1, yet))) enough
 
-    -- a replica is put off, or it has settled
-    abbrev OffOrSettled : Reached → Bool → Type 0
-    OffOrSettled u settled = PutsOff u ⊎ (settled ≡ true)
+    -- a replica is put off so, or it has settled
+    abbrev OffOrSettled : State → Reached → Bool → Type 0
+    OffOrSettled w u settled = Off w u ⊎ (settled ≡ true)
 
     settles_on : (rounds : ℕ) (w : State) (u : Reached) (settled : Bool) → IsReady w → AreEnough rounds w → SettlesIn paused rounds w u (Ok settled)
-        → OffOrSettled u settled
+        → OffOrSettled w u settled
     settles_on zero w u settled ready (inl few) h = absurd (omega (arith, few))
     settles_on zero w u settled ready (inr (steady, few)) h = absurd (omega (arith, few))
     settles_on (suc rounds) w u settled ready enough h =
@@ -167,29 +235,110 @@ module _ (setup : Setup) (is : IsSetup setup) where
 
         by_told : (b l : Reached) (told : Bool) → Round paused w b (Ok told) → AfterRound (SettlesIn paused rounds) told b.world l (Ok settled)
             → u ≡ after b.turns l
-            → ((x : State) (y : Reached) → IsReady x → AreEnough rounds x → SettlesIn paused rounds x y (Ok settled) → OffOrSettled y settled)
-            → OffOrSettled u settled
+            → ((x : State) (y : Reached) → IsReady x → AreEnough rounds x → SettlesIn paused rounds x y (Ok settled) → OffOrSettled x y settled)
+            → OffOrSettled w u settled
         by_told b l false came further whole more = inr (told_same settled true further.1)
-        by_told b l true came further whole more = by_way (round_turns w b true ready came)
+        by_told b l true came further whole more = by_way (turns w b true ready came)
           where
-            by_rest : OffOrSettled l settled → OffOrSettled u settled
-            by_rest (inl off) = inl (told_behind IsPutOff b l u whole off)
-            by_rest (inr quiet) = inr quiet
+            by_rest : (IsLeading w → IsLeading b.world) → OffOrSettled b.world l settled → OffOrSettled w u settled
+            by_rest leading (inl off) = inl (behind w b.world b l u leading whole off)
+            by_rest leading (inr quiet) = inr quiet
 
-            by_way : PutsOff b ⊎ HasTurned w b.world true → OffOrSettled u settled
-            by_way (inl off) = inl (told_first IsPutOff b l u whole off)
-            by_way (inr x) = by_rest (more b.world l x.ready (enough_then rounds w b.world x enough) further)
+            by_way : Off w b ⊎ HasTurned count w b.world true → OffOrSettled w u settled
+            by_way (inl off) = inl (first w b l u whole off)
+            by_way (inr x) = by_rest x.leading (more b.world l x.ready (enough_then rounds w b.world x enough) further)
+
+-- ---- what may lie ahead again at most
+
+steps_most : (b : Bool) → steps_if b ≤ 6
+steps_most true = omega arith
+steps_most false = omega arith
+
+spent_most : (h : List Seen) (p : Partition) (q : Sequence) (m : Option Completion) → spent_again h p q m ≤ 6
+spent_most h p q None = omega arith
+spent_most h p q (Some m) = steps_most (is_spent h p q m)
+
+stray_most : (m : Option Completion) (i : ℕ) (ph : Phase) → stray_again m i ph ≤ 6
+stray_most m i (phase.Unsealed o) = steps_most (commits_at o.stage && not (awaits m i o.stage o.rows.end))
+stray_most m i (phase.Retained kept) = omega arith
+stray_most m i (phase.Committed kept) = omega arith
+stray_most m i (phase.Discarded d) = omega arith
+
+entry_most : (h : List Seen) (ms : List SegmentMachine) (i : ℕ) (s : Segment) (e : Entry) → again_entry h ms i s e ≤ 12
+entry_most h ms i s (Replica r) =
+    omega (arith, spent_most h s.0 s.1 (machine_of ms s.0 s.1), stray_most (machine_of ms s.0 s.1) i r.phase)
+entry_most h ms i s (Committed c) = omega arith
+
+table_most : (h : List Seen) (ms : List SegmentMachine) (i : ℕ) (es : List (Segment × Entry)) → again_table h ms i es ≤ table_sum (λ e. 12) es
+table_most h ms i [] = omega arith
+table_most h ms i (e ∷ es) = omega (arith, entry_most h ms i e.0 e.1, table_most h ms i es)
+
+servers_most : (h : List Seen) (ms : List SegmentMachine) (i : ℕ) (ns : List ServerNode) → again_servers h ms i ns ≤ servers_sum (λ e. 12) ns
+servers_most h ms i [] = omega arith
+servers_most h ms i (n ∷ ns) = omega (arith, table_most h ms i n.server.table.entries, servers_most h ms (suc i) ns)
+
+asked_most : (log : Log) (es : List IdealEntry) → asked_sum (λ p. 12) es ≤ most_ahead_of log es + most_ahead_of log es
+asked_most log [] = omega arith
+asked_most log (e ∷ es) = omega (arith, asked_most log es)
+
+still_most : (w : State) → IsSteady w → ahead_still w ≤ 3 * most_ahead w
+still_most w k =
+    omega (
+      arith,
+      calm_ahead w k,
+      servers_most w.store.writes (asked_machines w) 0 w.servers,
+      calm_sum w k.safe k.calm (λ e. 12) (λ p. 12) (λ i n there x has. omega arith),
+      asked_most w.log (entries_of w.store.writes),
+    )
 
 -- ---- in a run
 
-pub settles_all : (setup : Setup) (turns : List Turn) (paused : Bool) (rounds : ℕ) (w : State) (u : Reached) (settled : Bool) → IsSetup setup → Runs setup turns w
-    → AreUp w → w.store.faults.plan ≡ [] → w.deep.faults.plan ≡ [] → rounds_yet w.setup w.log w.store.writes < rounds
-    → Settles paused rounds w u (Ok settled) → PutsOff u ⊎ (settled ≡ true)
-settles_all setup turns paused rounds w u settled is run up unplanned fetches few h = by_test ((rounds == 0) || nat_lt MOST_ROUNDS rounds) h
-  where
-    ready : IsReady setup is w
-    ready = record { turns = turns; run = run; up = up; unplanned = unplanned; fetches = fetches }
+module _ (setup : Setup) (turns : List Turn) (paused : Bool) (rounds : ℕ) (w : State) (u : Reached) (settled : Bool) (is : IsSetup setup) (run : Runs setup turns w)
+    (up : AreUp w) (unplanned : w.store.faults.plan ≡ []) (fetches : w.deep.faults.plan ≡ []) where
+  ready : IsReady setup is w
+  ready = record { turns = turns; run = run; up = up; unplanned = unplanned; fetches = fetches }
 
-    by_test : (b : Bool) → Choose b (Refuses NothingToDo w) (SettlesIn paused rounds w) u (Ok settled) → PutsOff u ⊎ (settled ≡ true)
-    by_test true g = absurd (told_not settled NothingToDo g.1)
-    by_test false g = settles_on setup is paused rounds w u settled ready (inl few) g
+  -- its rounds are those of `settle`
+  by_rounds : (P : Type 0) → (SettlesIn paused rounds w u (Ok settled) → P) → Settles paused rounds w u (Ok settled) → P
+  by_rounds P f h = by_test ((rounds == 0) || nat_lt MOST_ROUNDS rounds) h
+    where
+      by_test : (b : Bool) → Choose b (Refuses NothingToDo w) (SettlesIn paused rounds w) u (Ok settled) → P
+      by_test true g = absurd (told_not settled NothingToDo g.1)
+      by_test false g = f g
+
+  pub settles_all : rounds_yet w.setup w.log w.store.writes < rounds → Settles paused rounds w u (Ok settled) → PutsOff u ⊎ (settled ≡ true)
+  settles_all few h =
+      by_rounds (PutsOff u ⊎ (settled ≡ true))
+      (λ g. settles_on setup is paused (λ w v. PutsOff v) ahead_in_world 1 (λ w b l u whole off. told_first IsPutOff b l u whole off)
+      (λ w m b l u leading whole off. told_behind IsPutOff b l u whole off) (λ w k. omega (arith, calm_ahead w k))
+      (λ w v told k h. off_or_turned setup is paused w v told k h) rounds w u settled ready (inl once) g) h
+    where
+      same : 1 * yet_of w ≡ yet_of w
+      same = omega arith
+
+      once : left_of w * (1 * yet_of w + 2) + (1 * yet_of w + 1) < rounds
+      once = subst (λ (n : ℕ). left_of w * (n + 2) + (n + 1) < rounds) (sym same) few
+
+  pub settles_unless_waiting : rounds_in_all w.setup w.log w.store.writes < rounds → Settles paused rounds w u (Ok settled) → Waits w u ⊎ (settled ≡ true)
+  settles_unless_waiting few h =
+      by_rounds (Waits w u ⊎ (settled ≡ true))
+      (λ g. settles_on setup is paused Waits ahead_still 3 waits_first waits_behind still_most
+      (λ w v told k h. waits_or_turned setup is paused w v told k h) rounds w u settled ready (inl few) g) h
+
+  pub settles_unless_told : rounds_in_all w.setup w.log w.store.writes < rounds → Settles paused rounds w u (Ok settled)
+      → IsHeld u ⊎ IsTurnedAway u ⊎ (settled ≡ true)
+  settles_unless_told few h = by_way (settles_unless_waiting few h)
+    where
+      by_way : Waits w u ⊎ (settled ≡ true) → IsHeld u ⊎ IsTurnedAway u ⊎ (settled ≡ true)
+      by_way (inl (inl held)) = inl held
+      by_way (inl (inr (away, none))) = inr (inl away)
+      by_way (inr quiet) = inr (inr quiet)
+
+  pub settles_where_led : IsLeading w → rounds_in_all w.setup w.log w.store.writes < rounds → Settles paused rounds w u (Ok settled)
+      → IsHeld u ⊎ (settled ≡ true)
+  settles_where_led leading few h = by_way (settles_unless_waiting few h)
+    where
+      by_way : Waits w u ⊎ (settled ≡ true) → IsHeld u ⊎ (settled ≡ true)
+      by_way (inl (inl held)) = inl held
+      by_way (inl (inr (away, none))) = absurd (none leading)
+      by_way (inr quiet) = inr quiet

@@ -43,7 +43,7 @@ pub record HasPut (w y : State) (i : ℕ) (n new : ServerNode) (p : Partition) (
   pub log : y.log ≡ w.log
 
 module _ (w y : State) (i : ℕ) (n new : ServerNode) (p : Partition) (q : Sequence) (r next : Consumer) (k : HasPut w y i n new p q r next) where
-  put_sum : ahead_of w.log r + ahead_in_world y ≡ ahead_of w.log next + ahead_in_world w
+  pub put_sum : ahead_of w.log r + ahead_in_world y ≡ ahead_of w.log next + ahead_in_world w
   put_sum =
       let table : ahead_of w.log r + ahead_table w.log new.server.table.entries ≡ ahead_of w.log next + ahead_table w.log n.server.table.entries =
       subst (λ (u : Segments). ahead_of w.log r + ahead_table w.log u.entries ≡ ahead_of w.log next + ahead_table w.log n.server.table.entries) (sym k.table)

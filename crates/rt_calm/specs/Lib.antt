@@ -1,3 +1,4 @@
+pub mod Again
 pub mod Ahead
 pub mod Commits
 pub mod Off

@@ -10,6 +10,8 @@ use Rattle.rt_macros.specs.declared.outcomes.Replied.{Replied}
 use Rattle.rt_model.specs.declared.reply.ReplyStatus.{ReplyStatus}
 use Rattle.rt_model.specs.declared.reply.ReplyStatus.TheVariants as status
 use Rattle.rt_safety.specs.Runs.{happens}
+use Rattle.rt_state.specs.declared.state.State.{State}
+use Rattle.rt_calm.specs.Again.{IsLeading}
 
 -- HOLD, NOT_LEADER and FAILED: the replica holds, and asks again
 abbrev pub IsPutOff : ReplyStatus → Type 0
@@ -55,3 +57,14 @@ PutsOff v = IsTold IsPutOff v
 -- a commit is made in these turns, or a stop processed
 abbrev pub Succeeds : Reached → Type 0
 Succeeds v = IsTold IsSuccess v
+
+-- a replica is told HOLD in these turns, or NOT_LEADER
+abbrev pub IsHeld : Reached → Type 0
+IsHeld v = IsTold (λ s. s ≡ status.Hold) v
+
+abbrev pub IsTurnedAway : Reached → Type 0
+IsTurnedAway v = IsTold (λ s. s ≡ status.NotLeader) v
+
+-- HOLD, or NOT_LEADER where no controller that is up believed that it leads
+abbrev pub Waits : State → Reached → Type 0
+Waits w v = IsHeld v ⊎ (IsTurnedAway v × (IsLeading w → ⊥))

@@ -50,3 +50,7 @@ Spends setup log old new =
 -- the rounds of `settle` in which all writes that are left are made, and all that can lie ahead is done behind each
 abbrev pub rounds_yet : Setup → Log → List Seen → ℕ
 rounds_yet setup log h = writes_left setup log h * (most_yet setup log h + 2) + (most_yet setup log h + 1)
+
+-- the rounds, where replicas may be told FAILED, and begin to commit again: two times more for each that can lie ahead
+abbrev pub rounds_in_all : Setup → Log → List Seen → ℕ
+rounds_in_all setup log h = writes_left setup log h * (3 * most_yet setup log h + 2) + (3 * most_yet setup log h + 1)

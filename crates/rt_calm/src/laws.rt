@@ -23,10 +23,11 @@ ghost use Rattle.rt_state.specs.declared.state.State.{State};
 ghost use Rattle.rt_stream.specs.Log.{Log, messages_of};
 ghost use Rattle.rt_heal.specs.AtRest.{AreUp};
 ghost use Rattle.rt_heal.specs.Calm.{AreAllCalm};
+ghost use Rattle.rt_calm.specs.Again.{ahead_still, IsLeading};
 ghost use Rattle.rt_calm.specs.Ahead.{ahead_in_world, most_ahead, most_ahead_of};
 ghost use Rattle.rt_calm.specs.Commits.{commits_of};
-ghost use Rattle.rt_calm.specs.Off.{PutsOff, Succeeds};
-ghost use Rattle.rt_calm.specs.Spent.{consuming_in, most_of, rounds_yet, Spends};
+ghost use Rattle.rt_calm.specs.Off.{IsHeld, IsTurnedAway, PutsOff, Succeeds, Waits};
+ghost use Rattle.rt_calm.specs.Spent.{consuming_in, most_of, rounds_in_all, rounds_yet, Spends};
 ghost use Rattle.rt_calm.specs.Waiting.{HoldsOrStays, WaitsFor};
 
 /// A machine that waits for its committer, from COMMIT to the end of its job, stays as it is whatever another replica asks, unless that
@@ -43,8 +44,8 @@ pub fn a_machine_waits_for_its_committer()
 /// In each run the exchange of a replica, as `settle` makes it, puts the replica off, by HOLD, NOT_LEADER or FAILED, or leaves less
 /// ahead: what a controller answers fits what it was asked, and leads on. COMMIT and KEEP name the offset that was reported, and
 /// CATCH_UP one ahead of it, so that a replica asks again only behind messages that it takes. Nothing is written but where a commit is
-/// made, or a stop processed, or the replica put off; and a commit takes one of those that its partition's messages leave, a stop that
-/// changes anything one of the CONSUMING entries, so that fewer writes are left.
+/// made, or a stop processed, or the replica put off; and whatever is written, a commit takes one of those that its partition's messages
+/// leave, a stop that changes anything one of the CONSUMING entries, so that fewer writes are left.
 pub fn an_answer_puts_off_or_leaves_less_ahead()
     ensures less { (setup : Setup) (turns : List Turn) (w : State) (v : Reached) (instance : Instance) (segment : SegmentAt) → IsSetup setup
         → Runs setup turns w → ExchangeTurn instance segment false w v (Ok true)
@@ -54,7 +55,7 @@ pub fn an_answer_puts_off_or_leaves_less_ahead()
         → PutsOff v ⊎ Succeeds v ⊎ (v.world.store.writes ≡ w.store.writes) }
     ensures spends { (setup : Setup) (turns : List Turn) (w : State) (v : Reached) (instance : Instance) (segment : SegmentAt) (told : Bool)
         → IsSetup setup → Runs setup turns w → ExchangeTurn instance segment false w v (Ok told)
-        → PutsOff v ⊎ Spends w.setup w.log w.store.writes v.world.store.writes }
+        → Spends w.setup w.log w.store.writes v.world.store.writes }
 {}
 
 /// In each run the replicas' part of a round of `settle` puts one of them off, or leaves less ahead if anything happened in it, whether
@@ -111,4 +112,30 @@ pub fn settle_ends_where_nobody_is_put_off()
     ensures { (setup : Setup) (turns : List Turn) (paused : Bool) (rounds : ℕ) (w : State) (u : Reached) (settled : Bool) → IsSetup setup
         → Runs setup turns w → AreUp w → w.store.faults.plan ≡ [] → w.deep.faults.plan ≡ []
         → rounds_yet w.setup w.log w.store.writes < rounds → Settles paused rounds w u (Ok settled) → PutsOff u ⊎ (settled ≡ true) }
+{}
+
+/// FAILED is paid for: in each run an exchange, as `settle` makes it, that writes nothing leaves less of what lies ahead and what may lie ahead
+/// again, unless the replica is told HOLD, or NOT_LEADER where no controller that is up believes that it leads. All servers are up and calm,
+/// and no fault of a store is planned. Something may lie ahead again of a committer for which its segment's machine doesn't wait, and of the
+/// replicas of a segment whose machine has ended or has read another version of its node than the present one. COMMIT makes a machine wait
+/// for its committer, and no other replica ends that but by HOLD; a machine that fails a job is gone with it, and one that is made has read
+/// the present version.
+pub fn an_answer_makes_wait_or_leaves_less_ahead_still()
+    ensures { (setup : Setup) (turns : List Turn) (w : State) (v : Reached) (instance : Instance) (segment : SegmentAt) → IsSetup setup
+        → Runs setup turns w → AreUp w → w.store.faults.plan ≡ [] → w.deep.faults.plan ≡ [] → AreAllCalm w
+        → ExchangeTurn instance segment false w v (Ok true) → v.world.store.writes ≡ w.store.writes
+        → Waits w v ⊎ (ahead_still v.world < ahead_still w) }
+{}
+
+/// So FAILED doesn't keep `settle` from ending: from any world of a run on in which all servers are up and no fault of a store is planned, it
+/// answers `settled` as soon as it has more rounds than `rounds_in_all`, unless a replica is told HOLD or NOT_LEADER; and where a controller
+/// that is up believes that it leads, unless one is told HOLD.
+pub fn settle_ends_where_nobody_is_told_to_hold()
+    ensures told { (setup : Setup) (turns : List Turn) (paused : Bool) (rounds : ℕ) (w : State) (u : Reached) (settled : Bool) → IsSetup setup
+        → Runs setup turns w → AreUp w → w.store.faults.plan ≡ [] → w.deep.faults.plan ≡ []
+        → rounds_in_all w.setup w.log w.store.writes < rounds → Settles paused rounds w u (Ok settled)
+        → IsHeld u ⊎ IsTurnedAway u ⊎ (settled ≡ true) }
+    ensures led { (setup : Setup) (turns : List Turn) (paused : Bool) (rounds : ℕ) (w : State) (u : Reached) (settled : Bool) → IsSetup setup
+        → Runs setup turns w → AreUp w → w.store.faults.plan ≡ [] → w.deep.faults.plan ≡ [] → IsLeading w
+        → rounds_in_all w.setup w.log w.store.writes < rounds → Settles paused rounds w u (Ok settled) → IsHeld u ⊎ (settled ≡ true) }
 {}
