@@ -1,5 +1,5 @@
 -- An exchange puts its replica off, or leaves less ahead.
-use Rattle.std.proofs.Common.{◌≡◌, ◌⊎◌, inl, inr, ℕ, zero, suc, ◌+◌, ◌<◌, ◌≤◌, ◌==◌, ◌&&◌, Bool, true, false, cond, List, [], length, Option, Some, None, Ok, refl, sym, ◌∙◌, ap, subst, arith, slice_get}
+use Rattle.std.proofs.Common.{◌≡◌, ◌⊎◌, inl, inr, ℕ, zero, suc, ◌+◌, ◌<◌, ◌≤◌, ◌==◌, ◌&&◌, Bool, true, false, cond, List, length, Option, Some, None, Ok, refl, sym, ◌∙◌, ap, subst, arith, slice_get}
 use Rattle.std.specs.List.{Contains}
 use Rattle.std.specs.Prelude.{slice_set}
 use Rattle.std.proofs.lemmas.Bool.{eq-eqb, true≢false}
@@ -12,16 +12,8 @@ use Rattle.rt_base.specs.declared.numbers.Partition.{Partition}
 use Rattle.rt_base.specs.declared.numbers.Sequence.{Sequence}
 use Rattle.rt_base.specs.declared.which.Which.TheVariants.{Events}
 use Rattle.rt_commit.specs.Assignment.{replicas_in, Assigned}
-use Rattle.rt_commit.specs.Job.{commits}
-use Rattle.rt_commit.specs.Lasting.{commit_end, work_end}
-use Rattle.rt_commit.specs.Right.{EndsSo, MetFault, StatusSo}
-use Rattle.rt_commit.specs.Told.{store_after, IsExact}
 use Rattle.rt_commit.specs.declared.job.Job.{Job}
-use Rattle.rt_commit.specs.declared.job.JobStage.{JobStage}
-use Rattle.rt_commit.specs.declared.job.JobStage.TheVariants as stage
-use Rattle.rt_commit.specs.declared.work.Work.{Work}
-use Rattle.rt_commit.specs.declared.work.Work.TheVariants as work
-use Rattle.rt_consumer.specs.Consumer.{cur, end_in, ends_at, is_at, state_at, state_of}
+use Rattle.rt_consumer.specs.Consumer.{cur, state_at, state_of}
 use Rattle.rt_consumer.specs.Replies.{answered, replied as answered_by, turned}
 use Rattle.rt_consumer.specs.Requests.{kind_at, kind_in, Requests as AsksItself}
 use Rattle.rt_consumer.specs.declared.consumer.Consumer.{Consumer}
@@ -31,25 +23,19 @@ use Rattle.rt_consumer.specs.declared.stage.Stage.{Stage}
 use Rattle.rt_consumer.specs.declared.stage.Stage.TheVariants.{Building, CatchingUp, ConsumingToOnline, Ending, Holding, InitialConsuming, Retaining, Starting, Uploading}
 use Rattle.rt_consumer.specs.declared.waited.Waited.TheVariants.{Step}
 use Rattle.rt_controller.specs.Controller.{Controlling}
-use Rattle.rt_controller.specs.Lasting.{HaveOneMachine, IsControllerOver, IsMachineOver}
-use Rattle.rt_controller.specs.Requests.{call_of, handle_call, has_machine, has_none, not_assigned, not_leading, past_last, turn_of, uploads, Turn as Rule}
-use Rattle.rt_controller.specs.Right.{job_of, LeavesJob, WorksOver}
+use Rattle.rt_controller.specs.Lasting.{IsControllerOver, IsMachineOver}
 use Rattle.rt_controller.specs.Steps.{Handles as HandlesIt}
-use Rattle.rt_controller.specs.Told.{worked_on}
-use Rattle.rt_controller.specs.Working.{work_call}
 use Rattle.rt_controller.specs.declared.handled.Handled.{Handled}
 use Rattle.rt_controller.specs.declared.handled.Handled.TheVariants as handled
 use Rattle.rt_controller.specs.declared.segment_machine.SegmentMachine.{SegmentMachine}
 use Rattle.rt_controller.proofs.CallsOver.{handles_over}
 use Rattle.rt_controller.proofs.JobsStay.{found_job}
-use Rattle.rt_controller.proofs.Telling.{told_request, told_work}
 use Rattle.rt_deep.specs.Meaning.{Told as ToldDeep}
 use Rattle.rt_deep.specs.Memory.{means as deep_means}
 use Rattle.rt_entry.specs.Transition.{is_open}
 use Rattle.rt_entry.specs.declared.entry.Entry.{Entry}
 use Rattle.rt_entry.specs.declared.entry.Entry.TheVariants.{Replica}
 use Rattle.rt_entry.specs.declared.refused.ServerRefused.TheVariants.{NotDue}
-use Rattle.rt_events.specs.Fits.{Fits as IsFitting}
 use Rattle.rt_events.specs.declared.event.Event.{Event}
 use Rattle.rt_events.specs.declared.event.Event.TheVariants as event
 use Rattle.rt_events.specs.declared.outcome.Outcome.{Outcome}
@@ -60,17 +46,13 @@ use Rattle.rt_lists.proofs.Lists.{contains_found, All-found}
 use Rattle.rt_lists.proofs.Members.{Has-append_left, Has-append_right, Has-place, Has-push}
 use Rattle.rt_macros.specs.Doing.{after, stays, Gives, Happens, Reached}
 use Rattle.rt_macros.specs.Exchanging.{AfterDelivery, AfterReply, AfterReport, AfterStep, EndsJob, Handles, MakesStep, TakesAnswer}
-use Rattle.rt_macros.specs.Outcomes.{delivered_in, ended_in, ending, replied, state_in}
+use Rattle.rt_macros.specs.Outcomes.{delivered_in, ended_in, state_in}
 use Rattle.rt_macros.specs.declared.exchanging.Exchanged.{Exchanged}
 use Rattle.rt_macros.specs.declared.outcomes.Delivered.{Delivered}
 use Rattle.rt_macros.specs.declared.outcomes.Delivered.TheVariants as delivered
 use Rattle.rt_macros.specs.declared.outcomes.Replied.{Replied}
 use Rattle.rt_model.specs.Completion.{Completion}
 use Rattle.rt_model.specs.Messages.{asked_of, same_number}
-use Rattle.rt_model.specs.Metadata.{IsDoneStatus}
-use Rattle.rt_model.specs.declared.asked.Asked.{Asked}
-use Rattle.rt_model.specs.declared.job_step.JobStep.{JobStep}
-use Rattle.rt_model.specs.declared.job_step.StepName.{StepName}
 use Rattle.rt_model.specs.declared.node.Seen.{Seen}
 use Rattle.rt_model.specs.declared.replica_state.ReplicaState.{ReplicaState}
 use Rattle.rt_model.specs.declared.reply.Reply.{Reply}
@@ -80,21 +62,16 @@ use Rattle.rt_model.specs.declared.request.Request.{Request}
 use Rattle.rt_model.specs.declared.request.RequestKind.{RequestKind}
 use Rattle.rt_model.specs.declared.request.RequestKind.TheVariants as kind
 use Rattle.rt_model.specs.declared.request.RequestNumber.{RequestNumber}
-use Rattle.rt_model.specs.declared.seg_meta.SeenMeta.{SeenMeta}
 use Rattle.rt_model.specs.declared.setup.Setup.{Setup}
-use Rattle.rt_model.specs.declared.status.Status.{Status}
-use Rattle.rt_model.proofs.Lawful.{versions_count_writes}
 use Rattle.rt_msgs.specs.Numbered.{number_at, upload_path, Numbered}
 use Rattle.rt_nodes.specs.Messages.{node_took}
 use Rattle.rt_nodes.specs.Requests.{NodeAsks}
 use Rattle.rt_nodes.specs.declared.controller_node.ControllerNode.{ControllerNode}
 use Rattle.rt_nodes.specs.declared.server_node.ServerNode.{ServerNode}
-use Rattle.rt_past.specs.IsPast.{IsPast}
 use Rattle.rt_past.specs.Segments.{IsAssignedTo}
 use Rattle.rt_safety.specs.CommitRun.{job_in, open_job}
 use Rattle.rt_safety.specs.Runs.{happens, Turn}
-use Rattle.rt_safety.proofs.JobsOn.{handed_same, own_slot}
-use Rattle.rt_safety.proofs.SuccessEnds.{success_ends}
+use Rattle.rt_safety.proofs.JobsOn.{own_slot}
 use Rattle.rt_segment.specs.Spelling.{file_of}
 use Rattle.rt_server.specs.Calls.{replied_at, ThroughAt}
 use Rattle.rt_server.specs.Table.{put_back, replica_of, Segments}
@@ -103,19 +80,15 @@ use Rattle.rt_state.specs.Applying.{Next}
 use Rattle.rt_state.specs.Finding.{reply_at, request_at}
 use Rattle.rt_state.specs.IsSafe.{past_of}
 use Rattle.rt_state.specs.IsSafeWorld.{IsSafeWorld}
-use Rattle.rt_state.specs.Jobs.{noted_set, stepped_by, JobStepsAt}
 use Rattle.rt_state.specs.Messages.{after_step, handed, DeliversAt, RepliesAt}
 use Rattle.rt_state.specs.Nodes.{ServerDoesAt}
 use Rattle.rt_state.specs.Requests.{SendsAt}
 use Rattle.rt_state.specs.declared.state.State.{State}
 use Rattle.rt_state.proofs.Bounds.{few_writes}
-use Rattle.rt_store.specs.Contents.{starting_of}
 use Rattle.rt_store.specs.Meaning.{Told}
 use Rattle.rt_store.specs.Memory.{means}
-use Rattle.rt_store.proofs.Told.{read_same}
-use Rattle.rt_stream.specs.Log.{messages_of, Log}
-use Rattle.rt_unrefused.proofs.Answered.{delivers, delivery_leaves, job_leaves, job_steps, Behind as AnswersBehind, Delivers, IsAnswer}
-use Rattle.rt_unrefused.proofs.JobSteps.{is_open_job, over, own_step, there_then, OwnStep, SendsIts}
+use Rattle.rt_stream.specs.Log.{Log}
+use Rattle.rt_unrefused.proofs.Answered.{delivers, delivery_leaves, job_leaves, Delivers, IsAnswer}
 use Rattle.rt_unrefused.proofs.Requested.{replica_put, requested, IsRequested}
 use Rattle.rt_world.specs.Reading.{events_left_in, leader_in}
 use Rattle.rt_world.specs.Step.{Steps}
@@ -124,18 +97,18 @@ use Rattle.rt_heal.proofs.LessWorld.{put_calm, put_up, IsPut}
 use Rattle.rt_heal.proofs.Quiet.{then_parts, told_not, told_same, IsThen}
 use Rattle.rt_calm.specs.Again.{again_entry, again_servers, ahead_still, asked_machines, machine_of, machines_by, machines_in, spent_again, stray_again, IsLeading}
 use Rattle.rt_calm.specs.Ahead.{ahead_in_world, ahead_of, ahead_servers}
-use Rattle.rt_calm.specs.Commits.{commits_of}
 use Rattle.rt_calm.specs.Off.{IsPutOff, IsSuccess, IsTold, PutsOff, Succeeds, Waits}
 use Rattle.rt_calm.specs.Spent.{Spends}
 use Rattle.rt_calm.proofs.Answering.{answer_again, IsWaiting}
-use Rattle.rt_calm.proofs.Commits.{commits_within}
-use Rattle.rt_calm.proofs.Delivered.{HasStarted, IsMoved, IsOwn, IsOwnBy, IsReadable, StatusTells}
-use Rattle.rt_calm.proofs.Fitting.{hands_out, Fits, HandsOut, Starts}
-use Rattle.rt_calm.proofs.Keeping.{calm_still, fetches_after, goes_on, keeps_still, keeps_then, servers_up, step_keeps, unplanned_after, IsGoing, KeepsOn}
-use Rattle.rt_calm.proofs.Leading.{handled_leads, leader_leads, leads_in, leads_put, leads_still, machines_after, worked_leads, worked_machines, KeepsLeads}
+use Rattle.rt_calm.proofs.Controlled.{asking_on, delivery_fetches, delivery_leads, delivery_log, delivery_plan, delivery_writes, job_fetches, job_keeps_leads, job_log, job_plan, IsAsking}
+use Rattle.rt_calm.proofs.Delivered.{IsMoved, IsReadable, StatusTells}
+use Rattle.rt_calm.proofs.Ending.{step_behind, step_pays, Behind, IsOpenFor, IsPaying, OffOrSuccess, PaysBehind}
+use Rattle.rt_calm.proofs.Fitting.{hands_out, Fits, HandsOut}
+use Rattle.rt_calm.proofs.Keeping.{goes_on, keeps_still, keeps_then, step_keeps, IsGoing, KeepsOn}
+use Rattle.rt_calm.proofs.Leading.{leader_leads, leads_in, leads_still}
 use Rattle.rt_calm.proofs.Machines.{still_turned}
-use Rattle.rt_calm.proofs.Moving.{commit_moves, delivery_moves, machines_at, never_met, stop_moves, DeliveryMoves, IsPlain, MovedSo}
-use Rattle.rt_calm.proofs.Paying.{first_pays, job_pays, AfterPays, IsFirst, Pays, StatusPaid}
+use Rattle.rt_calm.proofs.Moving.{delivery_moves, machines_at, DeliveryMoves, IsPlain, MovedSo}
+use Rattle.rt_calm.proofs.Paying.{first_pays, IsFirst}
 use Rattle.rt_calm.proofs.Settling.{settling_reads, IsSettling}
 use Rattle.rt_calm.proofs.Sharing.{servers_put}
 use Rattle.rt_calm.proofs.Standing.{answer_falls}
@@ -216,455 +189,6 @@ has_asked w u i p q request (cost, due, h) = by_server (slice_get w.servers i.0)
           where
             some_kind : RequestKind → Option RequestKind
             some_kind k = Some k
-
--- ---- a controller's part
-
--- it keeps on, and the servers stay as they are
-record IsAsking (u z : State) : Type 0 where
-  keeps : KeepsOn u z
-  servers : z.servers ≡ u.servers
-
-asking_on : (u z y : State) (e : Event) (o : Outcome) → IsAsking u z → IsFitting z.setup.schema e → Steps z e y (Ok o) → y.servers ≡ z.servers → y.log ≡ z.log
-    → KeepsLeads z y → (z.store.faults.plan ≡ [] → y.store.faults.plan ≡ []) → (z.deep.faults.plan ≡ [] → y.deep.faults.plan ≡ []) → IsAsking u y
-asking_on u z y e o k fits steps servers log leads plan fetches =
-    record {
-      keeps =
-          keeps_then u z y k.keeps
-          (step_keeps z y e o k.keeps.going fits steps log leads plan fetches (servers_up z y servers) (λ same. calm_still z y servers same));
-      servers = servers ∙ k.servers;
-    }
-
-delivery_plan : (w v : State) (m : ℕ) (c : ControllerId) (o : Outcome) → Steps w (event.Deliver m c) v (Ok o) → w.store.faults.plan ≡ []
-    → v.store.faults.plan ≡ []
-delivery_plan w v m c o (cost, due, h) none = by_found (request_at w m) (slice_get w.controllers c.0) h
-  where
-    by_answer : (z : State) (what : Handled) → z.store.faults.plan ≡ [] → (v, o) ≡ handed z cost what → v.store.faults.plan ≡ []
-    by_answer z (handled.Reply y) same is = ap (λ (n : Next). n.0.store.faults.plan) is ∙ same
-    by_answer z (handled.Job j) same is = ap (λ (n : Next). n.0.store.faults.plan) is ∙ same
-
-    by_found : (q : Option Request) (n : Option ControllerNode) → DeliversAt q n w c cost (v, o) → v.store.faults.plan ≡ []
-    by_found None n h = absurd h
-    by_found (Some q) None h = absurd h
-    by_found (Some q) (Some n) (new, what, store, deep, handles, is) =
-        let x = told_request w.store store w.deep deep n.controller q w.moment (record { controller = new; handled = what }) handles in
-        by_answer (after_step w c n new store deep) what
-        (ap (λ (t : Told). t.faults.plan) x.store ∙ unplanned_after w.store (handle_call n.controller q) none) is
-
-delivery_fetches : (w v : State) (m : ℕ) (c : ControllerId) (o : Outcome) → Steps w (event.Deliver m c) v (Ok o) → w.deep.faults.plan ≡ []
-    → v.deep.faults.plan ≡ []
-delivery_fetches w v m c o (cost, due, h) none = by_found (request_at w m) (slice_get w.controllers c.0) h
-  where
-    by_answer : (z : State) (what : Handled) → z.deep.faults.plan ≡ [] → (v, o) ≡ handed z cost what → v.deep.faults.plan ≡ []
-    by_answer z (handled.Reply y) same is = ap (λ (n : Next). n.0.deep.faults.plan) is ∙ same
-    by_answer z (handled.Job j) same is = ap (λ (n : Next). n.0.deep.faults.plan) is ∙ same
-
-    by_found : (q : Option Request) (n : Option ControllerNode) → DeliversAt q n w c cost (v, o) → v.deep.faults.plan ≡ []
-    by_found None n h = absurd h
-    by_found (Some q) None h = absurd h
-    by_found (Some q) (Some n) (new, what, store, deep, handles, is) =
-        let x = told_request w.store store w.deep deep n.controller q w.moment (record { controller = new; handled = what }) handles in
-        by_answer (after_step w c n new store deep) what
-        (ap (λ (d : ToldDeep). d.faults.plan) x.deep ∙ fetches_after w.deep (handle_call n.controller q) none) is
-
--- the call of a request writes nothing
-call_writes : (t : Told) (r : Request) (rule : Rule) → (store_after t (call_of r rule)).writes ≡ t.writes
-call_writes t r not_leading = refl
-call_writes t r (uploads path bytes) = refl
-call_writes t r not_assigned = refl
-call_writes t r past_last = refl
-call_writes t r (has_machine place what) = refl
-call_writes t r (has_none what) = read_same t
-
-delivery_writes : (w v : State) (m : ℕ) (c : ControllerId) (o : Outcome) → Steps w (event.Deliver m c) v (Ok o) → v.store.writes ≡ w.store.writes
-delivery_writes w v m c o (cost, due, h) = by_found (request_at w m) (slice_get w.controllers c.0) h
-  where
-    by_answer : (z : State) (what : Handled) → z.store.writes ≡ w.store.writes → (v, o) ≡ handed z cost what → v.store.writes ≡ w.store.writes
-    by_answer z (handled.Reply y) same is = ap (λ (n : Next). n.0.store.writes) is ∙ same
-    by_answer z (handled.Job j) same is = ap (λ (n : Next). n.0.store.writes) is ∙ same
-
-    by_found : (q : Option Request) (n : Option ControllerNode) → DeliversAt q n w c cost (v, o) → v.store.writes ≡ w.store.writes
-    by_found None n h = absurd h
-    by_found (Some q) None h = absurd h
-    by_found (Some q) (Some n) (new, what, store, deep, handles, is) =
-        let x = told_request w.store store w.deep deep n.controller q w.moment (record { controller = new; handled = what }) handles in
-        by_answer (after_step w c n new store deep) what
-        (ap (λ (t : Told). t.writes) x.store ∙ call_writes w.store q (turn_of n.controller q)) is
-
-job_plan : (w v : State) (c : ControllerId) (j : ℕ) (o : Outcome) → Steps w (event.Job c j) v (Ok o) → w.store.faults.plan ≡ [] → v.store.faults.plan ≡ []
-job_plan w v c j o steps none =
-    let did = own_step w v c j o steps in
-    let x = told_work w.store did.store w.deep did.deep did.node.controller j w.moment (record { controller = did.new; step = did.did }) did.works in
-    ap (λ (t : Told). t.faults.plan) (did.written ∙ x.store) ∙ unplanned_after w.store (work_call did.node.controller j w.moment) none
-
-job_fetches : (w v : State) (c : ControllerId) (j : ℕ) (o : Outcome) → Steps w (event.Job c j) v (Ok o) → w.deep.faults.plan ≡ [] → v.deep.faults.plan ≡ []
-job_fetches w v c j o (cost, due, h) none = by_node (slice_get w.controllers c.0) h
-  where
-    by_reply : (z : State) (step : JobStep) (r : Option Reply) → z.deep.faults.plan ≡ [] → (v, o) ≡ stepped_by z cost step r → v.deep.faults.plan ≡ []
-    by_reply z step None same is = ap (λ (n : Next). n.0.deep.faults.plan) is ∙ same
-    by_reply z step (Some y) same is = ap (λ (n : Next). n.0.deep.faults.plan) is ∙ same
-
-    by_node : (n : Option ControllerNode) → JobStepsAt n w c j cost (v, o) → v.deep.faults.plan ≡ []
-    by_node None h = absurd h
-    by_node (Some n) (new, step, store, deep, works, is) =
-        let x = told_work w.store store w.deep deep n.controller j w.moment (record { controller = new; step = step }) works in
-        by_reply (noted_set (after_step w c n new store deep) cost (length w.store.writes)) step step.reply
-        (ap (λ (d : ToldDeep). d.faults.plan) x.deep ∙ fetches_after w.deep (work_call n.controller j w.moment) none) is
-
-delivery_log : (w v : State) (m : ℕ) (c : ControllerId) (o : Outcome) → Steps w (event.Deliver m c) v (Ok o) → v.log ≡ w.log
-delivery_log w v m c o (cost, due, h) = by_found (request_at w m) (slice_get w.controllers c.0) h
-  where
-    by_answer : (z : State) (what : Handled) → z.log ≡ w.log → (v, o) ≡ handed z cost what → v.log ≡ w.log
-    by_answer z (handled.Reply y) same is = ap (λ (n : Next). n.0.log) is ∙ same
-    by_answer z (handled.Job j) same is = ap (λ (n : Next). n.0.log) is ∙ same
-
-    by_found : (q : Option Request) (n : Option ControllerNode) → DeliversAt q n w c cost (v, o) → v.log ≡ w.log
-    by_found None n h = absurd h
-    by_found (Some q) None h = absurd h
-    by_found (Some q) (Some n) (new, what, store, deep, handles, is) = by_answer (after_step w c n new store deep) what refl is
-
-delivery_leads : (w v : State) (m : ℕ) (c : ControllerId) (o : Outcome) → Steps w (event.Deliver m c) v (Ok o) → KeepsLeads w v
-delivery_leads w v m c o (cost, due, h) = by_found (request_at w m) (slice_get w.controllers c.0) refl h
-  where
-    by_found : (q : Option Request) (n : Option ControllerNode) → slice_get w.controllers c.0 ≡ n → DeliversAt q n w c cost (v, o) → KeepsLeads w v
-    by_found None n at h = absurd h
-    by_found (Some q) None at h = absurd h
-    by_found (Some q) (Some n) at (new, what, store, deep, handles, is) =
-        leads_put w v c n (record n { controller = new }) at
-        (ap (λ (x : Next). x.0.controllers) is ∙ handed_same (after_step w c n new store deep) cost what) refl
-        (handled_leads n.controller q w.moment w.store store w.deep deep new what handles)
-
-job_keeps_leads : (w v : State) (c : ControllerId) (j : ℕ) (o : Outcome) → Steps w (event.Job c j) v (Ok o) → KeepsLeads w v
-job_keeps_leads w v c j o steps =
-    let did = own_step w v c j o steps in
-    leads_put w v c did.node (record did.node { controller = did.new }) did.at did.controllers refl
-    (worked_leads w.store did.store w.deep did.deep did.node.controller did.new j w.moment did.did did.works)
-
-job_log : (w v : State) (c : ControllerId) (j : ℕ) (o : Outcome) → Steps w (event.Job c j) v (Ok o) → v.log ≡ w.log
-job_log w v c j o (cost, due, h) = by_node (slice_get w.controllers c.0) h
-  where
-    by_reply : (z : State) (step : JobStep) (r : Option Reply) → z.log ≡ w.log → (v, o) ≡ stepped_by z cost step r → v.log ≡ w.log
-    by_reply z step None same is = ap (λ (n : Next). n.0.log) is ∙ same
-    by_reply z step (Some y) same is = ap (λ (n : Next). n.0.log) is ∙ same
-
-    by_node : (n : Option ControllerNode) → JobStepsAt n w c j cost (v, o) → v.log ≡ w.log
-    by_node None h = absurd h
-    by_node (Some n) (new, step, store, deep, works, is) =
-        by_reply (noted_set (after_step w c n new store deep) cost (length w.store.writes)) step step.reply refl is
-
--- ---- a job
-
--- a job that is open for a request
-record IsOpenFor (z : State) (c : ControllerId) (j : ℕ) (q : Request) : Type 0 where
-  job : Job
-  there : open_job z c j ≡ Some job
-  asked : job.asked ≡ asked_of q
-  starts : Starts q.offset q.kind job.stage
-
-starts_on : (x : Offset) (k : RequestKind) (s t : JobStage) → commit_end t ≡ commit_end s → Starts x k s → Starts x k t
-starts_on x (kind.CommitEnd path) s t same starts = same ∙ starts
-starts_on x kind.Stopped s t same starts = same ∙ starts
-starts_on x (kind.Extend millis) s t same starts = tt
-starts_on x (kind.Consumed reason) s t same starts = absurd starts
-starts_on x kind.CommitStart s t same starts = absurd starts
-starts_on x (kind.Upload path bytes) s t same starts = absurd starts
-
--- a job commits where it has an end
-work_commits : (w : Work) (x : Offset) → work_end w ≡ Some x → commits (stage.IdealRead w []) ≡ true
-work_commits (work.Commit done) x e = refl
-work_commits work.Offline x e = absurd (none-some x e)
-
-does_commit : (s : JobStage) (x : Offset) → commit_end s ≡ Some x → commits s ≡ true
-does_commit (stage.Check from end path) x e = refl
-does_commit (stage.Done from commit) x e = refl
-does_commit (stage.Next done) x e = refl
-does_commit (stage.IdealRead w found) x e = work_commits w x e
-does_commit (stage.IdealSet w found ideal) x e = work_commits w x e
-does_commit stage.Ended x e = absurd (none-some x e)
-
-work_offline : (w : Work) → work_end w ≡ None → commits (stage.IdealRead w []) ≡ false
-work_offline (work.Commit done) e = absurd (none-some _ (sym e))
-work_offline work.Offline e = refl
-
-does_not : (s : JobStage) → commit_end s ≡ None → commits s ≡ false
-does_not (stage.Check from end path) e = absurd (none-some end (sym e))
-does_not (stage.Done from commit) e = absurd (none-some commit.end (sym e))
-does_not (stage.Next done) e = absurd (none-some _ (sym e))
-does_not (stage.IdealRead w found) e = work_offline w e
-does_not (stage.IdealSet w found ideal) e = work_offline w e
-does_not stage.Ended e = refl
-
--- what a job answers fits its request
-job_fits : (h : List Seen) (p : Partition) (t : Sequence) (rose : Type 0) (n : StepName) (x : Offset) (k : RequestKind) (from : JobStage) (s : ReplyStatus)
-    → Starts x k from → StatusSo h p t rose (commits from) n s
-    → ((seen : SeenMeta) → commit_end from ≡ Some x → s ≡ status.CommitSuccess seen → ends_at x seen ≡ true) → Fits x k s
-job_fits h p t rose n x (kind.CommitEnd path) from s starts so success = by_status s so success
-  where
-    by_status : (s : ReplyStatus) → StatusSo h p t rose (commits from) n s
-        → ((seen : SeenMeta) → commit_end from ≡ Some x → s ≡ status.CommitSuccess seen → ends_at x seen ≡ true) → Fits x (kind.CommitEnd path) s
-    by_status (status.CommitSuccess seen) so success = success seen starts refl
-    by_status (status.Failed cause) so success = tt
-    by_status status.Processed so success = absurd (true≢false (sym (does_commit from x starts) ∙ so))
-    by_status (status.Keep seen) so success = absurd so
-    by_status (status.UploadSuccess shown) so success = absurd so
-    by_status status.Hold so success = absurd so
-    by_status (status.CatchUp o) so success = absurd so
-    by_status status.Discard so success = absurd so
-    by_status (status.Commit o) so success = absurd so
-    by_status status.NotLeader so success = absurd so
-    by_status status.CommitContinue so success = absurd so
-job_fits h p t rose n x kind.Stopped from s starts so success = by_status s so
-  where
-    by_status : (s : ReplyStatus) → StatusSo h p t rose (commits from) n s → Fits x kind.Stopped s
-    by_status (status.CommitSuccess seen) so = absurd (true≢false (sym so.0 ∙ does_not from starts))
-    by_status (status.Failed cause) so = tt
-    by_status status.Processed so = tt
-    by_status (status.Keep seen) so = absurd so
-    by_status (status.UploadSuccess shown) so = absurd so
-    by_status status.Hold so = absurd so
-    by_status (status.CatchUp o) so = absurd so
-    by_status status.Discard so = absurd so
-    by_status (status.Commit o) so = absurd so
-    by_status status.NotLeader so = absurd so
-    by_status status.CommitContinue so = absurd so
-job_fits h p t rose n x (kind.Extend millis) from s starts so success = tt
-job_fits h p t rose n x (kind.Consumed reason) from s starts so success = absurd starts
-job_fits h p t rose n x kind.CommitStart from s starts so success = absurd starts
-job_fits h p t rose n x (kind.Upload path bytes) from s starts so success = absurd starts
-
--- a job's answer puts off, or is a success
-abbrev OffOrSuccess : ReplyStatus → Type 0
-OffOrSuccess s = IsPutOff s ⊎ IsSuccess s
-
-job_status : (h : List Seen) (p : Partition) (t : Sequence) (rose : Type 0) (b : Bool) (n : StepName) (s : ReplyStatus) → StatusSo h p t rose b n s → OffOrSuccess s
-job_status h p t rose b n (status.CommitSuccess seen) so = inr tt
-job_status h p t rose b n status.Processed so = inr tt
-job_status h p t rose b n (status.Failed cause) so = inl tt
-job_status h p t rose b n (status.Keep seen) so = absurd so
-job_status h p t rose b n (status.UploadSuccess shown) so = absurd so
-job_status h p t rose b n status.Hold so = absurd so
-job_status h p t rose b n (status.CatchUp o) so = absurd so
-job_status h p t rose b n status.Discard so = absurd so
-job_status h p t rose b n (status.Commit o) so = absurd so
-job_status h p t rose b n status.NotLeader so = absurd so
-job_status h p t rose b n status.CommitContinue so = absurd so
-
--- behind a step it goes on, or it has answered so
-abbrev Behind : State → ControllerId → ℕ → Request → Option Replied → Type 0
-Behind y c j q None = IsOpenFor y c j q
-Behind y c j q (Some r) = IsAnswer y (asked_of q) r × Fits q.offset q.kind r.status × OffOrSuccess r.status
-
-no_ending : (message : Option ℕ) → ending message None ≡ None
-no_ending None = refl
-no_ending (Some m) = refl
-
-step_behind : (z y : State) (c : ControllerId) (j : ℕ) (q : Request) (o : Outcome) → IsSafeWorld z → IsOpenFor z c j q → Steps z (event.Job c j) y (Ok o)
-    → Behind y c j q (ended_in o)
-step_behind z y c j q o safe is steps =
-    subst (λ (x : Outcome). Behind y c j q (ended_in x)) (sym did.told.1)
-    (by_reply did.did.reply refl did.sends its.leaves its.ends
-    (subst (λ (x : Outcome). AnswersBehind y c j (asked_of q) (ended_in x)) did.told.1
-    (job_steps z y c j (asked_of q) o safe (record { job = is.job; there = is.there; asked = is.asked }) steps)))
-  where
-    did : OwnStep z y c j o
-    did = own_step z y c j o steps
-
-    its : WorksOver z.setup (past_of z) z.store did.store z.deep did.deep did.node.controller did.new j did.did
-    its = over z y c j o safe did
-
-    own : its.job ≡ is.job
-    own = is_open_job z y c j o safe did is.job is.there
-
-    starts : Starts q.offset q.kind its.job.stage
-    starts = subst (λ (x : Job). Starts q.offset q.kind x.stage) (sym own) is.starts
-
-    Rose : Type 0
-    Rose = MetFault z.store did.store z.deep did.deep
-
-    success : (reply : Reply) → did.did.reply ≡ Some reply → (seen : SeenMeta) → IsDoneStatus seen.meta.status → commit_end its.job.stage ≡ Some q.offset
-        → reply.status ≡ status.CommitSuccess seen → ends_at q.offset seen ≡ true
-    success reply replies seen done ends told =
-        let at : job_of did.node.controller j ≡ Some its.job = its.open_job in
-        let e = success_ends z.setup (past_of z) (means z.store) (means did.store) (deep_means z.deep) (deep_means did.deep) did.node.controller j z.moment
-        (record { controller = did.new; step = did.did }) its.job q.offset reply seen (safe.safe.controllers c.0 did.node did.at).over did.works at ends replies told done in
-        ap (λ (s : Status). is_at q.offset (end_in s)) e.1 ∙ eq-eqb e.0.end.0 q.offset.0 (ap (λ (x : Offset). x.0) e.2)
-
-    done_so : (h : List Seen) (p : Partition) (t : Sequence) (n : StepName) (b : Bool) (s : ReplyStatus) (seen : SeenMeta) → StatusSo h p t Rose b n s
-        → s ≡ status.CommitSuccess seen → IsDoneStatus seen.meta.status
-    done_so h p t n b s seen so e = (subst (StatusSo h p t Rose b n) e so).1.1
-
-    by_reply : (r : Option Reply) → did.did.reply ≡ r → SendsIts z.sent y did.told.0 r → LeavesJob its.job r (job_of did.new j)
-        → EndsSo did.store.writes its.job.asked.partition its.job.asked.sequence Rose (commits its.job.stage) did.did.step r
-        → AnswersBehind y c j (asked_of q) (ending did.told.0 r) → Behind y c j q (ending did.told.0 r)
-    by_reply None replies sends leaves so behind =
-        subst (Behind y c j q) (sym (no_ending did.told.0))
-        (record {
-          job = leaves.0;
-          there = there_then z y c j o safe did ∙ leaves.1;
-          asked = leaves.3 ∙ ap (λ (x : Job). x.asked) own ∙ is.asked;
-          starts = starts_on q.offset q.kind its.job.stage leaves.0.stage leaves.4 starts;
-        })
-    by_reply (Some reply) replies sends leaves so behind =
-        let at : ending did.told.0 (Some reply) ≡ Some (replied (length z.sent) reply) = ap (λ (m : Option ℕ). ending m (Some reply)) sends.0 in
-        subst (Behind y c j q) (sym at) (
-          subst (AnswersBehind y c j (asked_of q)) at behind,
-          job_fits did.store.writes its.job.asked.partition its.job.asked.sequence Rose did.did.step q.offset q.kind its.job.stage reply.status starts so
-              (λ seen ends told.
-              success reply replies seen
-              (done_so did.store.writes its.job.asked.partition its.job.asked.sequence did.did.step (commits its.job.stage) reply.status seen so told) ends told),
-          job_status did.store.writes its.job.asked.partition its.job.asked.sequence Rose (commits its.job.stage) did.did.step reply.status so,
-        )
-
--- ---- what a job pays
-
--- a job that is open, and has paid for what it has written since; and the segment's machine as it started
-record IsPaying (u z : State) (c : ControllerId) (j : ℕ) (q : Request) : Type 0 where
-  job : Job
-  there : open_job z c j ≡ Some job
-  pays : Pays u.setup u.log u.store.writes job.asked z.store.writes job.stage
-  started : IsPlain u q → HasStarted u.store.writes (machines_at u c) (machines_at z c) q
-
--- behind it fewer writes are left, or nothing was written and the segment's machine has moved
-abbrev PaysBehind : State → State → ControllerId → ℕ → Request → Option Replied → Type 0
-PaysBehind u y c j q None = IsPaying u y c j q
-PaysBehind u y c j q (Some r) =
-    Spends u.setup u.log u.store.writes y.store.writes
-    × (IsPlain u q → y.store.writes ≡ u.store.writes → IsMoved u.store.writes (machines_at u c) (machines_at y c) q r.status)
-
-module _ (u z y : State) (c : ControllerId) (j : ℕ) (q : Request) (o : Outcome) (before : KeepsOn u z) (behind : KeepsOn u y) (opened : IsOpenFor z c j q)
-    (is : IsPaying u z c j q) (steps : Steps z (event.Job c j) y (Ok o)) where
-  safe_before : IsSafeWorld z
-  safe_before = before.going.safe
-
-  did : OwnStep z y c j o
-  did = own_step z y c j o steps
-
-  abbrev its : WorksOver z.setup (past_of z) z.store did.store z.deep did.deep did.node.controller did.new j did.did
-  its = over z y c j o safe_before did
-
-  writes : y.store.writes ≡ did.store.writes
-  writes = ap (λ (t : Told). t.writes) did.written
-
-  few : (p : Partition) → p.0 < u.setup.partitions → commits_of did.store.writes p ≤ length (messages_of u.log p)
-  few p inside =
-      subst (λ (h : List Seen). commits_of h p ≤ length (messages_of u.log p)) writes
-      (subst (λ (l : Log). commits_of y.store.writes p ≤ length (messages_of l p)) behind.log
-      (commits_within y p behind.going.safe (subst (λ (s : Setup). p.0 < s.partitions) (sym behind.setup) inside)))
-
-  paid : AfterPays u.setup u.log u.store.writes its.job.asked (commits its.job.stage) did.store.writes (job_of did.new j) did.did.reply
-  paid =
-      job_pays u.setup (past_of z) u.log u.store.writes z.store did.store z.deep did.deep did.node.controller did.new j its.job z.moment did.did refl
-      (subst (λ (s : Setup). IsControllerOver s (past_of z) did.node.controller) before.setup (safe_before.safe.controllers c.0 did.node did.at).over)
-      (versions_count_writes (starting_of z.setup) z.store.writes safe_before.safe.past.lawful) did.works its.open_job few
-      (subst (λ (k : Job). Pays u.setup u.log u.store.writes k.asked z.store.writes k.stage) (sym (is_open_job z y c j o safe_before did is.job is.there)) is.pays)
-
-  -- ---- the machines
-
-  machines_before : machines_at z c ≡ did.node.controller.machines
-  machines_before = ap machines_in did.at
-
-  machines_behind : machines_at y c ≡ machines_after (machines_at z c) its.job.asked (commits its.job.stage) did.did.reply
-  machines_behind =
-      ap (λ (cs : List ControllerNode). machines_in (slice_get cs c.0)) did.controllers
-      ∙ ap machines_in (own_slot z.controllers c.0 did.node (record did.node { controller = did.new }) did.at)
-      ∙ worked_machines z.store did.store z.deep did.deep did.node.controller did.new j z.moment did.did did.works its.job its.open_job
-      ∙ ap (λ (ms : List SegmentMachine). machines_after ms its.job.asked (commits its.job.stage) did.did.reply) (sym machines_before)
-
-  own_asked : its.job.asked ≡ asked_of q
-  own_asked = ap (λ (k : Job). k.asked) (is_open_job z y c j o safe_before did opened.job opened.there) ∙ opened.asked
-
-  module _ (plain : IsPlain u q) (same : y.store.writes ≡ u.store.writes) (reply : Reply) where
-    exact : IsExact z.store did.store z.deep did.deep (work_call did.node.controller j z.moment)
-        (worked_on z.store z.deep did.node.controller j z.moment) (record { controller = did.new; step = did.did })
-    exact = told_work z.store did.store z.deep did.deep did.node.controller j z.moment (record { controller = did.new; step = did.did }) did.works
-
-    unmet : MetFault z.store did.store z.deep did.deep → ⊥
-    unmet =
-        never_met z.store did.store z.deep did.deep (work_call did.node.controller j z.moment) exact.store exact.deep (before.unplanned plain.readable.unplanned)
-        (before.fetches plain.readable.fetches)
-
-    one : HaveOneMachine (machines_at z c)
-    one = subst HaveOneMachine (sym machines_before) (safe_before.safe.controllers c.0 did.node did.at).over.one
-
-    right : IsPast u.setup (past_of y)
-    right = subst (λ (s : Setup). IsPast s (past_of y)) behind.setup behind.going.safe.safe.past
-
-    abbrev StatusAt : Bool → Type 0
-    StatusAt commit =
-        StatusSo u.store.writes q.partition q.sequence (MetFault z.store did.store z.deep did.deep) commit did.did.step reply.status
-
-    status_at : StatusSo did.store.writes its.job.asked.partition its.job.asked.sequence (MetFault z.store did.store z.deep did.deep) (commits its.job.stage) did.did.step reply.status
-        → StatusAt (commits its.job.stage)
-    status_at so =
-        subst (λ (h : List Seen). StatusSo h q.partition q.sequence (MetFault z.store did.store z.deep did.deep) (commits its.job.stage) did.did.step reply.status) (sym writes ∙ same)
-        (subst (λ (a : Asked). StatusSo did.store.writes a.partition a.sequence (MetFault z.store did.store z.deep did.deep) (commits its.job.stage) did.did.step reply.status) own_asked so)
-
-    abbrev PaidAt : Bool → Type 0
-    PaidAt commit = StatusPaid u.setup u.log u.store.writes commit u.store.writes reply.status
-
-    paid_at : StatusPaid u.setup u.log u.store.writes (commits its.job.stage) did.store.writes reply.status → PaidAt (commits its.job.stage)
-    paid_at k = subst (λ (h : List Seen). StatusPaid u.setup u.log u.store.writes (commits its.job.stage) h reply.status) (sym writes ∙ same) k
-
-    started : HasStarted u.store.writes (machines_at u c) (machines_at z c) q
-    started = is.started plain
-
-    by_commit : (commit : Bool) → (commit ≡ true → IsOwn u.store.writes q started.moved.machine) → PaidAt commit → StatusAt commit
-        → IsMoved u.store.writes (machines_at u c) (machines_after (machines_at z c) its.job.asked commit (Some reply)) q reply.status
-    by_commit true own k so =
-        commit_moves u.setup u.log u (past_of y) right q plain.within same plain (machines_at u c) (machines_at z c) its.job.asked one started
-        (ap (λ (a : Asked). a.partition) own_asked) (ap (λ (a : Asked). a.sequence) own_asked) (MetFault z.store did.store z.deep did.deep) did.did.step reply.status
-        unmet (own refl) k so
-    by_commit false own k so =
-        stop_moves u.setup u.log u (past_of y) right q plain.within same plain (machines_at u c) (machines_at z c) its.job.asked one started
-        (ap (λ (a : Asked). a.partition) own_asked) (ap (λ (a : Asked). a.sequence) own_asked) (MetFault z.store did.store z.deep did.deep) did.did.step reply.status
-        unmet k so
-
-    -- a commit's request was a CommitEnd
-    own_machine : commits its.job.stage ≡ true → IsOwn u.store.writes q started.moved.machine
-    own_machine commit = by_kind q.kind refl started.own starts
-      where
-        starts : Starts q.offset q.kind its.job.stage
-        starts = subst (λ (k : Job). Starts q.offset q.kind k.stage) (sym (is_open_job z y c j o safe_before did opened.job opened.there)) opened.starts
-
-        by_kind : (k : RequestKind) → q.kind ≡ k → IsOwnBy u.store.writes q started.moved.machine k → Starts q.offset k its.job.stage
-            → IsOwn u.store.writes q started.moved.machine
-        by_kind (kind.CommitEnd path) at own begins = own
-        by_kind kind.Stopped at own begins = absurd (true≢false (sym commit ∙ does_not its.job.stage begins))
-        by_kind (kind.Extend millis) at own begins = absurd (plain.unextended millis at)
-        by_kind (kind.Consumed reason) at own begins = absurd begins
-        by_kind kind.CommitStart at own begins = absurd begins
-        by_kind (kind.Upload path bytes) at own begins = absurd begins
-
-    ended_moves : StatusPaid u.setup u.log u.store.writes (commits its.job.stage) did.store.writes reply.status
-        → StatusSo did.store.writes its.job.asked.partition its.job.asked.sequence (MetFault z.store did.store z.deep did.deep) (commits its.job.stage) did.did.step reply.status
-        → IsMoved u.store.writes (machines_at u c) (machines_after (machines_at z c) its.job.asked (commits its.job.stage) (Some reply)) q reply.status
-    ended_moves k so = by_commit (commits its.job.stage) own_machine (paid_at k) (status_at so)
-
-  step_pays : PaysBehind u y c j q (ended_in o)
-  step_pays =
-      subst (λ (x : Outcome). PaysBehind u y c j q (ended_in x)) (sym did.told.1) (by_reply did.did.reply did.sends paid its.ends machines_behind)
-    where
-      by_reply : (r : Option Reply) → SendsIts z.sent y did.told.0 r
-          → AfterPays u.setup u.log u.store.writes its.job.asked (commits its.job.stage) did.store.writes (job_of did.new j) r
-          → EndsSo did.store.writes its.job.asked.partition its.job.asked.sequence (MetFault z.store did.store z.deep did.deep) (commits its.job.stage) did.did.step r
-          → machines_at y c ≡ machines_after (machines_at z c) its.job.asked (commits its.job.stage) r → PaysBehind u y c j q (ending did.told.0 r)
-      by_reply None sends (k, there, own, pays) so machines =
-          subst (PaysBehind u y c j q) (sym (no_ending did.told.0))
-          (record {
-            job = k;
-            there = there_then z y c j o safe_before did ∙ there;
-            pays =
-                subst (λ (a : Asked). Pays u.setup u.log u.store.writes a y.store.writes k.stage) (sym own)
-                (subst (λ (h : List Seen). Pays u.setup u.log u.store.writes its.job.asked h k.stage) (sym writes) pays);
-            started =
-                λ plain. subst (λ (ms : List SegmentMachine). HasStarted u.store.writes (machines_at u c) ms q) (sym machines) (is.started plain);
-          })
-      by_reply (Some reply) sends ends so machines =
-          let at : ending did.told.0 (Some reply) ≡ Some (replied (length z.sent) reply) = ap (λ (m : Option ℕ). ending m (Some reply)) sends.0 in
-          subst (PaysBehind u y c j q) (sym at) (
-            subst (λ (h : List Seen). Spends u.setup u.log u.store.writes h) (sym writes) ends.0,
-            λ plain same.
-                subst (λ (ms : List SegmentMachine). IsMoved u.store.writes (machines_at u c) ms q reply.status) (sym machines) (ended_moves plain same reply ends.1 so),
-          )
 
 -- ---- a delivery
 

@@ -1,7 +1,9 @@
 pub mod Answering
 pub mod Awaited
 pub mod Commits
+pub mod Controlled
 pub mod Delivered
+pub mod Ending
 pub mod Entries
 pub mod Exchanged
 pub mod Fitting
