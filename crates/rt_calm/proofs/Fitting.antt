@@ -250,12 +250,12 @@ module _ (i : Instance) (x : Offset) where
     own_there = noted_some i x m.reporters there
 
     -- a sender that is picked has the largest note
-    picked_own : i ≡ winner_of noting i x → top ≡ x
+    pub picked_own : i ≡ winner_of noting i x → top ≡ x
     picked_own is =
         own_note m.reporters top (subst (λ (w : Instance). SomeOf (Noted w top) noting) (sym is) (winner_noted noting i x beyond own_there))
 
     -- and another one is behind it, or level
-    behind : (x.0 == top.0) ≡ false → x.0 < top.0
+    pub behind : (x.0 == top.0) ≡ false → x.0 < top.0
     behind apart = by_order (cases_lt x.0 top.0)
       where
         by_order : (x.0 < top.0) ⊎ (top.0 ≤ x.0) → x.0 < top.0

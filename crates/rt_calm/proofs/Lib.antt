@@ -12,6 +12,7 @@ pub mod Leading
 pub mod Machines
 pub mod Moving
 pub mod Paying
+pub mod Picking
 pub mod Rounds
 pub mod Serving
 pub mod Settled

@@ -1,21 +1,23 @@
 //! What lies ahead of replicas, and what takes of it. Each law stands on a function that does nothing: its clause is the law.
-ghost use Rattle.std.specs.Prelude.{◌≡◌, ◌+◌, ◌*◌, ◌<◌, ◌≤◌, ◌⊎◌, ℕ, Bool, List, [], Ok, true, false, length};
+ghost use Rattle.std.specs.Prelude.{◌≡◌, ◌+◌, ◌*◌, ◌<◌, ◌≤◌, ◌⊎◌, ℕ, Bool, Contains, List, [], Ok, true, false, length, map};
 ghost use Rattle.rt_base.specs.declared.numbers.Instance.{Instance};
 ghost use Rattle.rt_base.specs.declared.numbers.Moment.{Moment};
+ghost use Rattle.rt_base.specs.declared.numbers.Offset.{Offset};
 ghost use Rattle.rt_base.specs.declared.numbers.Partition.{Partition};
 ghost use Rattle.rt_base.specs.declared.numbers.Sequence.{Sequence};
 ghost use Rattle.rt_commit.specs.Changes.{offline_changes};
 ghost use Rattle.rt_macros.specs.Doing.{Reached};
 ghost use Rattle.rt_macros.specs.Settling.{ExchangeTurn, ReplicasOfAll, Round, SegmentAt, Settles};
-ghost use Rattle.rt_model.specs.Completion.{goes, is_late, react, Completion};
+ghost use Rattle.rt_model.specs.Completion.{goes, is_late, patience, react, Completion, IsBeforePick};
 ghost use Rattle.rt_model.specs.Ideal.{commit_step_of, set_offline_of};
 ghost use Rattle.rt_model.specs.Setup.{IsSetup};
 ghost use Rattle.rt_model.specs.declared.completion.Ask.{Ask};
-ghost use Rattle.rt_model.specs.declared.completion.Ask.TheVariants.{CommitStart};
+ghost use Rattle.rt_model.specs.declared.completion.Ask.TheVariants.{CommitStart, Consumed};
 ghost use Rattle.rt_model.specs.declared.completion.Reaction.TheVariants.{Answer};
-ghost use Rattle.rt_model.specs.declared.completion.Said.TheVariants.{CommitContinue};
+ghost use Rattle.rt_model.specs.declared.completion.Said.TheVariants.{CommitContinue, Hold};
 ghost use Rattle.rt_model.specs.declared.ideal_state.IdealEntry.{IdealEntry};
-ghost use Rattle.rt_model.specs.declared.machine_state.MachineState.TheVariants.{CommitterNotified, CommitterUploading};
+ghost use Rattle.rt_model.specs.declared.machine_state.MachineState.TheVariants.{Aborted, CommitterNotified, CommitterUploading};
+ghost use Rattle.rt_model.specs.declared.request.Reason.{Reason};
 ghost use Rattle.rt_model.specs.declared.setup.Setup.{Setup};
 ghost use Rattle.rt_safety.specs.Runs.{Runs, Turn};
 ghost use Rattle.rt_state.specs.IsSafeWorld.{IsSafeWorld};
@@ -28,7 +30,7 @@ ghost use Rattle.rt_calm.specs.Ahead.{ahead_in_world, most_ahead, most_ahead_of}
 ghost use Rattle.rt_calm.specs.Commits.{commits_of};
 ghost use Rattle.rt_calm.specs.Off.{IsHeld, IsTurnedAway, PutsOff, Succeeds, Waits};
 ghost use Rattle.rt_calm.specs.Spent.{consuming_in, most_of, rounds_in_all, rounds_yet, Spends};
-ghost use Rattle.rt_calm.specs.Waiting.{HoldsOrStays, WaitsFor};
+ghost use Rattle.rt_calm.specs.Waiting.{GoesOn, HoldsOrStays, WaitsFor};
 
 /// A machine that waits for its committer, from COMMIT to the end of its job, stays as it is whatever another replica asks, unless that
 /// one is told HOLD; and the committer's CommitStart at its offset, up to the deadline, is told to go on. So a commit that goes on in
@@ -39,6 +41,18 @@ pub fn a_machine_waits_for_its_committer()
         → HoldsOrStays m (react m i what now) }
     ensures starts { (m : Completion) (now : Moment) → m.state ≡ CommitterNotified → is_late m now ≡ false → m.seen.meta.start.0 < m.offset.0
         → react m m.winner (CommitStart m.offset) now ≡ (Answer CommitContinue, goes m CommitterUploading) }
+{}
+
+/// What time does to a machine that makes replicas hold. Past its deadline it ends at the next message, which is told HOLD; and before a
+/// pick it holds nobody any more once it has waited so long for the other reports: a report past the segment's start is told COMMIT, or
+/// CATCH_UP to an offset ahead of it.
+#[tactic(auto, using(crate::proofs::Picking::late_ends, crate::proofs::Picking::waited_picks))]
+pub fn a_machine_that_has_waited_picks_or_ends()
+    ensures ends { (m : Completion) (i : Instance) (what : Ask) (now : Moment) → is_late m now ≡ true
+        → react m i what now ≡ (Answer Hold, goes m Aborted) }
+    ensures picks { (m : Completion) (i : Instance) (x : Offset) (reason : Reason) (now : Moment) → IsBeforePick m.state
+        → m.made.0 + patience < now.0 → m.seen.meta.start.0 < x.0 → Contains (map (λ r. r.instance) m.reporters) i
+        → GoesOn x (react m i (Consumed x reason) now).0 }
 {}
 
 /// In each run the exchange of a replica, as `settle` makes it, puts the replica off, by HOLD, NOT_LEADER or FAILED, or leaves less
