@@ -8,6 +8,7 @@ pub mod Entries
 pub mod Exchanged
 pub mod Fitting
 pub mod Keeping
+pub mod Lasting
 pub mod Leading
 pub mod Machines
 pub mod Moving

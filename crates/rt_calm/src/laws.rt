@@ -8,7 +8,7 @@ ghost use Rattle.rt_base.specs.declared.numbers.Sequence.{Sequence};
 ghost use Rattle.rt_commit.specs.Changes.{offline_changes};
 ghost use Rattle.rt_macros.specs.Doing.{Reached};
 ghost use Rattle.rt_macros.specs.Settling.{ExchangeTurn, ReplicasOfAll, Round, SegmentAt, Settles};
-ghost use Rattle.rt_model.specs.Completion.{goes, is_late, patience, react, Completion, IsBeforePick};
+ghost use Rattle.rt_model.specs.Completion.{goes, is_late, longest_time, patience, react, Completion, IsBeforePick};
 ghost use Rattle.rt_model.specs.Ideal.{commit_step_of, set_offline_of};
 ghost use Rattle.rt_model.specs.Setup.{IsSetup};
 ghost use Rattle.rt_model.specs.declared.completion.Ask.{Ask};
@@ -45,14 +45,16 @@ pub fn a_machine_waits_for_its_committer()
 
 /// What time does to a machine that makes replicas hold. Past its deadline it ends at the next message, which is told HOLD; and before a
 /// pick it holds nobody any more once it has waited so long for the other reports: a report past the segment's start is told COMMIT, or
-/// CATCH_UP to an offset ahead of it.
-#[tactic(auto, using(crate::proofs::Picking::late_ends, crate::proofs::Picking::waited_picks))]
+/// CATCH_UP to an offset ahead of it. No deadline is ever later than the longest time from now on (clause `lasts`).
+#[tactic(auto, using(crate::proofs::Picking::late_ends, crate::proofs::Picking::waited_picks, crate::proofs::Lasting::react_lasts))]
 pub fn a_machine_that_has_waited_picks_or_ends()
     ensures ends { (m : Completion) (i : Instance) (what : Ask) (now : Moment) → is_late m now ≡ true
         → react m i what now ≡ (Answer Hold, goes m Aborted) }
     ensures picks { (m : Completion) (i : Instance) (x : Offset) (reason : Reason) (now : Moment) → IsBeforePick m.state
         → m.made.0 + patience < now.0 → m.seen.meta.start.0 < x.0 → Contains (map (λ r. r.instance) m.reporters) i
         → GoesOn x (react m i (Consumed x reason) now).0 }
+    ensures lasts { (m : Completion) (i : Instance) (what : Ask) (now : Moment) → m.made.0 ≤ now.0 → m.deadline.0 ≤ now.0 + longest_time
+        → (react m i what now).1.deadline.0 ≤ now.0 + longest_time }
 {}
 
 /// In each run the exchange of a replica, as `settle` makes it, puts the replica off, by HOLD, NOT_LEADER or FAILED, or leaves less
