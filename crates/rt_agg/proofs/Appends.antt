@@ -42,11 +42,6 @@ yes_below m n lt = lt-ltb m n lt
 
 -- ---- the least and the greatest of scalars
 
-turned_gt : (o : Ordering) → is_gt o ≡ true → is_gt (ordering_reverse o) ≡ false
-turned_gt Greater e = refl
-turned_gt Less e = absurd (true≢false (sym e))
-turned_gt Equal e = absurd (true≢false (sym e))
-
 abbrev above : Scalar → Scalar → Bool
 above s t = is_gt (value_cmp (value_from s) (value_from t))
 

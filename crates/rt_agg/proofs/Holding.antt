@@ -200,11 +200,6 @@ known_of_entry es i k v apart at = lookup-from_Contains keys_equiv k v es apart 
 
 -- ---- before the first row, by whether there is a column
 
-pub first_some : (columns : List ColumnAt) (items : List Item) (order : List OrderKey) (key : List Value) (es : Entries) → (columns ≡ [] → ⊥) → es ≡ []
-    → lookup (same_key key) es ≡ first_known columns items order key
-first_some [] items order key es some none = absurd (some refl)
-first_some (c ∷ cs) items order key es some none = ap (lookup (same_key key)) none
-
 pub first_none : (columns : List ColumnAt) (items : List Item) (order : List OrderKey) (key : List Value) (es : Entries) → columns ≡ [] → es ≡ ([], all_known_of columns items order [] []) ∷ []
     → lookup (same_key key) es ≡ first_known columns items order key
 first_none [] items order key es none is = ap (lookup (same_key key)) is ∙ by (same_key key []) refl

@@ -14,7 +14,7 @@ use Rattle.rt_agg.specs.ResultHolder.{held_of, item_of, started_in, with_page_in
 use Rattle.rt_agg.specs.declared.placed_row.PlacedRow.{PlacedRow}
 use Rattle.rt_agg.specs.declared.result_holder.ResultHolder.{ResultHolder}
 use Rattle.rt_agg.proofs.Entries.{entries_more, entries_same, entry_changed, entry_of, keys_are, known_by}
-use Rattle.rt_agg.proofs.Holders.{Started, all_fewer, all_page_started, merges_here, merges_other, merges_started, page_first, page_none, rows_here, rows_items, rows_other, rows_started, some_before, some_items, some_kept, starts_here, starts_started}
+use Rattle.rt_agg.proofs.Holders.{Started, all_fewer, all_page_started, merges_here, merges_other, page_first, page_none, rows_here, rows_items, rows_other, rows_started, some_before, some_items, some_kept, starts_here, starts_started}
 
 abbrev Keys : Type 0
 Keys = List (List Value)
@@ -106,9 +106,6 @@ module _ (columns : List ColumnAt) (hs : List ResultHolder) (ks : Keys) where
   page_table t row_of page = record { apart = t.apart; started = all_page_started row_of (length ks) page hs t.started }
 
   -- ---- a group is merged with one of others
-
-  pub merge_table : IsTable hs ks → (group from : ℕ) (os : List ResultHolder) → IsTable (all_merged_in group from hs os) ks
-  merge_table t group from os = record { apart = t.apart; started = merges_started group from (length ks) hs os t.started }
 
   pub take_table : (m : ℕ) → IsTable hs ks → IsDistinct same_key (take m ks) → IsTable hs (take m ks)
   take_table m t apart = record { apart = apart; started = all_fewer (length ks) (length (take m ks)) hs (fewer m ks) t.started }

@@ -14,7 +14,7 @@ use Rattle.std.proofs.Common.{
   arith,
   append_assoc,
 }
-use Rattle.rt_base.specs.Source.{put_back, Rises}
+use Rattle.rt_base.specs.Source.{put_back}
 use Rattle.rt_base.specs.Sink.{added}
 
 -- two pieces that were read are one
@@ -28,11 +28,3 @@ pub added_more : (taken : Option (List ℕ)) (first second : List ℕ)
     → added (added taken first) second ≡ added taken (first ++ second)
 added_more None first second = refl
 added_more (Some bytes) first second = ap Some (append_assoc bytes first second)
-
--- a count that rose in the last call rose in all of them
-pub Rises_after : (before mid now : ℕ) → before ≤ mid → Rises mid now → Rises before now
-Rises_after before mid now h rise = (omega arith, λ e. omega (arith, rise.1))
-
--- and so did one that rose in the first
-pub Rises_before : (before mid now : ℕ) → Rises before mid → mid ≤ now → Rises before now
-Rises_before before mid now rise h = (omega arith, λ e. omega (arith, rise.1))

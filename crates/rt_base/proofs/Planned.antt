@@ -1,5 +1,5 @@
 -- Planned faults, and what a fault leaves of a call.
-use Rattle.std.proofs.Common.{◌≡◌, ℕ, zero, suc, ◌+◌, ◌<◌, ◌≤◌, ◌⊎◌, inl, inr, List, [], ◌∷◌, Bool, true, false, length, drop, add-one, Option, Some, None, Result, Err, refl, sym, ap, ◌∙◌, arith, slice_get, get_or}
+use Rattle.std.proofs.Common.{◌≡◌, ℕ, zero, suc, ◌+◌, ◌<◌, ◌≤◌, ◌⊎◌, inl, inr, List, [], ◌∷◌, Bool, true, false, length, drop, add-one, Option, Some, None, Result, Err, refl, sym, ap, ◌∙◌, slice_get, get_or}
 use Rattle.std.proofs.lemmas.List.{drop_all}
 use Rattle.std.proofs.lemmas.Option.{slice_get-get_or}
 use Rattle.rt_base.specs.declared.fault.Fault.{Fault}
@@ -64,12 +64,6 @@ pub without_fault : {X E Y : Type 0} (failed : E) (fault : Fault) (answer result
 without_fault failed Nothing answer result base after now never e s = (e, s)
 without_fault failed Lost answer result base after now never e s = absurd (never e)
 without_fault failed Kept answer result base after now never e s = absurd (never e)
-
--- the count of faults never falls
-pub counts_on : (before now : ℕ) (fault : Fault) → Counts before now fault → before ≤ now
-counts_on before now Nothing c = c
-counts_on before now Lost c = omega (arith, c)
-counts_on before now Kept c = omega (arith, c)
 
 -- where the fault is answered and the call itself wouldn't answer so, the count rose
 pub fault_rose : {X E : Type 0} (failed : E) (before now : ℕ) (fault : Fault) (answer result : Result X E)

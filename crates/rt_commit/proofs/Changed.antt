@@ -73,9 +73,6 @@ pub record IsChanged (h : List Seen) (k : Key) (read expected found : ℕ) : Typ
   pub is_expected : read ≡ expected
   pub differs : expected ≡ found → ⊥
 
-not_same : (a b : ℕ) (o : Option StoreRefused) (e : StoreRefused) → cond (a == b) None o ≡ some_refusal e → a ≡ b → ⊥
-not_same a b o e f same = absurd (none-some e (ap (λ t. cond t None o) (sym (eq-eqb a b same)) ∙ f))
-
 changed_in : (h : List Seen) (k : Key) (read expected found : ℕ) (o : Option Seen) → value_of h k ≡ o
     → change_in read o ≡ some_refusal (VersionChanged expected found) → IsChanged h k read expected found
 changed_in h k read expected found None v e = absurd (cc)

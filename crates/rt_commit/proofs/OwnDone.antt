@@ -99,9 +99,6 @@ module _ (q : Asked) (from : Seen) (end : Offset) (path : List ℕ) where
 
   -- ---- its success
 
-  abbrev some_status : ReplyStatus → Option ReplyStatus
-  some_status r = Some r
-
   abbrev success_with : SeenMeta → ReplyStatus
   success_with seen = status.CommitSuccess seen
 

@@ -123,10 +123,6 @@ job_gone js n place started j to found at k =
 
 -- ---- the steps that are left
 
-abbrev GoesFurther : Job → Stepping → Option ReplyStatus → Type 0
-GoesFurther j x None = Falls j.stage x.stage
-GoesFurther j x (Some r) = Unit {0}
-
 pub fewer_left : (c : Controlling) (n place : ℕ) (j : Job) (x : Stepping) (o : Option ReplyStatus) → job_place c.jobs n ≡ Some place
     → slice_get c.jobs place ≡ Some j → AreNumbered c.jobs c.started → IsTrying j.stage → (o ≡ None → Falls j.stage x.stage)
     → left_of (settled (with_stage c place j x.stage) place j.asked (commits j.stage) x.did o).controller n < left_of c n

@@ -4,7 +4,7 @@ use Rattle.std.specs.Prelude.{◌⊎◌}
 use Rattle.std.specs.List.{Contains}
 use Rattle.std.proofs.lemmas.Bool.{true≢false}
 use Rattle.rt_dict.specs.Order.{IsStrictOrder}
-use Rattle.rt_dict.specs.Values.{IsAscending, AreDistinctValues}
+use Rattle.rt_dict.specs.Values.{IsAscending}
 use Rattle.rt_dict.proofs.Ascending.{below_one_way}
 
 found_first : {X : Type 0} (x : X) (xs : List X) (z : X) (k : ℕ) → k < length (x ∷ xs) → get_or (x ∷ xs) k z ≡ z → (x ≡ z) ⊎ Contains xs z
@@ -59,11 +59,3 @@ module _ {K : Type 0} {below : K → K → Bool} (order : IsStrictOrder below) w
       (λ z at. rest_within x y xs ys first up z at (there z (Contains-tail x xs z at)))
       (λ z at. rest_within y x ys xs (sym first) up' z at (back z (Contains-tail y ys z at))) in
       ap (λ a. a ∷ xs) first ∙ ap (λ zs. y ∷ zs) rest
-
-  -- so a list has one list of distinct values
-  pub distinct_one : (all xs ys : List K) → AreDistinctValues below all xs → AreDistinctValues below all ys → xs ≡ ys
-  distinct_one all xs ys p q = same_ascending xs ys p.ascending q.ascending (λ z at. q.each_stands z (p.none_else z at)) (λ z at. p.each_stands z (q.none_else z at))
-
-  -- and an ascending list is that of its own values
-  pub distinct_itself : (xs : List K) → IsAscending below xs → AreDistinctValues below xs xs
-  distinct_itself xs up = record { ascending = up; each_stands = λ z at. at; none_else = λ z at. at }

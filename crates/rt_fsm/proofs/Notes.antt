@@ -21,9 +21,6 @@ Any-here P x xs p = (0, x, omega arith, refl, p)
 pub Any-later : {X : Type 0} (P : X → Type 0) (x : X) (xs : List X) → Any P xs → Any P (x ∷ xs)
 Any-later P x xs a = (suc a.0, a.1, omega (arith, a.2), a.3, a.4)
 
-pub Any-weaker : {X : Type 0} (P Q : X → Type 0) → ((x : X) → P x → Q x) → (xs : List X) → Any P xs → Any Q xs
-Any-weaker P Q f xs a = (a.0, a.1, a.2, a.3, f a.1 a.4)
-
 pub Any-some : {X : Type 0} (P : X → Type 0) (xs : List X) → SomeOf P xs → Any P xs
 Any-some P [] s = absurd s
 Any-some P (x ∷ xs) s = elim s [ inl p ↦ Any-here P x xs p | inr q ↦ Any-later P x xs (Any-some P xs q) ]

@@ -16,7 +16,7 @@ use Rattle.rt_deep.proofs.Seeing.{told_exact}
 use Rattle.rt_front.specs.declared.entry.Entry.{Entry}
 use Rattle.rt_front.specs.Histories.{Known, mine}
 use Rattle.rt_ground.specs.Histories.{whats, next_entry, Notes, Tells, SeesMore}
-use Rattle.rt_ground.specs.DeepCalls.{own_by, shared_meaning, held, NotesAt, SettledBy, AddsBeside, PutsOnce, IsAnswer, GetsFrom, SharesBy}
+use Rattle.rt_ground.specs.DeepCalls.{own_by, shared_meaning, held, NotesAt, SettledBy, AddsBeside, PutsOnce, IsAnswer, GetsFrom}
 use Rattle.rt_ground.proofs.Entries.{forth, back, whats_append, whats_front}
 
 -- ---- behind the lock
@@ -249,17 +249,6 @@ module _ (put : DeepPut) (before after : Known DeepPut) where
   told_only : (log : List (Entry DeepPut)) → Tells log before after → SeesMore before after
   told_only log told = record { log = log; told = told }
 
-  mine_beside : (o : Option DeepPut) (old new : List (Entry DeepPut)) → AddsBeside o old new before after put → AddsBeside o old after.seen before after put
-  mine_beside None old new n = subst (λ l. Notes old l before after put) (sym (ap (λ (k : Known DeepPut). k.seen) n.front)) n
-  mine_beside (Some file) old new t = (ap (λ (k : Known DeepPut). k.seen) t.1.front, t.1)
-
-  pub mine_put : (old new : List (Entry DeepPut)) (result : Result (Unit {0}) DeepRefused) → PutsOnce put old new before after result → SharesBy put before after result
-  mine_put old new (Ok x) w = record { log = old; adds = mine_beside (file_of (whats old) put.path) old new w.adds }
-  mine_put old new (Err Memory) w = told_only old w.told
-  mine_put old new (Err Absent) w = told_only old w.told
-  mine_put old new (Err (OtherBytes kept offered)) w = told_only old w.told
-  mine_put old new (Err Failed) w = told_only old w.told
-
 got : (path : List ℕ) (before after : Known DeepPut) (old : List (Entry DeepPut)) (r : Result (List ℕ) DeepRefused) → Tells old before after → Sees (shared_meaning before) (whats old) → whats after.seen ≡ whats old → IsAnswer (getting path (whats old)) r → Gets (shared_meaning before) (shared_meaning after) path r
 got path before after old (Err Memory) t s seen a = record { fault = Nothing; base = whats old; sees = s; goes = record { told = refl; faults = refl; seen = seen; own = own_told old before after t } }
 got path before after old (Ok x) t s seen a = record { fault = Nothing; base = whats old; sees = s; goes = record { meets = refl; counts = omega arith; answered = sym a; seen = seen; own = own_kept old before after (whats old) t seen } }
@@ -271,6 +260,3 @@ pub shared_get : (path : List ℕ) (before after : Known DeepPut) (old new : Lis
     → Gets (shared_meaning before) (shared_meaning after) path result
 shared_get path before after old new result w =
     got path before after old result w.told (sees before old w.told.begins w.once) (ap (λ (k : Known DeepPut). whats k.seen) w.told.front) w.answered
-
-pub mine_get : (path : List ℕ) (before after : Known DeepPut) (old new : List (Entry DeepPut)) (result : Result (List ℕ) DeepRefused) → GetsFrom path old new before after result → SeesMore before after
-mine_get path before after old new result w = record { log = old; told = w.told }

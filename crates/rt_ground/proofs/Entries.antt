@@ -4,8 +4,7 @@ use lib.Seq.{take-append-le}
 use Rattle.rt_lists.specs.Members.{IsFront}
 use Rattle.rt_lists.proofs.Members.{slice_get-push}
 use Rattle.rt_front.specs.declared.entry.Entry.{Entry}
-use Rattle.rt_front.specs.Histories.{Known}
-use Rattle.rt_ground.specs.Histories.{whats, Tells, AreOfCallers}
+use Rattle.rt_ground.specs.Histories.{whats, AreOfCallers}
 
 pub whats_append : {T : Type 0} (xs ys : List (Entry T)) → whats (xs ++ ys) ≡ whats xs ++ whats ys
 whats_append [] ys = refl
@@ -20,13 +19,6 @@ forth P a c b d e f x = subst (λ z. P c z) f (subst (λ y. P y b) e x)
 
 pub back : {A B : Type 0} (P : A → B → Type 0) (a c : A) (b d : B) → a ≡ c → b ≡ d → P c d → P a b
 back P a c b d e f x = subst (λ y. P y b) (sym e) (subst (λ z. P c z) (sym f) x)
-
--- what holds of the whole history holds of what a front that was told it has seen
-pub seen_holds : {T : Type 0} (P : List (Entry T) → Type 0) (log : List (Entry T)) (before after : Known T) → Tells log before after → P log → P after.seen
-seen_holds {T} P log before after told p = subst P (sym (ap (λ (k : Known T). k.seen) told.front)) p
-
-pub callers_seen : {T : Type 0} (callers : ℕ) (log : List (Entry T)) (before after : Known T) → Tells log before after → AreOfCallers callers log → AreOfCallers callers after.seen
-callers_seen callers log before after told below = seen_holds (AreOfCallers callers) log before after told below
 
 -- the callers of a register are those of its ground
 pub callers_told : {T : Type 0} (made callers : ℕ) (log v : List (Entry T)) → made ≡ callers → log ≡ v → AreOfCallers made log → AreOfCallers callers v

@@ -16,7 +16,7 @@ use Rattle.rt_front.specs.declared.entry.Entry.{Entry}
 use Rattle.rt_front.specs.Histories.{Known, mine}
 use Rattle.rt_ground.specs.Histories.{whats, next_entry, Notes, Tells, SeesMore}
 use Rattle.rt_ground.specs.Lawfulness.{IsLawfulStore}
-use Rattle.rt_ground.specs.StoreCalls.{history_of, seen_by, own_by, shared_meaning, WritesOnce, IsAnswer, Looks, SharesBy, ShowsAll}
+use Rattle.rt_ground.specs.StoreCalls.{history_of, seen_by, own_by, shared_meaning, WritesOnce, IsAnswer, Looks}
 use Rattle.rt_ground.proofs.Stores.{opened_append, opened_front}
 use Rattle.rt_ground.proofs.Entries.{whats_append}
 
@@ -124,15 +124,6 @@ module _ {X : Type 0} (tell : Seen → X) (call : Write) (o : Starting) (before 
   told_only : (log : List (Entry Seen)) → Tells log before after → SeesMore before after
   told_only log told = record { log = log; told = told }
 
-  pub mine_written : (old new : List (Entry Seen)) (result : Result X StoreRefused) → WritesOnce tell call o old new before after result → SharesBy call o before after result
-  mine_written old new (Ok x) w =
-      record { log = old; noted = subst (λ l. Notes old l before after (written_by (history_of o old) call)) (sym (ap (λ (k : Known Seen). k.seen) w.noted.front)) w.noted }
-  mine_written old new (Err Memory) w = w.1
-  mine_written old new (Err NoNode) w = told_only old w.told
-  mine_written old new (Err (Exists found)) w = told_only old w.told
-  mine_written old new (Err (VersionChanged expected found)) w = told_only old w.told
-  mine_written old new (Err Failed) w = told_only old w.told
-
 -- ---- reads
 
 module _ {X : Type 0} (answer : List Seen → Result X StoreRefused) (o : Starting) (before after : Known Seen) where
@@ -151,19 +142,6 @@ module _ {X : Type 0} (answer : List Seen → Result X StoreRefused) (o : Starti
   pub shared_read : (old new : List (Entry Seen)) (result : Result X StoreRefused) → Looks answer o old new before after result → Reading result
   shared_read old new result w =
       by_result old result w.told (sees o before old w.told.begins w.lawful) (ap (λ (k : Known Seen). seen_by o k) w.told.front) w.answered
-
-  pub mine_read : (old new : List (Entry Seen)) (result : Result X StoreRefused) → Looks answer o old new before after result → SeesMore before after
-  mine_read old new result w = record { log = old; told = w.told }
-
-pub shows_all : (o : Starting) (old : List (Entry Seen)) (before after : Known Seen) (writes : List Seen) → Tells old before after → writes ≡ history_of o old
-    → IsLawfulStore o old → ShowsAll o before after writes
-shows_all o old before after writes told whole lawful =
-    let seen : after.seen ≡ old = ap (λ (k : Known Seen). k.seen) told.front in
-    record {
-      sees = record { log = old; told = told };
-      whole = whole ∙ ap (λ l. history_of o l) (sym seen);
-      lawful = subst (λ l. IsLawfulStore o l) (sym seen) lawful;
-    }
 
 -- ---- as the contracts see it
 

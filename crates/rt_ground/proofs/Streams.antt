@@ -16,8 +16,8 @@ use Rattle.rt_stream.proofs.Growth.{log_message, log_same, log_then}
 use Rattle.rt_front.specs.declared.entry.Entry.{Entry}
 use Rattle.rt_front.specs.Histories.{Known, mine}
 use Rattle.rt_ground.specs.declared.appended.Appended.{Appended}
-use Rattle.rt_ground.specs.Histories.{whats, next_entry, Notes, Tells, SeesMore}
-use Rattle.rt_ground.specs.StreamCalls.{sent_to, with_appended, log_of, messages, seen_by, shared_meaning, SettledBy, Looks, AppendsOnce, SharesBy}
+use Rattle.rt_ground.specs.Histories.{whats, next_entry, Tells}
+use Rattle.rt_ground.specs.StreamCalls.{sent_to, with_appended, log_of, messages, seen_by, shared_meaning, SettledBy, Looks, AppendsOnce}
 use Rattle.rt_ground.proofs.Entries.{whats_append, whats_front}
 
 -- ---- logs
@@ -113,24 +113,6 @@ look_closed n v old new before after view same told =
 
 -- ---- shared
 
-pub mine_appended : (n : ℕ) (before after : Known Appended) (a : Appended) (old new : List (Entry Appended)) (answer : Result Offset FeedRefused) → AppendsOnce n old new before after a answer
-    → SharesBy n before after a answer
-mine_appended n before after a old new (Ok offset) w =
-    record {
-      log = old;
-      within = w.within;
-      offset = w.offset;
-      noted = subst (λ l. Notes old l before after a) (sym (ap (λ (k : Known Appended). k.seen) w.noted.front)) w.noted;
-    }
-mine_appended n before after a old new (Err Memory) w = w.1
-mine_appended n before after a old new (Err NoPartition) w = (w.0, record { log = old; told = w.2 })
-mine_appended n before after a old new (Err (PastEnd from length)) w = absurd w
-
-pub copy_shared : (n : ℕ) (before after : Known Appended) (p : Partition) (m copy : List ℕ) (old new : List (Entry Appended)) (result : Result Offset FeedRefused) → copy ≡ m
-    → AppendsOnce n old new before after (message_in p copy) result → SharesBy n before after (message_in p m) result
-copy_shared n before after p m copy old new result copied w =
-    mine_appended n before after (message_in p m) old new result (copy_appended n old new before after p m copy result copied w)
-
 -- what a front that was told has seen is the whole log
 whole : (n : ℕ) (before after : Known Appended) (old : List (Entry Appended)) → Tells old before after → messages n old ≡ seen_by n after
 whole n before after old told = ap (λ (k : Known Appended). log_of n (whats k.seen)) (sym told.front)
@@ -156,6 +138,3 @@ pub shared_length : (n : ℕ) (before after : Known Appended) (old new : List (E
     → result ≡ measured (messages n old) p → Measures (shared_meaning n before) (shared_meaning n after) p result
 shared_length n before after old new p result w a =
     record { sees = refl; grows = seen_grows n before after old new w; answer = subst (λ l. result ≡ measured l p) (whole n before after old w.told) a; own = own_looked old before after w.told }
-
-pub mine_looked : (n : ℕ) (before after : Known Appended) (old new : List (Entry Appended)) → Looks n old new before after → SeesMore before after
-mine_looked n before after old new w = record { log = old; told = w.told }

@@ -23,7 +23,7 @@ use Rattle.rt_lines.specs.declared.play_fault.PlayFault.TheVariants.{Usage, Refu
 use Rattle.rt_lines.specs.Cluster.{cluster_of, cluster_fault}
 use Rattle.rt_lines.specs.Lines.{ScriptLines}
 use Rattle.rt_lines.specs.Words.{then_some, after_prefix}
-use Rattle.rt_lines.specs.Header.{NumberedLine, then_ok, refused_by, if_taken, text_behind, if_well_formed, SchemaSaid, schema_said, schema_at, TableSaid, table_said, table_at, setup_of, setup_with, setup_at, with_rest, next_line, tables_of, setup_in, header_of, IsTableSaid, Says, Reads, ReadsHeader}
+use Rattle.rt_lines.specs.Header.{NumberedLine, then_ok, refused_by, if_taken, text_behind, if_well_formed, SchemaSaid, schema_said, schema_at, TableSaid, table_said, table_at, setup_of, setup_with, setup_at, with_rest, next_line, tables_of, setup_in, header_of, IsTableSaid, Says, Reads}
 
 -- a text in UTF-8, or not
 pub is_text : (word line text : List ℕ) → after_prefix word line ≡ Some text → IsUtf8 text → text_behind word line ≡ Some text
@@ -75,15 +75,6 @@ reads_ok wanted f old mid new x (Err Usage) h k = k
 reads_ok wanted f old mid new x (Err ReadFault) h k = k
 reads_ok wanted f old mid new x (Err WriteFault) h k = k
 
-reads_err : {A B : Type 0} (wanted : Result (A × List NumberedLine) PlayFault) (f : A × List NumberedLine → Result (B × List NumberedLine) PlayFault) (old mid new : ScriptLines) (fault : PlayFault) →
-    Reads wanted old mid (Err fault) → Reads (then_ok wanted f) old new (Err fault)
-reads_err wanted f old mid new (Refused number reason) h = ap (λ w. then_ok w f) h
-reads_err wanted f old mid new (Limit which) h = ap (λ w. then_ok w f) h
-reads_err wanted f old mid new Memory h = tt
-reads_err wanted f old mid new Usage h = h
-reads_err wanted f old mid new ReadFault h = h
-reads_err wanted f old mid new WriteFault h = h
-
 -- what stands behind the schema line, and behind both lines
 abbrev behind_schema : ℕ → SchemaSaid × List NumberedLine → Result (TableSaid × List NumberedLine) PlayFault
 behind_schema after schema = next_line (table_at schema.0) after schema.1
@@ -96,18 +87,6 @@ pub tables_read : (old first new : ScriptLines) (schema : SchemaSaid) (result : 
 tables_read old first new schema result a b =
     reads_ok (next_line schema_at old.after old.lines) (behind_schema old.after) old first new schema result a
     (subst (λ n. Reads (behind_schema n (schema, first.lines)) first new result) a.1 b)
-
-pub schema_stops : (old first new : ScriptLines) (fault : PlayFault) → Reads (next_line schema_at old.after old.lines) old first (Err fault) → Reads (tables_of old) old new (Err fault)
-schema_stops old first new fault a = reads_err (next_line schema_at old.after old.lines) (behind_schema old.after) old first new fault a
-
-pub header_reads : (old mid new : ScriptLines) (said : TableSaid) (result : Result Setup PlayFault) →
-    Reads (tables_of old) old mid (Ok said) → Reads (setup_in said mid) mid new result → ReadsHeader old new result
-header_reads old mid new said result a b =
-    reads_ok (tables_of old) (behind_tables old.after) old mid new said result a
-    (subst (λ n. Reads (behind_tables n (said, mid.lines)) mid new result) a.1 b)
-
-pub tables_stop : (old mid new : ScriptLines) (fault : PlayFault) → Reads (tables_of old) old mid (Err fault) → ReadsHeader old new (Err fault)
-tables_stop old mid new fault a = reads_err (tables_of old) (behind_tables old.after) old mid new fault a
 
 -- what a header that is taken has
 answers_itself : {A : Type 0} (wanted : Result A SchemaRefused) → Answers wanted wanted

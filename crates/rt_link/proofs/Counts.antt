@@ -79,14 +79,6 @@ nothing_at [] (suc p) none = refl
 nothing_at (c ∷ counts) zero none = none 0
 nothing_at (c ∷ counts) (suc p) none = nothing_at counts p (λ q. none (suc q))
 
--- a sender more, of which nothing was taken
-pub counts_wider : (counts : List ℕ) → AreCounts counts [] → AreCounts (counts ++ 0 ∷ []) []
-counts_wider counts are p = nothing_at counts p are
-
-pub no_counts : AreCounts [] []
-no_counts zero = refl
-no_counts (suc p) = refl
-
 -- ---- what was taken
 
 pub drained : (made : ℕ) (taken : List Sent) (gathered : List Account) (items : List Sent) → length items ≡ 0 → AddsUp made taken gathered items → WasDrained taken gathered

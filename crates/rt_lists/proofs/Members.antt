@@ -1,11 +1,10 @@
 -- Facts on what a list has, and on lists that grow.
-use Rattle.std.proofs.Common.{◌≡◌, ℕ, zero, suc, ◌+◌, ◌<◌, Bool, true, false, cond, ◌⊎◌, inl, inr, List, [], ◌∷◌, ◌++◌, length, get_or, drop, Some, refl, sym, ◌∙◌, ap, subst, arith, append_assoc, slice_get}
+use Rattle.std.proofs.Common.{◌≡◌, ℕ, zero, suc, ◌+◌, ◌<◌, Bool, true, false, cond, ◌⊎◌, inl, inr, List, [], ◌∷◌, ◌++◌, length, Some, refl, sym, ◌∙◌, ap, subst, arith, append_assoc, slice_get}
 use Rattle.std.specs.Prelude.{map}
 use Rattle.std.specs.List.{filter}
-use Rattle.std.proofs.Math.Seq.{drop-cons}
 use Rattle.std.proofs.lemmas.Bool.{both_ways}
 use Rattle.std.proofs.lemmas.List.{append-nil}
-use Rattle.std.proofs.lemmas.Option.{same_Some, none-some, slice_get_read}
+use Rattle.std.proofs.lemmas.Option.{same_Some, none-some}
 use Rattle.rt_lists.specs.Members.{Has, IsFront}
 
 -- ---- two lists, one behind the other
@@ -53,24 +52,6 @@ pub place-Has : {X : Type 0} (xs : List X) (i : ℕ) (x : X) → slice_get xs i 
 place-Has [] i x e = absurd (none-some x e)
 place-Has (y ∷ xs) zero x e = inl (same_Some y x e)
 place-Has (y ∷ xs) (suc i) x e = inr (place-Has xs i x e)
-
--- an item that was read is one of the list
-pub Has_item : {X : Type 0} (xs : List X) (i : ℕ) (x : X) → i < length xs → x ≡ get_or xs i x → Has xs x
-Has_item xs i x lt is = place-Has xs i x (slice_get_read xs (length xs) i x refl lt is)
-
--- one that is in the rest, and not the next, is in the rest after it
-pub Has_rest :
-    {X : Type 0} (xs : List X) (i : ℕ) (x y : X) → i < length xs → y ≡ get_or xs i y → (y ≡ x → ⊥)
-    → Has (drop i xs) x → Has (drop (i + 1) xs) x
-Has_rest {X = X} xs i x y lt is ne has =
-    let P : List X → Type 0 = λ zs. Has zs x in
-    let next : i + 1 ≡ suc i = omega arith in
-    let Q : ℕ → Type 0 = λ n. Has (drop n xs) x in
-    subst Q (sym next) (past (subst P (drop-cons xs i y lt) has))
-  where
-    past : Has (get_or xs i y ∷ drop (suc i) xs) x → Has (drop (suc i) xs) x
-    past (inl e) = absurd (ne (is ∙ e))
-    past (inr h) = h
 
 -- a list that has an item isn't empty
 pub Has-length : {X : Type 0} (xs : List X) (x : X) → Has xs x → 0 < length xs

@@ -48,10 +48,6 @@ same_key-refl (key.Meta p s) =
 same_key-refl key.Ideal = refl
 same_key-refl (key.Boot i) = eq-eqb i.0 i.0 refl
 
-pub same_key_iff : (j k : Key) → (same_key j k ≡ true → j ≡ k) × (j ≡ k → same_key j k ≡ true)
-same_key_iff j k =
-    (same_key-true j k, λ e. let P : Key → Type 0 = λ x. same_key j x ≡ true in subst P e (same_key-refl j))
-
 pub same_key-equal : (j k : Key) → j ≡ k → same_key j k ≡ true
 same_key-equal j k e = let P : Key → Type 0 = λ x. same_key j x ≡ true in subst P e (same_key-refl j)
 

@@ -231,14 +231,6 @@ IsKept-ideal s h w i k version order ideal made steps =
 
 -- ---- one lawful write more
 
-written_version :
-    (h : List Seen) (call : Write) → (written_by h call).version ≡ next_version h (written_by h call).key
-written_version h (create k n) = refl
-written_version h (set from n) = refl
-written_version h (delete from) = refl
-written_version h (create_after k n prior) = refl
-written_version h (bump i) = refl
-
 by_ideal : (k : Key) (P : Type 0) → (k ≡ key.Ideal → P) → ((k ≡ key.Ideal → ⊥) → P) → P
 by_ideal key.Ideal P same other = same refl
 by_ideal (key.Meta p s) P same other = other (λ e. cc)

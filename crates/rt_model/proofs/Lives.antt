@@ -154,10 +154,6 @@ pub linked_open : (c : Seen) (ds : List Seen) → IsLinked (c ∷ []) ds → ds 
 linked_open c [] l = refl
 linked_open c (d ∷ ds) l = absurd l
 
-linked_empty : (ds : List Seen) → IsLinked [] ds → ds ≡ []
-linked_empty [] l = refl
-linked_empty (d ∷ ds) l = absurd l
-
 -- what a life is linked to depends on its beginning alone
 linked_tail : (ws : List Seen) (d : Seen) (ds es : List Seen) → IsLinked ws (d ∷ ds) → IsLinked ws (d ∷ es)
 linked_tail [] d ds es l = l

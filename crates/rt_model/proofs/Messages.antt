@@ -1,6 +1,6 @@
 -- Numbers of requests.
-use Rattle.std.proofs.Common.{◌≡◌, ℕ, true, ◌&&◌, ◌==◌, refl, ◌∙◌, ap, subst}
-use Rattle.std.proofs.lemmas.Bool.{eqb-true, eq-eqb, and_parts, and_from}
+use Rattle.std.proofs.Common.{◌≡◌, ℕ, true, ◌&&◌, ◌==◌, ◌∙◌, ap}
+use Rattle.std.proofs.lemmas.Bool.{eqb-true, and_parts}
 use Rattle.rt_base.specs.declared.numbers.Instance.{Instance}
 use Rattle.rt_model.specs.declared.request.RequestNumber.{RequestNumber}
 use Rattle.rt_model.specs.Messages.{same_number}
@@ -20,15 +20,3 @@ same_number_true a b e =
     ap (λ x. number_of x a.incarnation a.count) i
     ∙ ap (λ x. number_of b.instance x a.count) n
     ∙ ap (λ x. number_of b.instance b.incarnation x) c
-
-pub same_number_refl : (a : RequestNumber) → same_number a a ≡ true
-same_number_refl a =
-    and_from ((a.instance.0 == a.instance.0) && (a.incarnation == a.incarnation)) (a.count == a.count)
-    (and_from (a.instance.0 == a.instance.0) (a.incarnation == a.incarnation)
-    (eq-eqb a.instance.0 a.instance.0 refl)
-    (eq-eqb a.incarnation a.incarnation refl))
-    (eq-eqb a.count a.count refl)
-
-pub same_number_equal : (a b : RequestNumber) → a ≡ b → same_number a b ≡ true
-same_number_equal a b e =
-    let P : RequestNumber → Type 0 = λ x. same_number a x ≡ true in subst P e (same_number_refl a)

@@ -42,9 +42,6 @@ Tiles-le a b (r ∷ xs) t = let le = Tiles-le r.end.0 b xs t.2 in omega (arith, 
 Tiles-same : (a b : ℕ) (xs ys : List Range) → xs ≡ ys → Tiles a ys b → Tiles a xs b
 Tiles-same a b xs ys e t = let P : List Range → Type 0 = λ x. Tiles a x b in subst P (sym e) t
 
-Tiles-to : (a b c : ℕ) (xs : List Range) → b ≡ c → Tiles a xs b → Tiles a xs c
-Tiles-to a b c xs e t = let P : ℕ → Type 0 = λ x. Tiles a xs x in subst P e t
-
 -- ---- one life
 
 in_progress_none : (start : Offset) (s : Status) → IsInProgress s → range_by start s ≡ None

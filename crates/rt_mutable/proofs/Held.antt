@@ -1,5 +1,5 @@
 -- A message more of a consuming segment.
-use Rattle.std.proofs.Common.{◌≡◌, ◌<◌, List, [], ◌∷◌, ◌++◌, length, map, take, drop, append-nil, All, Some, None, refl, sym, ap, subst, ◌∙◌, arith}
+use Rattle.std.proofs.Common.{◌≡◌, ◌<◌, List, [], ◌∷◌, ◌++◌, length, map, take, drop, append-nil, All, Some, refl, sym, ap, subst, ◌∙◌, arith}
 use Rattle.std.proofs.lemmas.List.{length_push, length-map, drop_all, take_all}
 use Rattle.std.proofs.lemmas.List.Elements.{All-push, All-weaker, All-get_or}
 use Rattle.std.proofs.lemmas.List.Quantifiers.{all_pairs_push}
@@ -13,19 +13,6 @@ use Rattle.rt_mutable.proofs.Rows.{rows_more, full_more, shapes_kept, length_row
 
 between_more : (start end : Offset) (rows : List Placed) → All (IsBetween start end) rows → All (IsBetween start (next end)) rows
 between_more start end rows h = All-weaker (IsBetween start end) (IsBetween start (next end)) (λ placed b. (b.0, omega (arith, b.1))) rows h
-
-pub consuming_none : (s : Consuming) → IsConsuming s → IsConsuming (after_message s None)
-consuming_none s h = record {
-  few = h.few;
-  named = h.named;
-  distinct = h.distinct;
-  limited = h.limited;
-  fit = h.fit;
-  short = h.short;
-  between = between_more s.start s.end s.rows h.between;
-  ascending = h.ascending;
-  ordered = omega (arith, h.ordered);
-}
 
 pub consuming_row : (s : Consuming) (row : Row) → IsConsuming s → length s.rows < 1000000 → FitsColumns s.columns row → All IsShort row.values → IsConsuming (after_message s (Some row))
 consuming_row s row h room fits short =
@@ -65,9 +52,6 @@ hold_row start end offsets columns row h room fits short =
       right = subst IsConsuming (sym (segment_row start end offsets columns row h.full fits))
           (consuming_row (segment_of start end offsets columns) row h.right (omega (arith, length_rows 0 columns offsets)) fits short);
     }
-
-pub hold_none : (start end : Offset) (offsets : List Offset) (columns : List Filled) → HoldRows start end offsets columns → HoldRows start (next end) offsets columns
-hold_none start end offsets columns h = record { full = h.full; right = consuming_none (segment_of start end offsets columns) h.right }
 
 -- the kinds of the columns
 pub kinds_of : (columns : List Filled) → map (λ shape. shape.kind) (map (λ column. column.shape) columns) ≡ map (λ column. column.shape.kind) columns

@@ -241,10 +241,6 @@ right_write_within setup a b w g r = right_node_within setup a b w.key w.node g 
 
 -- ---- as the past grows
 
-pub right_file_grows : (setup : Setup) (a b : Past) (p : Partition) (s : Sequence) (start end : Offset) (bytes : List ℕ)
-    → Grows a b → IsRightFile setup a p s start end bytes → IsRightFile setup b p s start end bytes
-right_file_grows setup a b p s start end bytes g = right_file_within setup a b p s start end bytes (within_grows a b g)
-
 pub stored_grows : (setup : Setup) (a b : Past) (p : Partition) (s : Sequence) (start : Offset) (commit : Commit)
     → Grows a b → IsStored setup a p s start commit → IsStored setup b p s start commit
 stored_grows setup a b p s start commit g = stored_within setup a b p s start commit (within_grows a b g)

@@ -1,11 +1,11 @@
 -- The peers are asked one after the other.
-use Rattle.std.proofs.Common.{◌≡◌, ℕ, ◌+◌, ◌<◌, ◌≤◌, Bool, true, List, [], ◌∷◌, ◌++◌, length, map, take, drop, get_or, set, Option, Some, None, Result, Ok, Err, refl, sym, ap, subst, ◌∙◌, arith, append_assoc, add-one, length-set}
+use Rattle.std.proofs.Common.{◌≡◌, ℕ, ◌+◌, ◌<◌, ◌≤◌, Bool, List, [], ◌∷◌, ◌++◌, length, map, take, drop, get_or, set, Option, Some, None, Result, Ok, Err, refl, sym, ap, subst, ◌∙◌, arith, append_assoc, add-one, length-set}
 use Rattle.std.proofs.lemmas.List.{drop_more, drop_all, take_all, take_more_set, set_split, drop-set-lt, map-append, append-nil}
 use Rattle.rt_base.specs.declared.header.Header.{Header}
 use Rattle.rt_segment.specs.Segment.{SealedSegment}
 use Rattle.rt_peer.specs.declared.got.Got.{Got}
 use Rattle.rt_peer.specs.declared.peer_fault.PeerFault.{PeerFault}
-use Rattle.rt_peer.specs.declared.peer_fault.PeerFault.TheVariants.{Failed, Memory}
+use Rattle.rt_peer.specs.declared.peer_fault.PeerFault.TheVariants.{Memory}
 use Rattle.rt_peer.specs.declared.peer_refused.PeerRefused.{PeerRefused}
 use Rattle.rt_peer.specs.declared.peer_refused.PeerRefused.TheVariants as refused
 use Rattle.rt_peer.specs.Fetching.{After, AsksPeer, AsksPeers, unfound}
@@ -23,10 +23,6 @@ pub record Leads {P : Type 0} (f : P → Meaning) (wanted : Header) (faulted : B
   pub rest : drop number now ≡ drop number olds
   pub leads : (news : List Meaning) (result : Answer) → AsksPeers wanted failed number (map f (drop number olds)) news result
       → AsksPeers wanted faulted 0 (map f olds) (map f (take number now) ++ news) result
-
--- no peer was asked yet
-pub leads_first : {P : Type 0} (f : P → Meaning) (wanted : Header) (faulted : Bool) (olds : List P) → Leads f wanted faulted olds faulted 0 olds
-leads_first f wanted faulted olds = record { many = refl; rest = refl; leads = λ news result asked. asked }
 
 -- every peer was asked
 pub leads_last : {P : Type 0} (f : P → Meaning) (wanted : Header) (faulted : Bool) (olds : List P) (failed : Bool) (number : ℕ) (now : List P)
@@ -106,13 +102,6 @@ pub goes_on : {P : Type 0} (f : P → Meaning) (wanted : Header) (faulted : Bool
     → Leads f wanted faulted olds failed (number + 1) (set now number y)
 goes_on f wanted faulted olds failed number now d y l within asks =
     on f wanted faulted olds failed number now d y l within failed (Ok None) asks (λ news result further. further)
-
--- a peer met a fault
-pub goes_on_failed : {P : Type 0} (f : P → Meaning) (wanted : Header) (faulted : Bool) (olds : List P) (failed : Bool) (number : ℕ) (now : List P) (d y : P)
-    → Leads f wanted faulted olds failed number now → number < length now → AsksPeer wanted (f (get_or now number d)) (f y) (Err Failed)
-    → Leads f wanted faulted olds true (number + 1) (set now number y)
-goes_on_failed f wanted faulted olds failed number now d y l within asks =
-    on f wanted faulted olds failed number now d y l within true (Err Failed) asks (λ news result further. further)
 
 -- a peer has the file
 pub ends_found : {P : Type 0} (f : P → Meaning) (wanted : Header) (faulted : Bool) (olds : List P) (failed : Bool) (number : ℕ) (now : List P) (d y : P) (n : ℕ)

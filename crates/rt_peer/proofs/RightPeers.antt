@@ -10,8 +10,6 @@ use Rattle.rt_deep.specs.Meaning.{Meaning as DeepMeaning}
 use Rattle.rt_peer.specs.declared.got.Got.{Got}
 use Rattle.rt_peer.specs.declared.peer_fault.PeerFault.{PeerFault}
 use Rattle.rt_peer.specs.declared.peer_fault.PeerFault.TheVariants.{Failed, Memory}
-use Rattle.rt_peer.specs.declared.peer_refused.PeerRefused.{PeerRefused}
-use Rattle.rt_peer.specs.declared.peer_refused.PeerRefused.TheVariants as refused
 use Rattle.rt_peer.specs.Calls.{Copies, Holds}
 use Rattle.rt_peer.specs.Fetching.{After, AsksPeer, AsksPeers, Fetches, copied_in, found_in}
 use Rattle.rt_peer.specs.Files.{Comes, file_in, IsWanted}
@@ -43,9 +41,6 @@ peer_named : (wanted : Header) (answer : Result (Option (List ℕ)) PeerFault) (
 peer_named wanted (Ok None) s e = absurd (cc)
 peer_named wanted (Ok (Some bytes)) s e = file_named wanted bytes s (given_same (file_in wanted bytes) (file s) e)
 peer_named wanted (Err fault) s e = absurd (cc)
-
-from_sealed : Option ℕ → SealedSegment → Answer
-from_sealed from s = Ok (record { from = from; sealed = s })
 
 -- ---- who gave it
 
@@ -141,13 +136,6 @@ some_meaning a b e = cc
 
 some_number : (a b : ℕ) → Some a ≡ Some b → a ≡ b
 some_number a b e = cc
-
-held_same : (wanted : Header) (a b : List ℕ) → Some a ≡ Some b → file_in wanted a ≡ file_in wanted b
-held_same wanted a b e = ap (λ (o : Option (List ℕ)). of o) e
-  where
-    of : Option (List ℕ) → Option SealedSegment
-    of None = None
-    of (Some x) = file_in wanted x
 
 some_file : (a b : SealedSegment) → file a ≡ file b → a ≡ b
 some_file a b e = cc

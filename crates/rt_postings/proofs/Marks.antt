@@ -24,9 +24,6 @@ has_is rows words row clear = ⊎_elim
     (λ above. get_or_past (marks_of rows words) row false (omega (arith, length_marks rows words)) ∙ sym (clear row above))
     (cases_lt row rows)
 
-pub marks_same : (rows : ℕ) (f : ℕ → Bool) (words : List ℕ) → ((r : ℕ) → r < rows → f r ≡ marked words r) → map f (range_with_len 0 rows) ≡ marks_of rows words
-marks_same rows f words h = map_same f (marked words) rows false h
-
 get_or_zeros : (n k : ℕ) → get_or (replicate {A = ℕ} n 0) k 0 ≡ 0
 get_or_zeros n k = ⊎_elim
     (λ below. get_or-replicate n k 0 0 below)

@@ -34,10 +34,6 @@ found_here words start k near some fits before above =
           (cases_lt r (64 * k));
     }
 
--- a word of zeros has no row
-pub none_here : (words : List ℕ) (k r : ℕ) → get_or words k 0 ≡ 0 → r / 64 ≡ k → marked words r ≡ false
-none_here words k r e same = ap (λ i. bit_at (get_or words i 0) (r % 64) == 1) same ∙ ap (λ w. bit_at w (r % 64) == 1) e ∙ ap (λ b. b == 1) (bit_at-zero (r % 64))
-
 -- a word without the bits below a place
 pub front_cut : (w k i : ℕ) → k < 64 → k ≤ i → i < 64 → bit_at (bit_and w (18446744073709551615 * 2 ^ k % 2 ^ 64)) i ≡ bit_at w i
 front_cut w k i few above below =

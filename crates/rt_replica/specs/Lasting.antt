@@ -89,11 +89,6 @@ ToldIn Was Up (phase.Retained kept) = Was kept.done
 ToldIn Was Up (phase.Committed kept) = Was kept.done
 ToldIn Was Up (phase.Discarded d) = Unit {0}
 
--- a commit that it was told of was written, and its own upload stands once that was answered
-abbrev pub IsToldAt : Setup → Past → Instance → ℕ → Partition → Sequence → Offset → Offset → Stage → Type 0
-IsToldAt setup past i incarnation p s start x stage =
-    ToldAt (WasDone past.history p s) (HasUploaded setup past i incarnation p s start) x stage
-
 abbrev pub IsToldIn : Setup → Past → Instance → ℕ → Partition → Sequence → Offset → Phase → Type 0
 IsToldIn setup past i incarnation p s start ph =
     ToldIn (WasDone past.history p s) (HasUploaded setup past i incarnation p s start) ph

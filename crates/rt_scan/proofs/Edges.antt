@@ -130,11 +130,6 @@ up_to_greater Less = refl
 up_to_greater Equal = refl
 up_to_greater Greater = refl
 
-le_reversed : (o : Ordering) → is_le (ordering_reverse o) ≡ is_ge o
-le_reversed Less = refl
-le_reversed Equal = refl
-le_reversed Greater = refl
-
 module _ {K : Type 0} {cmp : K → K → Ordering} (total : IsTotalOrder cmp) where
   -- of two values the smaller stands no higher
   rises : (x v l : K) → is_le (cmp x v) ≡ true → up (cmp x l) (cmp v l) ≡ true

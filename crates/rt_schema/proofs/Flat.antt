@@ -230,13 +230,6 @@ member_more columns before n ms ts s r t name place old new distinct enough key 
     let some : 0 < n = omega arith in
     (n - 1, put name more.0 ms, fewer, was ∙ member_read (value 126) ms n name ts s r token.0 more.0 some key (ap (value 126) first ∙ token.1) token.2, more.2)
 
--- fewer tokens are left behind a member
-pub member_shorter : (ts s r : List Token) (t : Token) (name : List ℕ) → read_key ts ≡ Some (Some name, s) → s ≡ t ∷ r → length r < length ts
-member_shorter ts s r t name key first =
-    let less : length s < length ts = read_key-shorter ts (Some name) s key in
-    let longer : length s ≡ suc (length r) = ap length first in
-    omega arith
-
 -- the object ends
 pub all_read : (columns : List Column) (initial ts r : List Token) (n : ℕ) (ms : Members) (found : List (Option Json)) → length ts ≤ n → read_key ts ≡ Some (None, r)
     → converted (λ js. of_members js no_members) (members (value 126) (length initial) initial) ≡ converted (λ js. of_members js ms) (members (value 126) n ts) → data_of found ≡ found_in columns ms

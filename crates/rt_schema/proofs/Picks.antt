@@ -5,10 +5,8 @@ use Rattle.std.specs.List.{filter}
 use Rattle.std.proofs.lemmas.List.Elements.{All-filter}
 use Rattle.std.proofs.lemmas.Bool.{and_parts, and_from, or_left, or_right, not-true, not_from_false}
 use Rattle.std.proofs.lemmas.Slice.Eq.{bytes_eq-Decides}
-use Rattle.rt_schema.specs.Schema.{is_among, are_distinct, names_of, IsSchema}
-use Rattle.rt_schema.specs.TableText.{all_among, chosen_of, IsTable}
-use Rattle.rt_schema.specs.declared.schema.Schema.{Schema}
-use Rattle.rt_schema.specs.declared.table.Table.{Table}
+use Rattle.rt_schema.specs.Schema.{is_among, are_distinct}
+use Rattle.rt_schema.specs.TableText.{all_among, chosen_of}
 
 and_no : (b : Bool) → false ≡ (b && false)
 and_no true = refl
@@ -81,8 +79,3 @@ once_kept f [] distinct = refl
 once_kept f (y ∷ ys) distinct =
     let parts = and_parts (not (is_among y ys)) (are_distinct ys) distinct in
     once_at f y ys (f y) (not-true _ parts.0) (once_kept f ys parts.1)
-
--- a table's indexed columns come once each
-pub indexed_once : (schema : Schema) (table : Table) → IsSchema schema → IsTable schema table → are_distinct table.indexed ≡ true
-indexed_once schema table is has =
-    ap are_distinct has.ordered ∙ once_kept (λ name. is_among name table.indexed) (names_of schema.columns) is.distinct

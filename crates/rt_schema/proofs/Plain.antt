@@ -98,10 +98,6 @@ pub decimal_first : (text : List ℕ) (x d : ℕ) → Some x ≡ slice_get text 
 decimal_first [] x d is below same = absurd (none-some x (sym is))
 decimal_first (y ∷ ys) x d is below same = ap (λ z. z ∷ []) (sym (same_Some x y is) ∙ same) ∙ sym (decimal_digit d below)
 
--- the number behind whose digits a text goes on
-pub decimal_front : (text : List ℕ) (at n : ℕ) → take at text ≡ decimal n → text ≡ decimal n ++ drop at text
-decimal_front text at n is = sym (take-append-drop at text) ∙ ap (λ xs. xs ++ drop at text) is
-
 view_number : (n : Number) → view (JsonNumber n) ≡ number (number_view n)
 view_number n = search (rules, the_lemmas)
 

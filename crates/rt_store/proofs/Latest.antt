@@ -8,23 +8,18 @@ use Rattle.rt_model.specs.declared.node.Key.{Key}
 use Rattle.rt_model.specs.declared.node.Node.{Node}
 use Rattle.rt_model.specs.declared.node.Node.TheVariants as node
 use Rattle.rt_model.specs.declared.node.Seen.{Seen}
-use Rattle.rt_model.specs.History.{same_key, last_of, last_write, next_version, value_by, value_in, value_of}
+use Rattle.rt_model.specs.History.{same_key, last_write, next_version, value_by, value_in, value_of}
 use Rattle.rt_model.proofs.Histories.{writes_of-more, writes_of-other, last_write-more, last_write-other}
 use Rattle.rt_store.specs.declared.index.Index.{Index}
 use Rattle.rt_store.specs.declared.index.Latest.{Latest}
 use Rattle.rt_store.specs.Order.{key_cmp}
-use Rattle.rt_store.specs.Index.{IsLatest, IsLatestIn, IsIndex, IsBlank, IsSame, Notes, is_there}
+use Rattle.rt_store.specs.Index.{IsLatest, IsLatestIn, IsIndex, IsBlank, Notes, is_there}
 use Rattle.rt_store.proofs.Keys.{same_from_order, order_of_same}
 
 equal_from_is_eq : (o : Ordering) → is_eq o ≡ true → o ≡ Equal
 equal_from_is_eq Less e = absurd (cc)
 equal_from_is_eq Equal e = refl
 equal_from_is_eq Greater e = absurd (cc)
-
--- a key that the map hasn't was never written
-pub last_none : (h : List Seen) (k : Key) (o : Option Latest) → IsLatestIn h k o → None ≡ o → None ≡ last_write h k
-last_none h k None i e = sym (ap last_of i)
-last_none h k (Some l) i e = absurd (cc)
 
 -- where the last write of a key stands
 pub last_some : (h : List Seen) (k : Key) (o : Option Latest) (l : Latest) → IsLatestIn h k o → Some l ≡ o → slice_get h l.place ≡ last_write h k
@@ -96,13 +91,6 @@ pub index_noted : (h items : List Seen) (i j : Index) (w : Seen) (l : Latest) (t
 index_noted h items i j w l there e index place version next is notes = (
   λ q. rw (e, (notes q).0) (by_tie (is_eq (key_cmp w.key q)) h w q l (get key_cmp i.latest q) refl (λ same. at_written h w q l same place version (next ∙ ap (next_version h) same)) (index.0 q)),
   λ q. (notes q).1 ∙ at_tie (is_eq (key_cmp w.key q)) there h w q (contains key_cmp i.present q) refl is (index.1 q) ∙ ap (λ (l : List Seen). is_some (value_of l q)) (sym e),
-)
-
--- where no key changed
-pub index_same : (h items : List Seen) (i j : Index) → items ≡ h → IsIndex h i → IsSame i j → IsIndex items j
-index_same h items i j e index same = (
-  λ q. rw (e, (same q).0) (index.0 q),
-  λ q. (same q).1 ∙ index.1 q ∙ ap (λ (l : List Seen). is_some (value_of l q)) (sym e),
 )
 
 -- nothing was written

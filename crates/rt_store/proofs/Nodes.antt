@@ -161,13 +161,3 @@ next_some s p lo end from r rest k starts is range first small =
     let P : Key → Type 0 = λ x. IsRangeOfNodes s p lo x r in
     let Q : List Key → Type 0 = λ x. IsRangeOfNodes s p lo (past_nodes p) x in
     by_key s p lo from rest k starts (subst Q first (subst P is range)) small
-
--- where the range is empty, there is none
-pub next_none :
-    (s : BTreeSet Key) (p : Partition) (lo : Bound Key) (end : Key) (from : ℕ) (r : List Key)
-    → Starts lo p from → end ≡ past_nodes p → IsKeyRangeOf key_cmp lo (Excluded end) s r → r ≡ []
-    → (t : ℕ) → from ≤ t → contains key_cmp s (node_key p t) ≡ false
-next_none s p lo end from r starts is range none t le =
-    let P : Key → Type 0 = λ x. IsRangeOfNodes s p lo x r in
-    let nodes : IsRangeOfNodes s p lo (past_nodes p) r = subst P is range in
-    nodes.5 none (node_key p t) (starts.0 t le, past_after p (record { 0 = t }))

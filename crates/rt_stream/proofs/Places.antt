@@ -32,7 +32,6 @@ use Rattle.std.proofs.Common.{
   length-drop,
 }
 use Rattle.std.specs.List.{flat_map}
-use Rattle.std.proofs.lemmas.List.Concat.{flat_map-append}
 use Rattle.std.proofs.lemmas.List.{take_all, take-take, take-append-le, drop-append-le, drop-drop}
 use Rattle.std.proofs.Math.Seq.{drop-append_seam, take-add}
 use Rattle.rt_stream.specs.Pages.{AreFull}
@@ -70,12 +69,6 @@ pub AreFull-get : (pages : List Messages) (i : ℕ) (page : Messages) → AreFul
 AreFull-get [] i page h e = cc
 AreFull-get (first ∷ pages) zero page h e = let same : first ≡ page = cc in rw (← same) h.0
 AreFull-get (first ∷ pages) (suc i) page h e = AreFull-get pages i page h.1 e
-
--- a page more at the end
-pub pages-push : (pages : List Messages) (page : Messages)
-    → flat_map (λ page. page) (pages ++ page ∷ []) ≡ flat_map (λ page. page) pages ++ page
-pages-push pages page = flat_map-append (λ page. page) pages (page ∷ [])
-    ∙ ap (λ m. flat_map (λ page. page) pages ++ m) (append-nil page)
 
 -- from a place in a full page on
 rest_full : (pages : List Messages) (last : Messages) (i j : ℕ) (page : Messages) → AreFull pages
