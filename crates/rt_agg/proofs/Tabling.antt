@@ -1,7 +1,7 @@
 -- Tables whose holders and keys change.
-use Rattle.std.proofs.Common.{◌≡◌, ℕ, zero, suc, ◌<◌, ◌≤◌, cond, List, [], ◌∷◌, ◌++◌, length, map, take, Some, None, Option, refl, sym, ap, ◌∙◌, subst, arith, slice_get, length-append}
-use Rattle.std.proofs.lemmas.Option.{slice_get_within}
-use Rattle.std.specs.List.{IsDistinct}
+use Rattle.std.proofs.Common.{◌≡◌, ℕ, zero, suc, ◌<◌, ◌≤◌, cond, List, [], ◌∷◌, ◌++◌, length, map, take, Some, None, Option, refl, sym, ap, ◌∙◌, subst, arith, slice_get, length-append, is_some, inl, inr, true≢false}
+use Rattle.std.proofs.lemmas.Option.{slice_get_cases, slice_get_within}
+use Rattle.std.specs.List.{AllByRecursion, IsDistinct}
 use Rattle.std.specs.Map.{lookup}
 use Rattle.rt_schema.specs.declared.row.Row.{Row}
 use Rattle.rt_schema.specs.declared.value.Value.{Value}
@@ -13,7 +13,7 @@ use Rattle.rt_agg.specs.GroupTable.{AddsRow, AddsRows, IsTable, StartsSome, Tabl
 use Rattle.rt_agg.specs.ResultHolder.{held_of, item_of, started_in, with_page_in, with_row_in}
 use Rattle.rt_agg.specs.declared.placed_row.PlacedRow.{PlacedRow}
 use Rattle.rt_agg.specs.declared.result_holder.ResultHolder.{ResultHolder}
-use Rattle.rt_agg.proofs.Entries.{entries_more, entries_same, entry_changed, entry_of, keys_are, known_by}
+use Rattle.rt_agg.proofs.Entries.{entries_long, entries_more, entries_same, entry_changed, entry_of, keys_are, known_by}
 use Rattle.rt_agg.proofs.Holders.{Started, all_fewer, all_page_started, merges_here, merges_other, page_first, page_none, rows_here, rows_items, rows_other, rows_started, some_before, some_items, some_kept, starts_here, starts_started}
 
 abbrev Keys : Type 0
@@ -93,9 +93,23 @@ module _ (columns : List ColumnAt) (hs : List ResultHolder) (ks : Keys) where
         (rows_here row group columns k hs (all_fewer (length ks) (suc group) hs (omega (arith, slice_get_within ks group k here)) t.started)
         ∙ ap (map (with_row row)) (known_at_entry group k known at))
 
+    row_past : slice_get (entries_from columns hs 0 ks) group ≡ None → table_of columns added ks ≡ table_of columns hs ks
+    row_past none j = record {
+      columns = columns;
+      items = rows_items row group hs j;
+      entries = entries_same columns hs added 0 ks (λ i le lt key. rows_other row group i (λ same. omega (arith, lt, same, none_behind none)) columns key hs) j;
+    }
+      where
+        none_behind : slice_get (entries_from columns hs 0 ks) group ≡ None → length ks ≤ group
+        none_behind none = elim (slice_get_cases (entries_from columns hs 0 ks) group).1 [
+          | inl some ↦ absurd (true≢false (ap is_some (sym some.2 ∙ none)))
+          | inr behind ↦ subst (λ n. n ≤ group) (entries_long columns hs 0 ks) behind.0
+        ]
+
     pub row_added : AddsRow row group (table_of columns hs ks) (table_of columns added ks)
     row_added = record {
       known = row_known;
+      past = row_past;
       keys = keys_are columns added 0 ks ∙ sym (keys_are columns hs 0 ks);
       same = (refl, rows_items row group hs);
     }
@@ -125,6 +139,13 @@ rows_added columns ks row_of (p ∷ page) hs t =
       row_added columns hs ks t row p.group,
       subst (λ (now : List ResultHolder). AddsRows row_of page (table_of columns mid ks) (table_of columns now ks)) (sym (page_first row_of p page hs)) (rows_added columns ks row_of page mid (row_table columns hs ks t row p.group)),
     )
+
+-- rows whose groups aren't there
+pub none_added : (row_of : ℕ → Row) (page : List PlacedRow) (t u : Tabled) → AddsRows row_of page t u → AllByRecursion (λ placed. slice_get t.entries placed.group ≡ None) page → u ≡ t
+none_added row_of [] t u adds past = adds
+none_added row_of (p ∷ page) t u (mid, first, rest) past =
+    let same : mid ≡ t = first.past past.0 in
+    none_added row_of page mid u rest (subst (λ (m : Tabled). AllByRecursion (λ placed. slice_get m.entries placed.group ≡ None) page) (sym same) past.1) ∙ same
 
 module _ (columns others_columns : List ColumnAt) (hs os : List ResultHolder) (ks ls : Keys) (t : IsTable hs ks) (u : IsTable os ls) (group from : ℕ) where
   pub merge_known : (k : List Value) (known : List Accumulator) → slice_get (entries_from columns hs 0 ks) group ≡ Some (k, known)

@@ -1,5 +1,5 @@
 -- Groups by their numbers.
-use Rattle.std.specs.Prelude.{◌≡◌, ◌⊎◌, ℕ, suc, cond, List, [], ◌∷◌, ◌++◌, length, map, take, drop, slice_get, Some}
+use Rattle.std.specs.Prelude.{◌≡◌, ◌⊎◌, ℕ, suc, cond, List, [], ◌∷◌, ◌++◌, length, map, take, drop, slice_get, Some, None}
 use Rattle.std.specs.List.{AllByRecursion, IsDistinct}
 use Rattle.std.specs.Map.{lookup, keys_of}
 use Rattle.rt_schema.specs.declared.row.Row.{Row}
@@ -54,10 +54,11 @@ all_merged_in group from (h ∷ hs) (o ∷ os) = merged_in group from h o ∷ al
 abbrev pub IsOfSame : Tabled → Tabled → Type 0
 IsOfSame old new = (new.columns ≡ old.columns) × (new.items ≡ old.items)
 
--- one more row of a group: what is known at each key, and no key comes or goes
+-- one more row of a group: what is known at each key, and no key comes or goes; a row whose group isn't there changes nothing
 pub record AddsRow (row : Row) (group : ℕ) (old new : Tabled) : Type 0 where
   pub known : (k : List Value) (known : List Accumulator) → slice_get old.entries group ≡ Some (k, known)
       → (q : List Value) → lookup (same_key q) new.entries ≡ cond (same_key k q) (Some (map (with_row row) known)) (lookup (same_key q) old.entries)
+  pub past : slice_get old.entries group ≡ None → new ≡ old
   pub keys : keys_of new.entries ≡ keys_of old.entries
   pub same : IsOfSame old new
 

@@ -1,5 +1,5 @@
-ghost use Rattle.std.specs.Prelude.{◌≡◌, ◌++◌, ◌∷◌, [], List, map, slice_get, Some, IfOk, OnOk, OnErr};
-ghost use Rattle.std.specs.List.{Contains, IsDistinct};
+ghost use Rattle.std.specs.Prelude.{◌≡◌, ◌++◌, ◌∷◌, [], List, map, slice_get, None, Some, IfOk, OnOk, OnErr};
+ghost use Rattle.std.specs.List.{AllByRecursion, Contains, IsDistinct};
 ghost use Rattle.std.specs.Map.{lookup, keys_of};
 ghost use Rattle.rt_schema.specs.declared.value.Value.{Value as AnyValue};
 ghost use Rattle.rt_agg.specs.Accumulators.{known_of, ordering_items};
@@ -71,10 +71,11 @@ impl Groups {
         Ok(index)
     }
 
-    /// Adds the rows of a page, one after the other, each to the group at its index. It takes no memory.
+    /// Adds the rows of a page, one after the other, each to the group at its index; a row with an index past the groups changes nothing. It takes no memory.
     pub fn add_page<R: ReadTable>(&mut self, page: &[PlacedRow], table: &R)
         ensures adds { AddsPage (R.row_of table.now) page.now self.old self.new }
         ensures keys { keys_in_order self.new ≡ keys_in_order self.old }
+        ensures past { AllByRecursion (λ placed. slice_get self.old.groups placed.group ≡ None) page.now → self.new ≡ self.old }
     {
         self.table.add_page(page, table);
     }
