@@ -1,0 +1,1 @@
+-- From a fresh start on `settle` ends.

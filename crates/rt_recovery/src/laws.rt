@@ -1,0 +1,22 @@
+//! How a cluster that was started anew comes to rest. Each law stands on a function that does nothing: its clause is the law.
+ghost use Rattle.std.specs.Prelude.{◌≡◌, ◌<◌, ◌≤◌, ℕ, Bool, List, [], Ok, true};
+ghost use Rattle.rt_macros.specs.Doing.{Reached};
+ghost use Rattle.rt_macros.specs.Settling.{Settles};
+ghost use Rattle.rt_model.specs.Setup.{IsSetup};
+ghost use Rattle.rt_model.specs.declared.setup.Setup.{Setup};
+ghost use Rattle.rt_safety.specs.Runs.{Runs, Turn};
+ghost use Rattle.rt_state.specs.declared.state.State.{State};
+ghost use Rattle.rt_calm.specs.Again.{IsLeading};
+ghost use Rattle.rt_calm.specs.Spent.{rounds_in_all};
+ghost use Rattle.rt_recovery.specs.Fresh.{IsFresh};
+
+/// From any world of a run on that was started anew, `settle` answers `settled` as soon as it has more rounds than `rounds_in_all`. Every
+/// server is up without a replica and no controller has a machine, one that is up believes that it leads, no fault of a store is planned,
+/// and segments don't end by a time of 0 ms. Then each replica that reports does so by the row limit, at the one offset where its segment is
+/// full; the first is told to commit, and all others are told HOLD only while that commit goes on, which takes no time.
+#[tactic(auto, using(crate::proofs::Settled::settles_from_fresh))]
+pub fn settle_ends_after_a_fresh_start()
+    ensures { (setup : Setup) (turns : List Turn) (paused : Bool) (rounds : ℕ) (w : State) (u : Reached) (settled : Bool) → IsSetup setup
+        → Runs setup turns w → IsFresh w → w.store.faults.plan ≡ [] → w.deep.faults.plan ≡ [] → IsLeading w → 1 ≤ setup.table.millis
+        → rounds_in_all w.setup w.log w.store.writes < rounds → Settles paused rounds w u (Ok settled) → settled ≡ true }
+{}

@@ -1,0 +1,6 @@
+//! The laws of recovery: what was started anew comes to rest. They are about definitions alone, and stand on functions that do nothing.
+#![tactic(auto)]
+
+mod laws;
+
+pub use laws::settle_ends_after_a_fresh_start;
