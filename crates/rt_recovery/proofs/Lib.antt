@@ -1,1 +1,3 @@
+pub mod Recovering
+pub mod Same
 pub mod Settled
