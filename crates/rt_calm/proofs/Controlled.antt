@@ -134,6 +134,18 @@ delivery_log w v m c o (cost, due, h) = by_found (request_at w m) (slice_get w.c
     by_found (Some q) None h = absurd h
     by_found (Some q) (Some n) (new, what, store, deep, handles, is) = by_answer (after_step w c n new store deep) what refl is
 
+pub delivery_moment : (w v : State) (m : ℕ) (c : ControllerId) (o : Outcome) → Steps w (event.Deliver m c) v (Ok o) → v.moment ≡ w.moment
+delivery_moment w v m c o (cost, due, h) = by_found (request_at w m) (slice_get w.controllers c.0) h
+  where
+    by_answer : (z : State) (what : Handled) → z.moment ≡ w.moment → (v, o) ≡ handed z cost what → v.moment ≡ w.moment
+    by_answer z (handled.Reply y) same is = ap (λ (n : Next). n.0.moment) is ∙ same
+    by_answer z (handled.Job j) same is = ap (λ (n : Next). n.0.moment) is ∙ same
+
+    by_found : (q : Option Request) (n : Option ControllerNode) → DeliversAt q n w c cost (v, o) → v.moment ≡ w.moment
+    by_found None n h = absurd h
+    by_found (Some q) None h = absurd h
+    by_found (Some q) (Some n) (new, what, store, deep, handles, is) = by_answer (after_step w c n new store deep) what refl is
+
 pub delivery_leads : (w v : State) (m : ℕ) (c : ControllerId) (o : Outcome) → Steps w (event.Deliver m c) v (Ok o) → KeepsLeads w v
 delivery_leads w v m c o (cost, due, h) = by_found (request_at w m) (slice_get w.controllers c.0) refl h
   where
@@ -159,6 +171,18 @@ job_log w v c j o (cost, due, h) = by_node (slice_get w.controllers c.0) h
     by_reply z step (Some y) same is = ap (λ (n : Next). n.0.log) is ∙ same
 
     by_node : (n : Option ControllerNode) → JobStepsAt n w c j cost (v, o) → v.log ≡ w.log
+    by_node None h = absurd h
+    by_node (Some n) (new, step, store, deep, works, is) =
+        by_reply (noted_set (after_step w c n new store deep) cost (length w.store.writes)) step step.reply refl is
+
+pub job_moment : (w v : State) (c : ControllerId) (j : ℕ) (o : Outcome) → Steps w (event.Job c j) v (Ok o) → v.moment ≡ w.moment
+job_moment w v c j o (cost, due, h) = by_node (slice_get w.controllers c.0) h
+  where
+    by_reply : (z : State) (step : JobStep) (r : Option Reply) → z.moment ≡ w.moment → (v, o) ≡ stepped_by z cost step r → v.moment ≡ w.moment
+    by_reply z step None same is = ap (λ (n : Next). n.0.moment) is ∙ same
+    by_reply z step (Some y) same is = ap (λ (n : Next). n.0.moment) is ∙ same
+
+    by_node : (n : Option ControllerNode) → JobStepsAt n w c j cost (v, o) → v.moment ≡ w.moment
     by_node None h = absurd h
     by_node (Some n) (new, step, store, deep, works, is) =
         by_reply (noted_set (after_step w c n new store deep) cost (length w.store.writes)) step step.reply refl is

@@ -281,6 +281,34 @@ module _ (h : List Seen) (r : Request) (now : Moment) (unextended : (millis : �
     kind_led (kind.Upload path bytes) y is of so = absurd (none-some what of)
     kind_led (kind.Extend millis) y is of so = absurd (unextended millis is)
 
+-- ---- who leads
+
+module _ (c : Controlling) (r : Request) where
+  place_leads : (o : Option ℕ) (what : Ask) → by_place o what ≡ not_leading → ⊥
+  place_leads None what e = cc
+  place_leads (Some place) what e = cc
+
+  asked_leads : (what : Ask) → asked_turn c r what ≡ not_leading → ⊥
+  asked_leads what =
+      by_test (λ (rule : Rule). rule ≡ not_leading → ⊥) (not (is_replica c.assigned r.partition r.number.instance)) not_assigned _ (λ other e. cc)
+      (λ own. by_test (λ (rule : Rule). rule ≡ not_leading → ⊥) (nat_le LAST_NUMBER r.sequence.0) past_last _ (λ last e. cc)
+      (λ early. place_leads (machine_place c.machines r.partition r.sequence) what))
+
+  kind_leads : (k : RequestKind) → kind_turn c r k ≡ not_leading → ⊥
+  kind_leads (kind.Upload path bytes) e = cc
+  kind_leads (kind.Consumed reason) e = asked_leads (ask.Consumed r.offset reason) e
+  kind_leads kind.Stopped e = asked_leads ask.Stopped e
+  kind_leads kind.CommitStart e = asked_leads (ask.CommitStart r.offset) e
+  kind_leads (kind.CommitEnd path) e = asked_leads (ask.CommitEnd r.offset) e
+  kind_leads (kind.Extend millis) e = asked_leads (ask.Extend millis) e
+
+  pub not_led : turn_of c r ≡ not_leading → c.leads ≡ false
+  not_led e = by_leads c.leads e
+    where
+      by_leads : (b : Bool) → cond b (kind_turn c r r.kind) not_leading ≡ not_leading → b ≡ false
+      by_leads true f = absurd (kind_leads r.kind f)
+      by_leads false f = refl
+
 -- ---- a request
 
 -- HOLD is answered, or NOT_LEADER by one that doesn't lead; or the machine moved so, or a job has started
@@ -502,36 +530,9 @@ module _ (t : Told) (d : ToldDeep) (c : Controlling) (r : Request) (now : Moment
     put_right is =
         file_right (file_of d.files path) (sym (ap (after_put c r path) (unfaulted deep.Failed d.faults.plan (putting put d.files) readable.fetches)) ∙ is)
 
-  -- ---- the first rule that applies
-
-  place_leads : (o : Option ℕ) (what : Ask) → by_place o what ≡ not_leading → ⊥
-  place_leads None what e = cc
-  place_leads (Some place) what e = cc
-
-  asked_leads : (what : Ask) → asked_turn c r what ≡ not_leading → ⊥
-  asked_leads what =
-      by_test (λ (rule : Rule). rule ≡ not_leading → ⊥) (not (is_replica c.assigned p i)) not_assigned _ (λ other e. cc)
-      (λ own. by_test (λ (rule : Rule). rule ≡ not_leading → ⊥) (nat_le LAST_NUMBER q.0) past_last _ (λ last e. cc)
-      (λ early. place_leads (machine_place c.machines p q) what))
-
-  kind_leads : (k : RequestKind) → kind_turn c r k ≡ not_leading → ⊥
-  kind_leads (kind.Upload path bytes) e = cc
-  kind_leads (kind.Consumed reason) e = asked_leads (ask.Consumed r.offset reason) e
-  kind_leads kind.Stopped e = asked_leads ask.Stopped e
-  kind_leads kind.CommitStart e = asked_leads (ask.CommitStart r.offset) e
-  kind_leads (kind.CommitEnd path) e = asked_leads (ask.CommitEnd r.offset) e
-  kind_leads (kind.Extend millis) e = asked_leads (ask.Extend millis) e
-
-  not_led : turn_of c r ≡ not_leading → c.leads ≡ false
-  not_led e = by_leads c.leads e
-    where
-      by_leads : (b : Bool) → cond b (kind_turn c r r.kind) not_leading ≡ not_leading → b ≡ false
-      by_leads true f = absurd (kind_leads r.kind f)
-      by_leads false f = refl
-
   rule_right : (rule : Rule) (x : Handling) → turn_of c r ≡ rule → Tells c r rule → handled_at c r now rule (answer_to t d (call_of r rule)) ≡ Some x
       → IsPossiblyHandled x.handled → IsRight x
-  rule_right not_leading x is told e possible = made _ x e (inr (inl (refl, not_led is)))
+  rule_right not_leading x is told e possible = made _ x e (inr (inl (refl, not_led c r is)))
   rule_right (uploads path bytes) x is told e possible = put_right path bytes x possible e
   rule_right not_assigned x is told e possible = absurd (subst (λ (z : Handling). IsPossiblyHandled z.handled) (sym (same_Some _ x e)) possible)
   rule_right past_last x is told e possible = made _ x e (inl refl)

@@ -32,6 +32,7 @@ use Rattle.rt_model.specs.Metadata.{IsDoneStatus}
 use Rattle.rt_model.specs.declared.asked.Asked.{Asked}
 use Rattle.rt_model.specs.declared.job_step.StepName.{StepName}
 use Rattle.rt_model.specs.declared.node.Seen.{Seen}
+use Rattle.rt_model.specs.declared.reply.FailCause.{FailCause}
 use Rattle.rt_model.specs.declared.reply.Reply.{Reply}
 use Rattle.rt_model.specs.declared.reply.ReplyStatus.{ReplyStatus}
 use Rattle.rt_model.specs.declared.reply.ReplyStatus.TheVariants as status
@@ -59,7 +60,7 @@ use Rattle.rt_unrefused.proofs.JobSteps.{is_open_job, over, own_step, there_then
 use Rattle.rt_world.specs.Step.{Steps}
 use Rattle.rt_calm.specs.Again.{machines_in}
 use Rattle.rt_calm.specs.Commits.{commits_of}
-use Rattle.rt_calm.specs.Off.{IsPutOff, IsSuccess}
+use Rattle.rt_calm.specs.Off.{IsSuccess}
 use Rattle.rt_calm.specs.Spent.{Spends}
 use Rattle.rt_calm.proofs.Commits.{commits_within}
 use Rattle.rt_calm.proofs.Delivered.{HasStarted, IsMoved, IsOwn, IsOwnBy}
@@ -149,14 +150,14 @@ job_fits h p t rose n x (kind.Consumed reason) from s starts so success = absurd
 job_fits h p t rose n x kind.CommitStart from s starts so success = absurd starts
 job_fits h p t rose n x (kind.Upload path bytes) from s starts so success = absurd starts
 
--- a job's answer puts off, or is a success
-abbrev pub OffOrSuccess : ReplyStatus → Type 0
-OffOrSuccess s = IsPutOff s ⊎ IsSuccess s
+-- a job answers FAILED, or a success
+abbrev pub FailedOrSuccess : ReplyStatus → Type 0
+FailedOrSuccess s = ((cause : FailCause) × (s ≡ status.Failed cause)) ⊎ IsSuccess s
 
-job_status : (h : List Seen) (p : Partition) (t : Sequence) (rose : Type 0) (b : Bool) (n : StepName) (s : ReplyStatus) → StatusSo h p t rose b n s → OffOrSuccess s
+job_status : (h : List Seen) (p : Partition) (t : Sequence) (rose : Type 0) (b : Bool) (n : StepName) (s : ReplyStatus) → StatusSo h p t rose b n s → FailedOrSuccess s
 job_status h p t rose b n (status.CommitSuccess seen) so = inr tt
 job_status h p t rose b n status.Processed so = inr tt
-job_status h p t rose b n (status.Failed cause) so = inl tt
+job_status h p t rose b n (status.Failed cause) so = inl (cause, refl)
 job_status h p t rose b n (status.Keep seen) so = absurd so
 job_status h p t rose b n (status.UploadSuccess shown) so = absurd so
 job_status h p t rose b n status.Hold so = absurd so
@@ -169,7 +170,7 @@ job_status h p t rose b n status.CommitContinue so = absurd so
 -- behind a step it goes on, or it has answered so
 abbrev pub Behind : State → ControllerId → ℕ → Request → Option Replied → Type 0
 Behind y c j q None = IsOpenFor y c j q
-Behind y c j q (Some r) = IsAnswer y (asked_of q) r × Fits q.offset q.kind r.status × OffOrSuccess r.status
+Behind y c j q (Some r) = IsAnswer y (asked_of q) r × Fits q.offset q.kind r.status × FailedOrSuccess r.status
 
 no_ending : (message : Option ℕ) → ending message None ≡ None
 no_ending None = refl
@@ -232,6 +233,19 @@ step_behind z y c j q o safe is steps =
           job_status did.store.writes its.job.asked.partition its.job.asked.sequence Rose (commits its.job.stage) did.did.step reply.status so,
         )
 
+-- ---- the machines behind a step
+
+module _ (z y : State) (c : ControllerId) (j : ℕ) (o : Outcome) (safe : IsSafeWorld z) (did : OwnStep z y c j o) where
+  abbrev worked : WorksOver z.setup (past_of z) z.store did.store z.deep did.deep did.node.controller did.new j did.did
+  worked = over z y c j o safe did
+
+  pub step_machines : machines_at y c ≡ machines_after (machines_at z c) worked.job.asked (commits worked.job.stage) did.did.reply
+  step_machines =
+      ap (λ (cs : List ControllerNode). machines_in (slice_get cs c.0)) did.controllers
+      ∙ ap machines_in (own_slot z.controllers c.0 did.node (record did.node { controller = did.new }) did.at)
+      ∙ worked_machines z.store did.store z.deep did.deep did.node.controller did.new j z.moment did.did did.works worked.job worked.open_job
+      ∙ ap (λ (ms : List SegmentMachine). machines_after ms worked.job.asked (commits worked.job.stage) did.did.reply) (sym (ap machines_in did.at))
+
 -- ---- what a job pays
 
 -- a job that is open, and has paid for what it has written since; and the segment's machine as it started
@@ -281,11 +295,7 @@ module _ (u z y : State) (c : ControllerId) (j : ℕ) (q : Request) (o : Outcome
   machines_before = ap machines_in did.at
 
   machines_behind : machines_at y c ≡ machines_after (machines_at z c) its.job.asked (commits its.job.stage) did.did.reply
-  machines_behind =
-      ap (λ (cs : List ControllerNode). machines_in (slice_get cs c.0)) did.controllers
-      ∙ ap machines_in (own_slot z.controllers c.0 did.node (record did.node { controller = did.new }) did.at)
-      ∙ worked_machines z.store did.store z.deep did.deep did.node.controller did.new j z.moment did.did did.works its.job its.open_job
-      ∙ ap (λ (ms : List SegmentMachine). machines_after ms its.job.asked (commits its.job.stage) did.did.reply) (sym machines_before)
+  machines_behind = step_machines z y c j o safe_before did
 
   own_asked : its.job.asked ≡ asked_of q
   own_asked = ap (λ (k : Job). k.asked) (is_open_job z y c j o safe_before did opened.job opened.there) ∙ opened.asked

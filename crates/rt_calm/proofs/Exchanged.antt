@@ -102,7 +102,7 @@ use Rattle.rt_calm.specs.Spent.{Spends}
 use Rattle.rt_calm.proofs.Answering.{answer_again, IsWaiting}
 use Rattle.rt_calm.proofs.Controlled.{asking_on, delivery_fetches, delivery_leads, delivery_log, delivery_plan, delivery_writes, job_fetches, job_keeps_leads, job_log, job_plan, IsAsking}
 use Rattle.rt_calm.proofs.Delivered.{IsMoved, IsReadable, StatusTells}
-use Rattle.rt_calm.proofs.Ending.{step_behind, step_pays, Behind, IsOpenFor, IsPaying, OffOrSuccess, PaysBehind}
+use Rattle.rt_calm.proofs.Ending.{step_behind, step_pays, Behind, IsOpenFor, IsPaying, FailedOrSuccess, PaysBehind}
 use Rattle.rt_calm.proofs.Fitting.{hands_out, Fits, HandsOut}
 use Rattle.rt_calm.proofs.Keeping.{goes_on, keeps_still, keeps_then, step_keeps, IsGoing, KeepsOn}
 use Rattle.rt_calm.proofs.Leading.{leader_leads, leads_in, leads_still}
@@ -117,23 +117,24 @@ use Rattle.rt_calm.proofs.Sums.{put_falls, put_still, put_sum}
 -- ---- the request
 
 -- a replica that has sent a request, and else stands as it stood
-record HasAsked (w u : State) (i : Instance) (p : Partition) (q : Sequence) (request : Request) : Type 0 where
-  old : ServerNode
-  at : slice_get w.servers i.0 ≡ Some old
-  replica : Consumer
-  found : replica_of old.server.table p q ≡ Some replica
-  kind : kind_in replica.name request.number replica.phase ≡ Some request.kind
-  offset : request.offset ≡ cur replica
-  new : ServerNode
-  servers : u.servers ≡ slice_set w.servers i.0 new
-  table : new.server.table ≡ put_back old.server.table p q (Replica (record replica { waited = Some (Step request.number) }))
-  instance : new.server.numbers.instance ≡ old.server.numbers.instance
-  up : new.up ≡ old.up
-  log : u.log ≡ w.log
-  store : u.store ≡ w.store
-  deep : u.deep ≡ w.deep
-  controllers : u.controllers ≡ w.controllers
-  setup : u.setup ≡ w.setup
+pub record HasAsked (w u : State) (i : Instance) (p : Partition) (q : Sequence) (request : Request) : Type 0 where
+  pub old : ServerNode
+  pub at : slice_get w.servers i.0 ≡ Some old
+  pub replica : Consumer
+  pub found : replica_of old.server.table p q ≡ Some replica
+  pub kind : kind_in replica.name request.number replica.phase ≡ Some request.kind
+  pub offset : request.offset ≡ cur replica
+  pub new : ServerNode
+  pub servers : u.servers ≡ slice_set w.servers i.0 new
+  pub table : new.server.table ≡ put_back old.server.table p q (Replica (record replica { waited = Some (Step request.number) }))
+  pub instance : new.server.numbers.instance ≡ old.server.numbers.instance
+  pub up : new.up ≡ old.up
+  pub log : u.log ≡ w.log
+  pub store : u.store ≡ w.store
+  pub deep : u.deep ≡ w.deep
+  pub controllers : u.controllers ≡ w.controllers
+  pub setup : u.setup ≡ w.setup
+  pub moment : u.moment ≡ w.moment
 
 abbrev pub came_sent : ℕ → Request → Outcome
 came_sent m request = came.Sent m request
@@ -185,6 +186,7 @@ has_asked w u i p q request (cost, due, h) = by_server (slice_get w.servers i.0)
               deep = ap (λ (x : Next). x.0.deep) is;
               controllers = ap (λ (x : Next). x.0.controllers) is;
               setup = ap (λ (x : Next). x.0.setup) is;
+              moment = ap (λ (x : Next). x.0.moment) is;
             }
           where
             some_kind : RequestKind → Option RequestKind
@@ -250,11 +252,11 @@ module _ (w v : State) (m : ℕ) (c : ControllerId) (q : Request) (o : Outcome) 
 -- ---- the answer
 
 -- among some turns is one by which this was answered
-record Tells (b : Reached) (r : Replied) : Type 0 where
-  event : Event
-  outcome : Outcome
-  has : Has b.turns (happens event outcome)
-  told : (delivered_in outcome ≡ delivered.Replied r) ⊎ (ended_in outcome ≡ Some r)
+pub record Tells (b : Reached) (r : Replied) : Type 0 where
+  pub event : Event
+  pub outcome : Outcome
+  pub has : Has b.turns (happens event outcome)
+  pub told : (delivered_in outcome ≡ delivered.Replied r) ⊎ (ended_in outcome ≡ Some r)
 
 tells_first : (b l v : Reached) (r : Replied) → v ≡ after b.turns l → Tells b r → Tells v r
 tells_first b l v r whole t =
@@ -279,14 +281,14 @@ tells_behind b l v r whole t =
     }
 
 -- the request is answered so, in these turns
-record HasAnswered (u : State) (c : ControllerId) (q : Request) (v : Reached) (r : Replied) : Type 0 where
-  asking : IsAsking u v.world
-  answer : IsAnswer v.world (asked_of q) r
-  fits : Fits q.offset q.kind r.status
-  wrote : (v.world.store.writes ≡ u.store.writes) ⊎ OffOrSuccess r.status
-  spends : Spends u.setup u.log u.store.writes v.world.store.writes
-  moves : IsPlain u q → v.world.store.writes ≡ u.store.writes → MovedSo u v.world c q r.status
-  tells : Tells v r
+pub record HasAnswered (u : State) (c : ControllerId) (q : Request) (v : Reached) (r : Replied) : Type 0 where
+  pub asking : IsAsking u v.world
+  pub answer : IsAnswer v.world (asked_of q) r
+  pub fits : Fits q.offset q.kind r.status
+  pub wrote : (v.world.store.writes ≡ u.store.writes) ⊎ FailedOrSuccess r.status
+  pub spends : Spends u.setup u.log u.store.writes v.world.store.writes
+  pub moves : IsPlain u q → v.world.store.writes ≡ u.store.writes → MovedSo u v.world c q r.status
+  pub tells : Tells v r
 
 module _ (u : State) (c : ControllerId) (q : Request) where
   abbrev IsAnswered : Reached → Replied → Type 0
@@ -299,7 +301,7 @@ module _ (u : State) (c : ControllerId) (q : Request) where
         asking = subst (IsAsking u) (sym at) k.asking;
         answer = subst (λ (x : State). IsAnswer x (asked_of q) r) (sym at) k.answer;
         fits = k.fits;
-        wrote = subst (λ (x : State). (x.store.writes ≡ u.store.writes) ⊎ OffOrSuccess r.status) (sym at) k.wrote;
+        wrote = subst (λ (x : State). (x.store.writes ≡ u.store.writes) ⊎ FailedOrSuccess r.status) (sym at) k.wrote;
         spends = subst (λ (x : State). Spends u.setup u.log u.store.writes x.store.writes) (sym at) k.spends;
         moves = subst (λ (x : State). IsPlain u q → x.store.writes ≡ u.store.writes → MovedSo u x c q r.status) (sym at) k.moves;
         tells = tells_behind b l v r whole k.tells;
@@ -431,16 +433,17 @@ number_is n =
     ∙ eq-eqb n.count n.count refl
 
 -- the servers with the answer taken: the replica puts it in its place
-record HasTaken (z y : State) (i : Instance) (p : Partition) (q : Sequence) (node : ServerNode) (r : Consumer) (reply : Reply) : Type 0 where
-  new : ServerNode
-  servers : y.servers ≡ slice_set z.servers i.0 new
-  table : new.server.table ≡ put_back node.server.table p q (Replica (answered_by r reply))
-  instance : new.server.numbers.instance ≡ node.server.numbers.instance
-  up : new.up ≡ node.up
-  log : y.log ≡ z.log
-  store : y.store ≡ z.store
-  deep : y.deep ≡ z.deep
-  controllers : y.controllers ≡ z.controllers
+pub record HasTaken (z y : State) (i : Instance) (p : Partition) (q : Sequence) (node : ServerNode) (r : Consumer) (reply : Reply) : Type 0 where
+  pub new : ServerNode
+  pub servers : y.servers ≡ slice_set z.servers i.0 new
+  pub table : new.server.table ≡ put_back node.server.table p q (Replica (answered_by r reply))
+  pub instance : new.server.numbers.instance ≡ node.server.numbers.instance
+  pub up : new.up ≡ node.up
+  pub log : y.log ≡ z.log
+  pub store : y.store ≡ z.store
+  pub deep : y.deep ≡ z.deep
+  pub controllers : y.controllers ≡ z.controllers
+  pub moment : y.moment ≡ z.moment
 
 takes : (z y : State) (m : ℕ) (o : Outcome) (i : Instance) (p : Partition) (q : Sequence) (node : ServerNode) (r : Consumer) (reply : Reply)
     → reply_at z m ≡ Some reply → reply.number.instance.0 ≡ i.0 → reply.partition ≡ p → reply.sequence ≡ q → slice_get z.servers i.0 ≡ Some node
@@ -471,6 +474,7 @@ takes z y m o i p q node r reply there place of_p of_q stands found (cost, due, 
           store = ap (λ (x : State). x.store) is;
           deep = ap (λ (x : State). x.deep) is;
           controllers = ap (λ (x : State). x.controllers) is;
+          moment = ap (λ (x : State). x.moment) is;
         }
 
 -- ---- an exchange
@@ -493,6 +497,10 @@ told_behind P b l v whole x =
 abbrev pub Wrote : State → Reached → Type 0
 Wrote w v = (v.world.store.writes ≡ w.store.writes) ⊎ PutsOff v ⊎ Succeeds v
 
+-- HOLD is told, or NOT_LEADER where no controller that is up believes that it leads
+abbrev pub MakesWait : State → ReplyStatus → Type 0
+MakesWait w s = (s ≡ status.Hold) ⊎ ((s ≡ status.NotLeader) × (IsLeading w → ⊥))
+
 -- where it writes nothing, and nobody is told HOLD or NOT_LEADER, less lies ahead and may lie ahead again
 abbrev pub WaitsOrLess : State → Reached → Type 0
 WaitsOrLess w v = IsSettling w → v.world.store.writes ≡ w.store.writes → Waits w v ⊎ (ahead_still v.world < ahead_still w)
@@ -504,6 +512,12 @@ pub record HasExchanged (w : State) (v : Reached) : Type 0 where
   pub wrote : Wrote w v
   pub spends : Spends w.setup w.log w.store.writes v.world.store.writes
   pub still : WaitsOrLess w v
+
+-- the answer is taken, and the run goes on so
+pub record HasTakenAnswer (w : State) (b : Reached) (i : Instance) (p : Partition) (q : Sequence) (node : ServerNode) (r : Consumer) (reply : Reply) (v : Reached) : Type 0 where
+  pub exchanged : HasExchanged w v
+  pub taken : HasTaken b.world v.world i p q node r reply
+  pub still : IsSettling w → v.world.store.writes ≡ w.store.writes → MakesWait w reply.status ⊎ (ahead_still v.world < ahead_still w)
 
 pub waits_behind : (w m : State) (b l v : Reached) → (IsLeading w → IsLeading m) → v ≡ after b.turns l → Waits m l → Waits w v
 waits_behind w m b l v leading whole (inl held) = inl (told_behind (λ s. s ≡ status.Hold) b l v whole held)
@@ -805,7 +819,8 @@ module _ (w u : State) (i : Instance) (p : Partition) (q : Sequence) (request : 
           (put_up b.world y i.0 asked.new taken.new p q waiting (answered_by waiting k.answer.reply) put)
           (λ same. put_calm b.world y i.0 asked.new taken.new p q waiting (answered_by waiting k.answer.reply) put taken.store)
 
-    takes_answer : (m : ℕ) (l v : Reached) (x : Exchanged) → KeepsOn w u → v ≡ after b.turns l → TakesAnswer m r b.world l (Ok x) → HasExchanged w v
+    takes_answer : (m : ℕ) (l v : Reached) (x : Exchanged) → KeepsOn w u → v ≡ after b.turns l → TakesAnswer m r b.world l (Ok x)
+        → HasTakenAnswer w b i p q asked.new waiting k.answer.reply v
     takes_answer m l v x first whole h = by_state (state_in t.told) t.further
       where
         t : IsThen (Happens (event.Reply r.message)) (λ outcome. AfterReply m r (state_in outcome)) b.world l x
@@ -817,12 +832,12 @@ module _ (w u : State) (i : Instance) (p : Partition) (q : Sequence) (request : 
             let told = tells_first b l v r whole k.tells in
             record { event = told.event; outcome = told.outcome; has = told.has; answer = r; told = told.told; so = so }
 
-        wrote_so : (b.world.store.writes ≡ u.store.writes) ⊎ OffOrSuccess r.status → v.world ≡ t.between.world → Wrote w v
+        wrote_so : (b.world.store.writes ≡ u.store.writes) ⊎ FailedOrSuccess r.status → v.world ≡ t.between.world → Wrote w v
         wrote_so (inl same) e =
             inl
             (ap (λ (y : State). y.store.writes) e
             ∙ ap (λ (y : Told). y.writes) (taken t.between.world t.told t.came.by.0).store ∙ same ∙ ap (λ (y : Told). y.writes) asked.store)
-        wrote_so (inr (inl off)) e = inr (inl (is_told IsPutOff off))
+        wrote_so (inr (inl failed)) e = inr (inl (is_told IsPutOff (subst IsPutOff (sym failed.1) tt)))
         wrote_so (inr (inr done)) e = inr (inr (is_told IsSuccess done))
 
         spent_so : Spends u.setup u.log u.store.writes b.world.store.writes → v.world ≡ t.between.world
@@ -835,16 +850,17 @@ module _ (w u : State) (i : Instance) (p : Partition) (q : Sequence) (request : 
             (subst (λ (l : Log). Spends w.setup l u.store.writes b.world.store.writes) asked.log
             (subst (λ (s : Setup). Spends s u.log u.store.writes b.world.store.writes) first.setup spent))))
 
-        still_so : KeepsOn w v.world → v.world ≡ t.between.world → WaitsOrLess w v
+        still_so : KeepsOn w v.world → v.world ≡ t.between.world → IsSettling w → v.world.store.writes ≡ w.store.writes
+            → MakesWait w r.status ⊎ (ahead_still v.world < ahead_still w)
         still_so on e settling unwritten =
             by_moved (k.moves (settling_plain settling) (sym at ∙ unwritten ∙ sym (ap (λ (y : Told). y.writes) asked.store)))
           where
             at : v.world.store.writes ≡ b.world.store.writes
             at = ap (λ (y : State). y.store.writes) e ∙ ap (λ (y : Told). y.writes) (taken t.between.world t.told t.came.by.0).store
 
-            waits : IsWaiting r.status → (r.status ≡ status.NotLeader → IsLeading w → ⊥) → Waits w v
-            waits (inl hold) none = inl (is_told (λ s. s ≡ status.Hold) hold)
-            waits (inr away) none = inr (is_told (λ s. s ≡ status.NotLeader) away, none away)
+            waits : IsWaiting r.status → (r.status ≡ status.NotLeader → IsLeading w → ⊥) → MakesWait w r.status
+            waits (inl hold) none = inl hold
+            waits (inr away) none = inr (away, none away)
 
             -- the machines of the controller that is asked
             machines_now : asked_machines v.world ≡ machines_at b.world c
@@ -874,15 +890,15 @@ module _ (w u : State) (i : Instance) (p : Partition) (q : Sequence) (request : 
 
             by_less : (r.status ≡ status.NotLeader → IsLeading w → ⊥)
                 → IsWaiting r.status ⊎ (ahead_in_world t.between.world + again_servers u.store.writes (machines_at b.world c) 0 t.between.world.servers < ahead_in_world w + again_servers u.store.writes (machines_at u c) 0 w.servers)
-                → Waits w v ⊎ (ahead_still v.world < ahead_still w)
+                → MakesWait w r.status ⊎ (ahead_still v.world < ahead_still w)
             by_less none (inl off) = inl (waits off none)
             by_less none (inr less) = inr (omega (arith, less, still_now, still_then))
 
-            by_moved : MovedSo u b.world c request r.status → Waits w v ⊎ (ahead_still v.world < ahead_still w)
-            by_moved (inl hold) = inl (inl (is_told (λ s. s ≡ status.Hold) hold))
+            by_moved : MovedSo u b.world c request r.status → MakesWait w r.status ⊎ (ahead_still v.world < ahead_still w)
+            by_moved (inl hold) = inl (inl hold)
             by_moved (inr (inl (away, apart))) =
                 inl (inr (
-                  is_told (λ s. s ≡ status.NotLeader) away,
+                  away,
                   λ leading. true≢false
                       (sym (leader_leads w c leading led) ∙ ap (λ (cs : List ControllerNode). leads_in (slice_get cs c.0)) (sym asked.controllers) ∙ apart),
                 ))
@@ -890,34 +906,68 @@ module _ (w u : State) (i : Instance) (p : Partition) (q : Sequence) (request : 
                 by_less (λ away. absurd (subst (StatusTells u.store.writes request moved.moved.machine moved.moved.left) away moved.tells))
                 (moved_less t.between.world t.told t.came.by.0 settling (sym at ∙ writes_now) moved)
 
+        told_still : MakesWait w r.status ⊎ (ahead_still v.world < ahead_still w) → Waits w v ⊎ (ahead_still v.world < ahead_still w)
+        told_still (inl (inl hold)) = inl (inl (is_told (λ s. s ≡ status.Hold) hold))
+        told_still (inl (inr (away, none))) = inl (inr (is_told (λ s. s ≡ status.NotLeader) away, none))
+        told_still (inr less) = inr less
+
         by_less : (y : State) → IsPutOff r.status ⊎ (ahead_in_world t.between.world < ahead_in_world w) → y ≡ t.between.world
             → PutsOff v ⊎ (ahead_in_world y < ahead_in_world w)
         by_less y (inl off) e = inl (is_told IsPutOff off)
         by_less y (inr less) e = inr (subst (λ (z : State). ahead_in_world z < ahead_in_world w) (sym e) less)
 
-        by_state : (o : Option ReplicaState) → AfterReply m r o t.between.world t.last (Ok x) → HasExchanged w v
+        by_state : (o : Option ReplicaState) → AfterReply m r o t.between.world t.last (Ok x)
+            → HasTakenAnswer w b i p q asked.new waiting k.answer.reply v
         by_state None g = absurd (told_not x NothingToDo g.1)
         by_state (Some s) g =
             let end : v.world ≡ t.between.world =
             ap (λ (z : Reached). z.world) whole ∙ ap (λ (z : Reached). z.world) t.whole ∙ ap (λ (z : Reached). z.world) g.0 in
             let kept = keeps_then w b.world t.between.world (keeps_then w u b.world first k.asking.keeps)
             (taken_keeps t.between.world t.told t.came.by.0) in
+            let on = subst (KeepsOn w) (sym end) kept in
             record {
-              on = subst (KeepsOn w) (sym end) kept;
-              less = by_less v.world (taken_less t.between.world t.told t.came.by.0) end;
-              wrote = wrote_so k.wrote end;
-              spends = spent_so k.spends end;
-              still = still_so (subst (KeepsOn w) (sym end) kept) end;
+              exchanged = record {
+                on = on;
+                less = by_less v.world (taken_less t.between.world t.told t.came.by.0) end;
+                wrote = wrote_so k.wrote end;
+                spends = spent_so k.spends end;
+                still = λ settling unwritten. told_still (still_so on end settling unwritten);
+              };
+              taken =
+                  subst (λ (y : State). HasTaken b.world y i p q asked.new waiting k.answer.reply) (sym end)
+                  (taken t.between.world t.told t.came.by.0);
+              still =
+                  λ settling unwritten. subst (λ (x : ReplyStatus). MakesWait w x ⊎ (ahead_still v.world < ahead_still w)) k.answer.status (still_so on end settling unwritten);
             }
 
 -- a request that was sent is answered, and the answer taken
+pub record HasFinished (w u : State) (i : Instance) (p : Partition) (q : Sequence) (c : ControllerId) (o : Outcome) (v : Reached) : Type 0 where
+  pub its : IsRequested w u i p q o
+  pub asked : HasAsked w u i p q its.request
+  pub within : its.request.partition.0 < w.setup.partitions
+  pub between : Reached
+  pub answer : Replied
+  pub came : Handles c (length w.sent) u between (Ok answer)
+  pub answered : HasAnswered u c its.request between answer
+  pub taken : HasTakenAnswer w between i p q asked.new (record asked.replica { waited = Some (Step its.request.number) }) answered.answer.reply v
+
 pub finishes : (w u : State) (i : Instance) (p : Partition) (q : Sequence) (c : ControllerId) (o : Outcome) (v : Reached) (x : Exchanged) → IsGoing w
-    → leader_in w ≡ Some c → Steps w (event.Report i p q) u (Ok o) → AfterReport c o u v (Ok x) → HasExchanged w v
+    → leader_in w ≡ Some c → Steps w (event.Report i p q) u (Ok o) → AfterReport c o u v (Ok x) → HasFinished w u i p q c o v
 finishes w u i p q c o v x going led steps h =
     let sent_so = then_parts (Handles c m) (TakesAnswer m) u v x (subst (λ (y : Outcome). AfterReport c y u v (Ok x)) its.told h) in
-    takes_answer w u i p q its.request asked its.segment its.instance c led going within sent_so.between sent_so.told
-    (handles u c its.request m sent_so.between sent_so.told going_on its.there sent_so.came) m sent_so.last v x
-    (asked_keeps w u i p q its.request asked its.segment its.instance c led going within o steps) sent_so.whole sent_so.further
+    let answered = handles u c its.request m sent_so.between sent_so.told going_on its.there sent_so.came in
+    record {
+      its = its;
+      asked = asked;
+      within = within;
+      between = sent_so.between;
+      answer = sent_so.told;
+      came = sent_so.came;
+      answered = answered;
+      taken =
+          takes_answer w u i p q its.request asked its.segment its.instance c led going within sent_so.between sent_so.told answered m sent_so.last v x
+          (asked_keeps w u i p q its.request asked its.segment its.instance c led going within o steps) sent_so.whole sent_so.further;
+    }
   where
     its : IsRequested w u i p q o
     its = requested w u i p q o going.safe steps

@@ -362,7 +362,7 @@ requests_go i s c busy w v told k led t = by_told t.between t.told t.last t.came
         → v ≡ after b.turns l → HasGone w busy v told
     by_told b (Ok o) l by further whole =
         let f = then_parts (AfterReport c o) (λ exchanged. Gives true) b.world l told further in
-        let x = finishes w b.world i s.0 s.1 c o f.between f.told k led by.0 f.came in
+        let x = (finishes w b.world i s.0 s.1 c o f.between f.told k led by.0 f.came).taken.exchanged in
         let end : l ≡ after f.between.turns (stays f.between.world) = f.whole ∙ ap (after f.between.turns) f.further.0 in
         exchanged_goes w busy v told (exchanged_behind w b l v whole (exchanged_before w f.between l end x))
     by_told b (Err NothingToDo) l by further whole =
