@@ -59,7 +59,7 @@ abbrev pub IsWaiting : ReplyStatus → Type 0
 IsWaiting s = (s ≡ status.Hold) ⊎ (s ≡ status.NotLeader)
 
 -- a machine that is left so waits for its committer at this stage
-left_awaits : (s : MachineState) (i : Instance) (x : Offset) (n : Option Completion) (stage : Stage) → IsLeft s i x n → waits_at stage s ≡ true
+pub left_awaits : (s : MachineState) (i : Instance) (x : Offset) (n : Option Completion) (stage : Stage) → IsLeft s i x n → waits_at stage s ≡ true
     → awaits n i.0 stage x ≡ true
 left_awaits s i x n stage k waits =
     ap (λ (m : Option Completion). awaits m i.0 stage x) k.is

@@ -32,7 +32,7 @@ WaitsOn i m n = (j : ℕ) (stage : Stage) (x : Offset) → (j ≡ i.0 → ⊥) �
 abbrev pub unless_ended : Completion → Option Completion
 unless_ended n = cond (has_ended n.state) None (Some n)
 
-abbrev WaitsOrNot : MachineState → Type 0
+abbrev pub WaitsOrNot : MachineState → Type 0
 WaitsOrNot s = WaitsFor s ⊎ ((stage : Stage) → waits_at stage s ≡ false)
 
 waits_never : (s : MachineState) → is_notified s ≡ false → is_uploading s ≡ false → (stage : Stage) → waits_at stage s ≡ false
@@ -46,7 +46,7 @@ waits_never s notified uploading (Holding reason) = refl
 waits_never s notified uploading (ConsumingToOnline end done) = refl
 waits_never s notified uploading (Retaining done) = refl
 
-waits_or_not : (s : MachineState) → WaitsOrNot s
+pub waits_or_not : (s : MachineState) → WaitsOrNot s
 waits_or_not machine.CommitterNotified = inl tt
 waits_or_not machine.CommitterUploading = inl tt
 waits_or_not machine.Committing = inl tt

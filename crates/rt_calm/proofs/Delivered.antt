@@ -161,7 +161,7 @@ beyond_start : (m : Completion) (o : Option Offset) → IsBeyond (node.Meta m.se
 beyond_start m None beyond = tt
 beyond_start m (Some x) beyond = beyond
 
-unfaulted : {X E : Type 0} (failed : E) (plan : List Bool) (answer : Result X E) → plan ≡ [] → answer_under failed (fault_of plan) answer ≡ answer
+pub unfaulted : {X E : Type 0} (failed : E) (plan : List Bool) (answer : Result X E) → plan ≡ [] → answer_under failed (fault_of plan) answer ≡ answer
 unfaulted failed plan answer none = ap (λ (p : List Bool). answer_under failed (fault_of p) answer) none
 
 -- ---- machines that are spent

@@ -92,7 +92,7 @@ work_commits : (w : Work) (x : Offset) → work_end w ≡ Some x → commits (st
 work_commits (work.Commit done) x e = refl
 work_commits work.Offline x e = absurd (none-some x e)
 
-does_commit : (s : JobStage) (x : Offset) → commit_end s ≡ Some x → commits s ≡ true
+pub does_commit : (s : JobStage) (x : Offset) → commit_end s ≡ Some x → commits s ≡ true
 does_commit (stage.Check from end path) x e = refl
 does_commit (stage.Done from commit) x e = refl
 does_commit (stage.Next done) x e = refl
@@ -172,7 +172,7 @@ abbrev pub Behind : State → ControllerId → ℕ → Request → Option Replie
 Behind y c j q None = IsOpenFor y c j q
 Behind y c j q (Some r) = IsAnswer y (asked_of q) r × Fits q.offset q.kind r.status × FailedOrSuccess r.status
 
-no_ending : (message : Option ℕ) → ending message None ≡ None
+pub no_ending : (message : Option ℕ) → ending message None ≡ None
 no_ending None = refl
 no_ending (Some m) = refl
 

@@ -195,7 +195,7 @@ has_asked w u i p q request (cost, due, h) = by_server (slice_get w.servers i.0)
 -- ---- a delivery
 
 -- it is answered so, or a job is open for it
-abbrev DeliversSo : State → ControllerId → Request → Delivered → Type 0
+abbrev pub DeliversSo : State → ControllerId → Request → Delivered → Type 0
 DeliversSo v c q (delivered.Replied r) = IsAnswer v (asked_of q) r × Fits q.offset q.kind r.status
 DeliversSo v c q (delivered.Started j) = (is : IsOpenFor v c j q) × IsFirst is.job.stage
 DeliversSo v c q delivered.Neither = Unit {0}
@@ -212,7 +212,7 @@ module _ (w v : State) (m : ℕ) (c : ControllerId) (q : Request) (o : Outcome) 
       let place = Has-place (replicas p) q.number.instance has in
       contains_found (replicas p) place.0 q.number.instance place.1
 
-  delivery_so : DeliversSo v c q (delivered_in o)
+  pub delivery_so : DeliversSo v c q (delivered_in o)
   delivery_so =
       by_node (slice_get w.controllers c.0) refl
       (subst (λ (r : Option Request). DeliversAt r (slice_get w.controllers c.0) w c steps.0 (v, o)) asks steps.2)
@@ -696,7 +696,7 @@ module _ (w u : State) (i : Instance) (p : Partition) (q : Sequence) (request : 
         ∙ ap (λ (l : Log). ahead_servers l u.servers) k.asking.keeps.log
         ∙ asked_still
 
-    turns_so : answered_by waiting k.answer.reply ≡ turned waiting (answered waiting.phase k.answer.reply.status)
+    pub turns_so : answered_by waiting k.answer.reply ≡ turned waiting (answered waiting.phase k.answer.reply.status)
     turns_so =
         ap (λ (x : Bool). cond x (turned waiting (answered waiting.phase k.answer.reply.status)) waiting)
         (subst (λ (n : RequestNumber). same_number request.number n ≡ true) (sym k.answer.number) (number_is request.number))
@@ -900,7 +900,7 @@ module _ (w u : State) (i : Instance) (p : Partition) (q : Sequence) (request : 
                 inl (inr (
                   away,
                   λ leading. true≢false
-                      (sym (leader_leads w c leading led) ∙ ap (λ (cs : List ControllerNode). leads_in (slice_get cs c.0)) (sym asked.controllers) ∙ apart),
+                      (sym (leader_leads w leading c led) ∙ ap (λ (cs : List ControllerNode). leads_in (slice_get cs c.0)) (sym asked.controllers) ∙ apart),
                 ))
             by_moved (inr (inr moved)) =
                 by_less (λ away. absurd (subst (StatusTells u.store.writes request moved.moved.machine moved.moved.left) away moved.tells))

@@ -2,7 +2,7 @@
 use Rattle.std.proofs.Common.{◌≡◌, ◌⊎◌, inl, inr, ℕ, zero, suc, ◌&&◌, Bool, true, false, cond, List, [], ◌∷◌, length, nat_le, nat_lt, Option, Some, None, Result, Ok, Err, refl, sym, ◌∙◌, ap, subst, arith, get_or, slice_get}
 use Rattle.std.specs.List.{position, position_or_len}
 use Rattle.std.specs.Prelude.{slice_set}
-use Rattle.std.proofs.lemmas.Bool.{and_from, and_parts, ltb-false, true≢false}
+use Rattle.std.proofs.lemmas.Bool.{and_from, and_parts, cond-true, le-leb, ltb-false, true≢false}
 use Rattle.std.proofs.lemmas.List.{length-set}
 use Rattle.std.proofs.lemmas.List.Folds.{position_or_len-set}
 use Rattle.std.proofs.lemmas.List.Quantifiers.{position-Some}
@@ -42,6 +42,7 @@ use Rattle.rt_model.specs.declared.status.Status.{Status}
 use Rattle.rt_model.specs.declared.status.Status.TheVariants.{Abandoned, Done, InProgress}
 use Rattle.rt_nodes.specs.declared.controller_node.ControllerNode.{ControllerNode}
 use Rattle.rt_safety.proofs.SuccessEnds.{step_of}
+use Rattle.rt_state.specs.IsSafeWorld.{IsSafeWorld}
 use Rattle.rt_state.specs.declared.state.State.{State}
 use Rattle.rt_store.specs.Meaning.{Told}
 use Rattle.rt_store.specs.Memory.{means}
@@ -230,34 +231,51 @@ abbrev pub leads_in : Option ControllerNode → Bool
 leads_in None = false
 leads_in (Some n) = n.controller.leads
 
--- where any controller leads, the one that replicas ask does
-pub leader_leads : (w : State) (c : ControllerId) → IsLeading w → leader_in w ≡ Some c → leads_in (slice_get w.controllers c.0) ≡ true
-leader_leads w c k led = by_place (position leads cs) refl led
-  where
-    cs : List ControllerNode
-    cs = w.controllers
+-- where any controller leads, one is found that does
+module _ (w : State) (k : IsLeading w) where
+  abbrev cs : List ControllerNode
+  cs = w.controllers
 
-    own : leads k.node ≡ true
-    own = and_from k.node.up k.node.controller.leads k.up k.leads
+  own_leads : leads k.node ≡ true
+  own_leads = and_from k.node.up k.node.controller.leads k.up k.leads
 
-    found : (b : Bool) → nat_lt (position_or_len leads cs) (length cs) ≡ b → cond b (Some (position_or_len leads cs)) None ≡ None → ⊥
-    found true e none = absurd (cc)
-    found false e none =
-        let past = ltb-false (position_or_len leads cs) (length cs) e in
-        let within = slice_get_within cs k.place k.node k.there in
-        true≢false
-        (sym own ∙ ap leads (sym (get_or_from_slice_get cs k.place k.node k.node k.there))
-        ∙ fails_before_first leads cs k.place k.node (omega (arith, past, within)))
+  none_leads : position leads cs ≡ None → ⊥
+  none_leads = by_test (nat_lt (position_or_len leads cs) (length cs)) refl
+    where
+      by_test : (b : Bool) → nat_lt (position_or_len leads cs) (length cs) ≡ b → cond b (Some (position_or_len leads cs)) None ≡ None → ⊥
+      by_test true e none = absurd (cc)
+      by_test false e none =
+          let past = ltb-false (position_or_len leads cs) (length cs) e in
+          let within = slice_get_within cs k.place k.node k.there in
+          true≢false
+          (sym own_leads ∙ ap leads (sym (get_or_from_slice_get cs k.place k.node k.node k.there))
+          ∙ fails_before_first leads cs k.place k.node (omega (arith, past, within)))
 
-    by_test : (place : ℕ) → position leads cs ≡ Some place → (b : Bool) → cond b (Some (record { 0 = place })) None ≡ Some c
-        → leads_in (slice_get cs c.0) ≡ true
-    by_test place first false e = absurd (none-some c e)
-    by_test place first true e =
-        let here : place ≡ c.0 = ap (λ (x : ControllerId). x.0) (same_Some _ c e) in
-        let there = position-Some leads cs place k.node first in
-        ap (λ (n : ℕ). leads_in (slice_get cs n)) (sym here) ∙ ap leads_in (slice_get-get_or cs place k.node there.0)
-        ∙ (and_parts (get_or cs place k.node).up (get_or cs place k.node).controller.leads there.1).1
+  -- replicas ask one
+  pub leader_there : IsSafeWorld w → (c : ControllerId) × (leader_in w ≡ Some c)
+  leader_there safe = by_place (position leads cs) refl
+    where
+      by_place : (o : Option ℕ) → position leads cs ≡ o → (c : ControllerId) × (then_at (either o (position stands cs)) ≡ Some c)
+      by_place None none = absurd (none_leads none)
+      by_place (Some place) first =
+          let there = position-Some leads cs place k.node first in
+          (record { 0 = place },
+          cond-true (nat_le place LAST_NUMBER) (Some (record { 0 = place })) None
+          (le-leb place LAST_NUMBER (omega (arith, there.0, safe.safe.all_controllers, safe.safe.setup.few_controllers))))
 
-    by_place : (o : Option ℕ) → position leads cs ≡ o → then_at (either o (position stands cs)) ≡ Some c → leads_in (slice_get cs c.0) ≡ true
-    by_place None none e = absurd (found (nat_lt (position_or_len leads cs) (length cs)) refl none)
-    by_place (Some place) first e = by_test place first (nat_le place LAST_NUMBER) e
+  -- and that one leads
+  pub leader_leads : (c : ControllerId) → leader_in w ≡ Some c → leads_in (slice_get cs c.0) ≡ true
+  leader_leads c led = by_place (position leads cs) refl led
+    where
+      by_test : (place : ℕ) → position leads cs ≡ Some place → (b : Bool) → cond b (Some (record { 0 = place })) None ≡ Some c
+          → leads_in (slice_get cs c.0) ≡ true
+      by_test place first false e = absurd (none-some c e)
+      by_test place first true e =
+          let here : place ≡ c.0 = ap (λ (x : ControllerId). x.0) (same_Some _ c e) in
+          let there = position-Some leads cs place k.node first in
+          ap (λ (n : ℕ). leads_in (slice_get cs n)) (sym here) ∙ ap leads_in (slice_get-get_or cs place k.node there.0)
+          ∙ (and_parts (get_or cs place k.node).up (get_or cs place k.node).controller.leads there.1).1
+
+      by_place : (o : Option ℕ) → position leads cs ≡ o → then_at (either o (position stands cs)) ≡ Some c → leads_in (slice_get cs c.0) ≡ true
+      by_place None none e = absurd (none_leads none)
+      by_place (Some place) first e = by_test place first (nat_le place LAST_NUMBER) e

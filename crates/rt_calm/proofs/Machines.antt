@@ -143,7 +143,7 @@ put_turned ms place m n one at =
     new : SegmentMachine
     new = with_machine m n
 
-at_segment : (ms ns : List SegmentMachine) (p o : Partition) (q s : Sequence) (m n : Option Completion) → p ≡ o → q ≡ s → IsTurned ms ns p q m n
+pub at_segment : (ms ns : List SegmentMachine) (p o : Partition) (q s : Sequence) (m n : Option Completion) → p ≡ o → q ≡ s → IsTurned ms ns p q m n
     → IsTurned ms ns o s m n
 at_segment ms ns p o q s m n e f k =
     subst (λ (y : Sequence). IsTurned ms ns o y m n) f (subst (λ (x : Partition). IsTurned ms ns x q m n) e k)

@@ -84,7 +84,7 @@ one_start setup past p q start w right within (v, has, of, opens) read =
     chain.once q.0 v w (record { has = has; is_of = of; starts = opens.0 }) (record { has = read.has; is_of = read.of; starts = read.consuming }) in
     ap (λ (z : Seen). start_by z.node) (sym same) ∙ opens.1
 
-request_beyond : (setup : Setup) (past : Past) (r : Request) → IsPast setup past → IsRequest setup past r → (w : Seen) (what : Ask)
+pub request_beyond : (setup : Setup) (past : Past) (r : Request) → IsPast setup past → IsRequest setup past r → (w : Seen) (what : Ask)
     → IsRead past.history r.partition r.sequence w → ask_in r.offset r.kind ≡ Some what → IsBeyond w.node (asked_offset what)
 request_beyond setup past r right k w what read = by_kind r.kind k.kind
   where

@@ -86,7 +86,7 @@ count_none p key.Ideal = refl
 count_none p (key.Boot i) = refl
 
 -- a write of a segment's node leaves the entries
-meta_entries : (h : List Seen) (w : Seen) (k : Key) → w.key ≡ k → (k ≡ key.Ideal → ⊥) → entries_of (h ++ w ∷ []) ≡ entries_of h
+pub meta_entries : (h : List Seen) (w : Seen) (k : Key) → w.key ≡ k → (k ≡ key.Ideal → ⊥) → entries_of (h ++ w ∷ []) ≡ entries_of h
 meta_entries h w k of other = ap entries_in (last_write-other h w key.Ideal (λ e. other (sym of ∙ e)))
 
 -- a set that found another version wrote nothing

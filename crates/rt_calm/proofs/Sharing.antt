@@ -43,7 +43,7 @@ stray_less m n j (phase.Retained kept) more = omega arith
 stray_less m n j (phase.Committed kept) more = omega arith
 stray_less m n j (phase.Discarded d) more = omega arith
 
-same_segment : (p : Partition) (q : Sequence) (s : Segment) → s.0.0 ≡ p.0 → s.1.0 ≡ q.0 → s ≡ (p, q)
+pub same_segment : (p : Partition) (q : Sequence) (s : Segment) → s.0.0 ≡ p.0 → s.1.0 ≡ q.0 → s ≡ (p, q)
 same_segment p q (o, r) e f =
     ap (λ (x : Partition). (x, r)) (same_partition o p e) ∙ ap (λ (x : Sequence). (p, x)) (same_sequence r q f)
 
