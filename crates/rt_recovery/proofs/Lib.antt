@@ -1,6 +1,12 @@
 pub mod Committing
+pub mod Entries
+pub mod Full
 pub mod Handling
+pub mod Putting
 pub mod Reacting
 pub mod Recovering
 pub mod Same
 pub mod Settled
+pub mod Starting
+pub mod Still
+pub mod Taking

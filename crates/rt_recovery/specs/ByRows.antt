@@ -49,7 +49,7 @@ pub record IsOpen (w : State) (s : Segment) : Type 0 where
   pub there : value_of w.store.writes (key.Meta s.0 s.1) ≡ Some write
   pub meta : SegMeta
   pub is : write.node ≡ node.Meta meta
-  pub open : meta.status ≡ InProgress
+  pub in_progress : meta.status ≡ InProgress
 
 -- an instance is to consume a segment
 abbrev pub IsToConsume : State → ℕ → Segment → Type 0
