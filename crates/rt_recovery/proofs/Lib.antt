@@ -1,12 +1,15 @@
 pub mod Committing
 pub mod Entries
+pub mod Forgetting
 pub mod Full
 pub mod Handling
 pub mod Putting
 pub mod Reacting
 pub mod Recovering
+pub mod Restarting
 pub mod Same
 pub mod Settled
 pub mod Starting
 pub mod Still
 pub mod Taking
+pub mod Turns

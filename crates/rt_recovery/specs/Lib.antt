@@ -1,3 +1,4 @@
 pub mod ByRows
 pub mod Fresh
+pub mod Restarting
 pub mod Same

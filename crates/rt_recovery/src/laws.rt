@@ -4,11 +4,12 @@ ghost use Rattle.rt_macros.specs.Doing.{Reached};
 ghost use Rattle.rt_macros.specs.Settling.{Settles};
 ghost use Rattle.rt_model.specs.Setup.{IsSetup};
 ghost use Rattle.rt_model.specs.declared.setup.Setup.{Setup};
-ghost use Rattle.rt_safety.specs.Runs.{Runs, Turn};
+ghost use Rattle.rt_safety.specs.Runs.{Leads, Runs, Turn};
 ghost use Rattle.rt_state.specs.declared.state.State.{State};
 ghost use Rattle.rt_calm.specs.Again.{IsLeading};
 ghost use Rattle.rt_calm.specs.Spent.{rounds_in_all};
 ghost use Rattle.rt_recovery.specs.Fresh.{IsFresh};
+ghost use Rattle.rt_recovery.specs.Restarting.{IsStartedAnew, StartsAnew};
 
 /// From any world of a run on that was started anew, `settle` answers `settled` as soon as it has more rounds than `rounds_in_all`. Every
 /// server is up without a replica and no controller has a machine, one that is up believes that it leads, no fault of a store is planned,
@@ -19,4 +20,13 @@ pub fn settle_ends_after_a_fresh_start()
     ensures { (setup : Setup) (turns : List Turn) (paused : Bool) (rounds : ℕ) (w : State) (u : Reached) (settled : Bool) → IsSetup setup
         → Runs setup turns w → IsFresh w → w.store.faults.plan ≡ [] → w.deep.faults.plan ≡ [] → IsLeading w → 1 ≤ setup.table.millis
         → rounds_in_all w.setup w.log w.store.writes < rounds → Settles paused rounds w u (Ok settled) → settled ≡ true }
+{}
+
+/// What comes of a script that has each node crash, where it is up, and restart, and then the first controller lead: the cluster is
+/// started anew, if no fault of the store is planned. All that was produced, put and written is there still but for the incarnations of the
+/// servers, and no time has passed.
+pub fn what_is_started_anew_is_fresh()
+    ensures { (setup : Setup) (turns : List Turn) (w : State) (v : Reached) → IsSetup setup → Runs setup turns w
+        → w.store.faults.plan ≡ [] → StartsAnew w v (Ok tt)
+        → IsStartedAnew w v.world × ((more : List Turn) × Leads w more v.world) }
 {}

@@ -3,4 +3,4 @@
 
 mod laws;
 
-pub use laws::settle_ends_after_a_fresh_start;
+pub use laws::{settle_ends_after_a_fresh_start, what_is_started_anew_is_fresh};
