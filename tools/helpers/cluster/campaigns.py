@@ -41,8 +41,6 @@ class Outcome:
     wrong: str | None = None
     restless: str | None = None
     kept: str | None = None
-    # The turns that it took to heal.
-    turns: int | None = None
 
 
 def run(program, script):
@@ -84,9 +82,8 @@ def keep(trial, schedule, seed):
 def outcome_of(trial, seed):
     """Makes and runs the schedule of a seed."""
     schedule = schedules.Schedule(seed, trial.settings(seed)).run()
-    turns = healing.heal(schedule) if trial.heals else None
-    restless = peace.settle(schedule) if trial.settles else "unhealed" if trial.heals and turns is None else None
-    found = Outcome(seed, schedule.mood, len(schedule.lines), schedule.world.cells, restless=restless, turns=turns)
+    restless = peace.settle(schedule) if trial.settles else "unhealed" if trial.heals and not healing.heal(schedule) else None
+    found = Outcome(seed, schedule.mood, len(schedule.lines), schedule.world.cells, restless=restless)
     if trial.program is not None:
         found.wrong = difference(trial.program, schedule.header, schedule.lines, schedule.report)
     if found.wrong:
@@ -137,13 +134,11 @@ class Sum:
 
     def __init__(self, seed):
         self.next, self.count, self.lines, self.seconds = seed, 0, 0, 0.0
-        self.cells, self.differ, self.restless, self.turns = collections.Counter(), [], [], collections.Counter()
+        self.cells, self.differ, self.restless = collections.Counter(), [], []
 
     def add(self, outcome):
         self.next, self.count, self.lines = outcome.seed + 1, self.count + 1, self.lines + outcome.lines
         self.cells += outcome.cells
-        if outcome.turns:
-            self.turns[str(outcome.turns)] += 1
         if outcome.wrong:
             self.differ.append(outcome.seed)
         if outcome.restless:
@@ -171,7 +166,6 @@ class Sum:
         found = Sum(told["next"])
         found.count, found.lines, found.seconds, found.differ, found.restless = (told[key] for key in ("count", "lines", "seconds", "differ", "restless"))
         found.cells = collections.Counter({tuple(cell[:-1]): cell[-1] for cell in told["cells"]})
-        found.turns = collections.Counter(told["turns"])
         return found
 
 

@@ -1,44 +1,44 @@
-"""The lines that heal a cluster: its nodes come up, one controller leads, and rounds go on until it rests and a query misses nothing."""
+"""The lines that heal a cluster: every node starts anew, one controller leads, and once each partition is mended one `settle` brings it to rest."""
 import answers
-import completion
 import peace
 
-# A turn has more rounds than a segment's commit takes; a script that needs more turns has found something.
-TURNS, ROUNDS = 60, 100
-# No deadline and no hold lasts longer than this.
-LONGEST = completion.LONGEST + 1
+# A repair that writes begins the grace of its segment anew, and at most three write.
+MENDINGS, ROUNDS = 4, 1_000_000
 
 
 def heal(schedule):
-    """Adds these lines. The number of turns that it took, or none where so many didn't do."""
-    lead_alone(schedule)
-    for turn in range(1, TURNS + 1):
-        schedule.add(f"tick {max(schedule.world.setup.grace, LONGEST)}")
-        peace.finish_jobs(schedule)
+    """Adds these lines. Whether the cluster rests then, and each partition is served from its mark to its end."""
+    start_anew(schedule)
+    for _ in range(MENDINGS):
+        schedule.add(f"tick {max(schedule.world.setup.grace, 1)}")
         for partition in range(schedule.world.setup.partitions):
             mend(schedule, partition)
-        schedule.add(f"settle {ROUNDS}")
-        if schedule.report[-1] == "settled" and is_whole(schedule.world):
-            return turn
-    return None
+    schedule.add(f"settle {ROUNDS}")
+    return schedule.report[-1] == "settled" and is_whole(schedule.world)
 
 
-def lead_alone(schedule):
-    """All nodes come up, and no other controller than the first believes that it leads."""
+def start_anew(schedule):
+    """Every node crashes and comes up again, and the first controller alone believes that it leads."""
+    for name, nodes in (("s", schedule.world.servers), ("c", schedule.world.controllers)):
+        for node in nodes:
+            if node.up:
+                schedule.add(f"crash {name}{node.number}")
     peace.revive(schedule)
-    for controller in schedule.world.controllers[1:]:
-        if controller.leads:
-            schedule.add(f"lead c{controller.number} off")
 
 
 def mend(schedule, partition):
     """A repair that finds nothing to do, and a retirement that does, where there is one."""
-    peace.repair(schedule, partition)
+    until_nothing(schedule, f"repair c0 {partition}")
     if schedule.world.setup.retention is not None:
-        while True:
-            schedule.add(f"retain c0 {partition}")
-            if schedule.report[-1].endswith((" nothing", " failed")):
-                return
+        until_nothing(schedule, f"retain c0 {partition}")
+
+
+def until_nothing(schedule, line):
+    """Adds a line as often as there is anything to do, or a planned fault is met."""
+    while True:
+        schedule.add(line)
+        if schedule.report[-1].endswith(" nothing"):
+            return
 
 
 def is_whole(world):
