@@ -54,7 +54,7 @@ pub settling_in_run : (setup : Setup) (turns : List Turn) (w : State) → IsSetu
 settling_in_run setup turns w is run steady fetches = record { steady = steady; fetches = fetches; consumable = λ e has mode. consumable setup turns w e is run has mode }
 
 -- a replica that isn't told of a commit yet has a target, where no transition is due of it, and is to consume
-open_consumes : (o : Option Mode) (r : Consumer) → is_open (state_of r.phase) ≡ true → is_due o (Some (Replica r)) ≡ false → o ≡ Some Consuming
+pub open_consumes : (o : Option Mode) (r : Consumer) → is_open (state_of r.phase) ≡ true → is_due o (Some (Replica r)) ≡ false → o ≡ Some Consuming
 open_consumes None r opened none = absurd (true≢false none)
 open_consumes (Some Consuming) r opened none = refl
 open_consumes (Some Online) r opened none = absurd (true≢false (sym opened ∙ none))
