@@ -183,24 +183,30 @@ replica_in ((k, Committed c) ∷ xs) s ph (inl same) =
 replica_in (x ∷ xs) s ph (inr has) =
     let y = replica_in xs s ph has in record { replica = y.replica; has = inr y.has; stands = y.stands }
 
-pub same_committer : (w v : State) (i : ℕ) (s : Segment) → IsSame w v → IsCommitter w i s → IsCommitter v i s
-same_committer w v i s same c =
+-- with the same rows
+pub same_rows : (w v : State) (i : ℕ) (s : Segment) → IsSame w v → (c : IsCommitter w i s) → (d : IsCommitter v i s) × (d.rows ≡ c.rows)
+same_rows w v i s same c =
     let at = phases_at w.servers i c.node c.there in
     let x = server_with v.servers i (phases_in c.node.server.table.entries) (ap (λ rows. slice_get rows i) same.phases ∙ at) in
     let was : Has (phases_in c.node.server.table.entries) (s, Some (phase.Unsealed c.rows)) =
     subst (λ (ph : Phase). Has (phases_in c.node.server.table.entries) (s, Some ph)) c.unsealed
     (phase_has c.node.server.table.entries s (Replica c.replica) c.has) in
     let y = replica_in x.node.server.table.entries s (phase.Unsealed c.rows)
-    (subst (λ (row : List (Segment × Option Phase)). Has row (s, Some (phase.Unsealed c.rows))) (sym x.is) was) in
-    record {
-      node = x.node;
-      there = x.there;
-      replica = y.replica;
-      has = y.has;
-      rows = c.rows;
-      unsealed = y.stands;
-      awaited = ap (λ (m : Option Completion). awaits m i c.rows.stage c.rows.rows.end) (same.machines s) ∙ c.awaited;
-    }
+    (subst (λ (row : List (Segment × Option Phase)). Has row (s, Some (phase.Unsealed c.rows))) (sym x.is) was) in (
+      record {
+        node = x.node;
+        there = x.there;
+        replica = y.replica;
+        has = y.has;
+        rows = c.rows;
+        unsealed = y.stands;
+        awaited = ap (λ (m : Option Completion). awaits m i c.rows.stage c.rows.rows.end) (same.machines s) ∙ c.awaited;
+      },
+      refl,
+    )
+
+pub same_committer : (w v : State) (i : ℕ) (s : Segment) → IsSame w v → IsCommitter w i s → IsCommitter v i s
+same_committer w v i s same c = (same_rows w v i s same c).0
 
 -- ---- a replica that is put back in its phase
 
