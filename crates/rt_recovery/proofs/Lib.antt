@@ -13,3 +13,4 @@ pub mod Starting
 pub mod Still
 pub mod Taking
 pub mod Turns
+pub mod Walking
