@@ -226,24 +226,34 @@ from_goes act f first (suc count) busy w v told k h =
 -- ---- an event
 
 -- a step that writes nothing, and leaves less ahead, and no more that may lie ahead again
-abbrev StepGoes : State → State → Type 0
+abbrev pub StepGoes : State → State → Type 0
 StepGoes w y = KeepsOn w y × (ahead_in_world y < ahead_in_world w) × (y.store.writes ≡ w.store.writes) × (ahead_still y < ahead_still w)
 
-attempt_goes : (e : Event) (busy : Bool) (w : State) (v : Reached) (told : Bool) → IsGoing w
-    → ((y : State) (o : Outcome) → Steps w e y (Ok o) → StepGoes w y) → Attempted e busy w v (Ok told) → HasGone w busy v told
-attempt_goes e busy w v told k step t = by_way (attempt_does e busy w v told t)
+-- nothing happened, or such a step
+abbrev pub MayStep : State → Bool → State → Bool → Type 0
+MayStep w busy v told = ((v ≡ w) × (told ≡ busy)) ⊎ StepGoes w v
+
+no_step : (w : State) (busy : Bool) (v : Reached) (told : Bool) → v ≡ stays w → told ≡ busy → MayStep w busy v.world told
+no_step w busy v told same e = inl (ap (λ (x : Reached). x.world) same, e)
+
+attempt_steps : (e : Event) (busy : Bool) (w : State) (v : Reached) (told : Bool) → ((y : State) (o : Outcome) → Steps w e y (Ok o) → StepGoes w y)
+    → Attempted e busy w v (Ok told) → MayStep w busy v.world told
+attempt_steps e busy w v told step t = by_way (attempt_does e busy w v told t)
   where
-    by_way : ((v.world ≡ w) × (told ≡ busy)) ⊎ ((o : Outcome) × Steps w e v.world (Ok o)) → HasGone w busy v told
-    by_way (inl same) = nothing_went w busy v told k same.0 same.1
-    by_way (inr (o, steps)) =
-        let x = step v.world o steps in
-        record {
-          on = x.0;
-          less = inr (lessens_by ahead_in_world w busy v.world told x.1);
-          wrote = inl x.2;
-          spends = inl x.2;
-          still = λ s same. inr (lessens_by ahead_still w busy v.world told x.3);
-        }
+    by_way : ((v.world ≡ w) × (told ≡ busy)) ⊎ ((o : Outcome) × Steps w e v.world (Ok o)) → MayStep w busy v.world told
+    by_way (inl same) = inl same
+    by_way (inr (o, steps)) = inr (step v.world o steps)
+
+may_go : (w : State) (busy : Bool) (v : Reached) (told : Bool) → IsGoing w → MayStep w busy v.world told → HasGone w busy v told
+may_go w busy v told k (inl same) = nothing_went w busy v told k same.0 same.1
+may_go w busy v told k (inr x) =
+    record {
+      on = x.0;
+      less = inr (lessens_by ahead_in_world w busy v.world told x.1);
+      wrote = inl x.2;
+      spends = inl x.2;
+      still = λ s same. inr (lessens_by ahead_still w busy v.world told x.3);
+    }
 
 -- a replica that is put back with less ahead of it, and no more that may lie ahead again
 module _ (w y : State) (k : IsGoing w) (i : Instance) (p : Partition) (q : Sequence) (n new : ServerNode) (r next : Consumer)
@@ -296,15 +306,16 @@ build_deep w y i p q o (cost, due, h) = by_node (slice_get w.servers i.0) h
     by_node None h = absurd h
     by_node (Some n) (new, step, is) = ap (λ (x : State). x.deep) is
 
-consume_goes : (paused : Bool) (i : Instance) (s : SegmentAt) → Goes (ConsumeTurn paused i s)
-consume_goes paused i s busy w v told k h = by_test (may_consume paused w i s) refl h
+pub consume_steps : (paused : Bool) (i : Instance) (s : SegmentAt) (busy : Bool) (w : State) (v : Reached) (told : Bool) → IsGoing w
+    → ConsumeTurn paused i s busy w v (Ok told) → MayStep w busy v.world told
+consume_steps paused i s busy w v told k h = by_test (may_consume paused w i s) refl h
   where
     by_test : (b : Bool) → may_consume paused w i s ≡ b → Choose b (Attempted (Consume i s.0 s.1 BATCH) busy w) (Gives busy w) v (Ok told)
-        → HasGone w busy v told
-    by_test false e g = rests w busy v told k g.0 (told_same told busy g.1)
+        → MayStep w busy v.world told
+    by_test false e g = no_step w busy v told g.0 (told_same told busy g.1)
     by_test true e t =
         let ready = (and_parts (is_ready_at w i s.0 s.1) (not (waits_in w paused i s.0 s.1)) e).0 in
-        attempt_goes (Consume i s.0 s.1 BATCH) busy w v told k
+        attempt_steps (Consume i s.0 s.1 BATCH) busy w v told
         (λ y o step.
         let m = consumes_made w y i s.0 s.1 o k.safe (can_follow w k) BATCH (omega arith) ready step in
         let l = consumes_less w y i s.0 s.1 o k.safe (can_follow w k) BATCH (omega arith) ready step in
@@ -318,9 +329,13 @@ consume_goes paused i s busy w v told k h = by_test (may_consume paused w i s) r
               (λ c. omega (arith, batch_stray c i.0 m.replica m.next BATCH w.moment w.log m.made.0)),
         )) t
 
-build_turn_goes : (i : Instance) (s : SegmentAt) → Goes (BuildTurn i s)
-build_turn_goes i s busy w v told k t =
-    attempt_goes (Build i s.0 s.1) busy w v told k
+consume_goes : (paused : Bool) (i : Instance) (s : SegmentAt) → Goes (ConsumeTurn paused i s)
+consume_goes paused i s busy w v told k h = may_go w busy v told k (consume_steps paused i s busy w v told k h)
+
+pub build_steps : (i : Instance) (s : SegmentAt) (busy : Bool) (w : State) (v : Reached) (told : Bool) → IsGoing w → BuildTurn i s busy w v (Ok told)
+    → MayStep w busy v.world told
+build_steps i s busy w v told k t =
+    attempt_steps (Build i s.0 s.1) busy w v told
     (λ y o step.
     let m = builds_made w y i s.0 s.1 o k.safe (can_follow w k) step in
     let l = builds_less w y i s.0 s.1 o k.safe (can_follow w k) step in
@@ -333,6 +348,9 @@ build_turn_goes i s busy w v told k t =
       still_put w y k i s.0 s.1 m.node m.new m.replica m.next put m.controllers (ap (λ (t : Told). t.writes) l.store) less
           (λ c. build_stray c i.0 m.replica m.next m.made),
     )) t
+
+build_turn_goes : (i : Instance) (s : SegmentAt) → Goes (BuildTurn i s)
+build_turn_goes i s busy w v told k t = may_go w busy v told k (build_steps i s busy w v told k t)
 
 -- ---- an exchange
 

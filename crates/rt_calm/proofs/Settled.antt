@@ -41,7 +41,7 @@ use Rattle.rt_calm.specs.Ahead.{ahead_in_world, most_ahead, most_ahead_of}
 use Rattle.rt_calm.specs.Off.{IsHeld, IsPutOff, IsTurnedAway, PutsOff, Waits}
 use Rattle.rt_calm.specs.Spent.{most_yet, rounds_in_all, rounds_yet, writes_left, Spends}
 use Rattle.rt_calm.proofs.Exchanged.{told_behind, told_first, waits_behind, waits_first}
-use Rattle.rt_calm.proofs.Keeping.{leads_then}
+use Rattle.rt_calm.proofs.Keeping.{leads_then, IsGoing}
 use Rattle.rt_calm.proofs.Leading.{leads_still}
 use Rattle.rt_calm.proofs.Rounds.{calm_ahead, replicas_go, rested_ahead, rested_still, spends_then, HasGone, Lessens}
 use Rattle.rt_calm.proofs.Serving.{servers_serve, HasServed}
@@ -59,75 +59,88 @@ yet_of w = most_yet w.setup w.log w.store.writes
 
 module _ (setup : Setup) (is : IsSetup setup) where
   -- a world of a run, in which all servers are up and no fault is planned
-  record IsReady (w : State) : Type 0 where
-    turns : List Turn
-    run : Runs setup turns w
-    up : AreUp w
-    unplanned : w.store.faults.plan ≡ []
-    fetches : w.deep.faults.plan ≡ []
+  pub record IsReady (w : State) : Type 0 where
+    pub turns : List Turn
+    pub run : Runs setup turns w
+    pub up : AreUp w
+    pub unplanned : w.store.faults.plan ≡ []
+    pub fetches : w.deep.faults.plan ≡ []
 
   -- a round leaves such a world, in which fewer writes are left, or nothing was written and all servers are calm; and then less of what
   -- is counted
-  record HasTurned (count : State → ℕ) (w v : State) (told : Bool) : Type 0 where
-    ready : IsReady v
-    same : v.setup ≡ w.setup
-    log : v.log ≡ w.log
-    leading : IsLeading w → IsLeading v
-    spends : Spends w.setup w.log w.store.writes v.store.writes
-    steady : v.store.writes ≡ w.store.writes → IsSteady v
-    less : v.store.writes ≡ w.store.writes → IsSteady w → told ≡ true → count v < count w
+  pub record HasTurned (count : State → ℕ) (w v : State) (told : Bool) : Type 0 where
+    pub ready : IsReady v
+    pub same : v.setup ≡ w.setup
+    pub log : v.log ≡ w.log
+    pub leading : IsLeading w → IsLeading v
+    pub spends : Spends w.setup w.log w.store.writes v.store.writes
+    pub steady : v.store.writes ≡ w.store.writes → IsSteady v
+    pub less : v.store.writes ≡ w.store.writes → IsSteady w → told ≡ true → count v < count w
 
   -- ---- a round
 
   module _ (paused : Bool) (w : State) (v : Reached) (told : Bool) (k : IsReady w) (h : Round paused w v (Ok told)) where
-    abbrev t : IsThen (ServersTurn false) (ReplicasOfAll paused) w v told
-    t = then_parts (ServersTurn false) (ReplicasOfAll paused) w v told h
+    -- the servers' part, and the replicas'
+    abbrev pub parts : IsThen (ServersTurn false) (ReplicasOfAll paused) w v told
+    parts = then_parts (ServersTurn false) (ReplicasOfAll paused) w v told h
 
-    abbrev m : State
-    m = t.between.world
+    abbrev pub middle : State
+    middle = parts.between.world
 
     safe : IsSafeWorld w
     safe = runs_are_safe setup k.turns w is k.run
 
-    c : HasCalmed w m
-    c = servers_calmed setup k.turns w t.between t.told is k.run k.up k.unplanned k.fetches t.came
+    pub calmed : HasCalmed w middle
+    calmed = servers_calmed setup k.turns w parts.between parts.told is k.run k.up k.unplanned k.fetches parts.came
 
-    served : HasServed w m
-    served = servers_serve w t.between t.told safe t.came
+    pub served : HasServed w middle
+    served = servers_serve w parts.between parts.told safe parts.came
 
-    gone : HasGone m t.told t.last told
-    gone = replicas_go paused t.told m t.last told (record { safe = c.steady.safe; told = c.right }) t.further
+    pub going : IsGoing middle
+    going = record { safe = calmed.steady.safe; told = calmed.right }
 
-    rested : IsSteady w → HasRested w false m t.told
-    rested steady = servers_rest 0 w.setup.servers false w t.between t.told steady t.came
+    pub settling : IsSettling middle
+    settling =
+        record {
+          steady = calmed.steady;
+          fetches = served.fetches k.fetches;
+          consumable = subst AreConsumable (sym calmed.written) (λ e has mode. consumable setup k.turns w e is k.run has mode);
+        }
 
-    counts_less : (count : State → ℕ) → (HasRested w false m t.told → count m ≡ count w) → Lessens count m t.told t.last.world told → IsSteady w → told ≡ true
-        → count t.last.world < count w
+    gone : HasGone middle parts.told parts.last told
+    gone = replicas_go paused parts.told middle parts.last told going parts.further
+
+    pub rested : IsSteady w → HasRested w false middle parts.told
+    rested steady = servers_rest 0 w.setup.servers false w parts.between parts.told steady parts.came
+
+    counts_less : (count : State → ℕ) → (HasRested w false middle parts.told → count middle ≡ count w)
+        → Lessens count middle parts.told parts.last.world told → IsSteady w → told ≡ true → count parts.last.world < count w
     counts_less count still less steady busy = by_less (less.1 busy)
       where
-        by_less : (t.told ≡ true) ⊎ (count t.last.world < count m) → count t.last.world < count w
+        by_less : (parts.told ≡ true) ⊎ (count parts.last.world < count middle) → count parts.last.world < count w
         by_less (inl moved) = absurd (false≢true (sym (rested steady).idle ∙ moved))
         by_less (inr lt) = omega (arith, lt, still (rested steady))
 
-    turned : (count : State → ℕ) → (t.last.world.store.writes ≡ w.store.writes → IsSteady w → told ≡ true → count t.last.world < count w)
+    pub turned : (count : State → ℕ)
+        → (parts.last.world.store.writes ≡ w.store.writes → IsSteady w → told ≡ true → count parts.last.world < count w)
         → HasTurned count w v.world told
     turned count less =
-        subst (λ (y : State). HasTurned count w y told) (sym (ap (λ (y : Reached). y.world) t.whole))
+        subst (λ (y : State). HasTurned count w y told) (sym (ap (λ (y : Reached). y.world) parts.whole))
         (record {
           ready = record {
             turns = k.turns ++ (served.led.0 ++ gone.on.led.0);
             run =
-                leads_then (start setup) w t.last.world k.turns (served.led.0 ++ gone.on.led.0) k.run
-                (leads_then w m t.last.world served.led.0 gone.on.led.0 served.led.1 gone.on.led.1);
-            up = gone.on.up c.steady.up;
-            unplanned = gone.on.unplanned c.steady.unplanned;
+                leads_then (start setup) w parts.last.world k.turns (served.led.0 ++ gone.on.led.0) k.run
+                (leads_then w middle parts.last.world served.led.0 gone.on.led.0 served.led.1 gone.on.led.1);
+            up = gone.on.up calmed.steady.up;
+            unplanned = gone.on.unplanned calmed.steady.unplanned;
             fetches = gone.on.fetches (served.fetches k.fetches);
           };
           same = gone.on.setup ∙ served.setup;
-          log = gone.on.log ∙ c.log;
-          leading = λ leads. gone.on.leads.leading ((leads_still w m c.controllers).leading leads);
-          spends = spends_then w m t.last.world served.setup c.log (inl c.written) gone.spends;
-          steady = λ same. gone.on.steady (same ∙ sym c.written) c.steady;
+          log = gone.on.log ∙ calmed.log;
+          leading = λ leads. gone.on.leads.leading ((leads_still w middle calmed.controllers).leading leads);
+          spends = spends_then w middle parts.last.world served.setup calmed.log (inl calmed.written) gone.spends;
+          steady = λ same. gone.on.steady (same ∙ sym calmed.written) calmed.steady;
           less = less;
         })
 
@@ -135,41 +148,35 @@ module _ (setup : Setup) (is : IsSetup setup) where
     off_or_turned : PutsOff v ⊎ HasTurned ahead_in_world w v.world told
     off_or_turned = by_less gone.less
       where
-        by_less : PutsOff t.last ⊎ Lessens ahead_in_world m t.told t.last.world told → PutsOff v ⊎ HasTurned ahead_in_world w v.world told
-        by_less (inl off) = inl (told_behind IsPutOff t.between t.last v t.whole off)
+        by_less : PutsOff parts.last ⊎ Lessens ahead_in_world middle parts.told parts.last.world told → PutsOff v ⊎ HasTurned ahead_in_world w v.world told
+        by_less (inl off) = inl (told_behind IsPutOff parts.between parts.last v parts.whole off)
         by_less (inr less) =
-            inr (turned ahead_in_world (λ same steady busy. counts_less ahead_in_world (λ x. rested_ahead w false m t.told x) less steady busy))
+            inr (turned ahead_in_world (λ same steady busy. counts_less ahead_in_world (λ x. rested_ahead w false middle parts.told x) less steady busy))
 
     -- one is told HOLD or NOT_LEADER, or less lies ahead and may lie ahead again
     waits_or_turned : Waits w v ⊎ HasTurned ahead_still w v.world told
     waits_or_turned = by_spends gone.spends
       where
-        settling : IsSettling m
-        settling =
-            record {
-              steady = c.steady;
-              fetches = served.fetches k.fetches;
-              consumable = subst AreConsumable (sym c.written) (λ e has mode. consumable setup k.turns w e is k.run has mode);
-            }
-
-        by_still : Waits m t.last ⊎ Lessens ahead_still m t.told t.last.world told → Waits w v ⊎ HasTurned ahead_still w v.world told
-        by_still (inl waits) = inl (waits_behind w m t.between t.last v (leads_still w m c.controllers).leading t.whole waits)
+        by_still : Waits middle parts.last ⊎ Lessens ahead_still middle parts.told parts.last.world told → Waits w v ⊎ HasTurned ahead_still w v.world told
+        by_still (inl waits) =
+            inl (waits_behind w middle parts.between parts.last v (leads_still w middle calmed.controllers).leading parts.whole waits)
         by_still (inr less) =
-            inr (turned ahead_still (λ same steady busy. counts_less ahead_still (λ x. rested_still w false m t.told x) less steady busy))
+            inr (turned ahead_still (λ same steady busy. counts_less ahead_still (λ x. rested_still w false middle parts.told x) less steady busy))
 
-        by_spends : Spends m.setup m.log m.store.writes t.last.world.store.writes → Waits w v ⊎ HasTurned ahead_still w v.world told
+        by_spends : Spends middle.setup middle.log middle.store.writes parts.last.world.store.writes → Waits w v ⊎ HasTurned ahead_still w v.world told
         by_spends (inl same) = by_still (gone.still settling same)
         by_spends (inr fewer) =
-            inr (turned ahead_still (λ same steady busy. absurd (omega (arith, fewer.0, ap (writes_left m.setup m.log) (same ∙ sym c.written)))))
+            inr (turned ahead_still (λ same steady busy. absurd (omega (arith, fewer.0, ap (writes_left middle.setup middle.log) (same ∙ sym calmed.written)))))
 
   -- ---- rounds
 
-  -- what ends them, or a round does so; and what is counted is at most so many times what can lie ahead
-  module _ (paused : Bool) (Off : State → Reached → Type 0) (count : State → ℕ) (weight : ℕ)
+  -- what ends them, what each hands on to the next, or a round does so; and what is counted is at most so many times what can lie ahead
+  module _ (paused : Bool) (Off : State → Reached → Type 0) (Keeps : State → Type 0) (count : State → ℕ) (weight : ℕ)
       (first : (w : State) (b l u : Reached) → u ≡ after b.turns l → Off w b → Off w u)
       (behind : (w m : State) (b l u : Reached) → (IsLeading w → IsLeading m) → u ≡ after b.turns l → Off m l → Off w u)
       (most : (w : State) → IsSteady w → count w ≤ weight * most_ahead w)
-      (turns : (w : State) (v : Reached) (told : Bool) → IsReady w → Round paused w v (Ok told) → Off w v ⊎ HasTurned count w v.world told) where
+      (turns : (w : State) (v : Reached) (told : Bool) → IsReady w → Keeps w → Round paused w v (Ok told)
+          → Off w v ⊎ (HasTurned count w v.world told × Keeps v.world)) where
     abbrev bound : State → ℕ
     bound w = weight * yet_of w
 
@@ -223,30 +230,30 @@ module _ (setup : Setup) (is : IsSetup setup) where
     abbrev OffOrSettled : State → Reached → Bool → Type 0
     OffOrSettled w u settled = Off w u ⊎ (settled ≡ true)
 
-    settles_on : (rounds : ℕ) (w : State) (u : Reached) (settled : Bool) → IsReady w → AreEnough rounds w → SettlesIn paused rounds w u (Ok settled)
-        → OffOrSettled w u settled
-    settles_on zero w u settled ready (inl few) h = absurd (omega (arith, few))
-    settles_on zero w u settled ready (inr (steady, few)) h = absurd (omega (arith, few))
-    settles_on (suc rounds) w u settled ready enough h =
-        by_told t.between t.last t.told t.came t.further t.whole (λ x l k e further. settles_on rounds x l settled k e further)
+    pub settles_on : (rounds : ℕ) (w : State) (u : Reached) (settled : Bool) → IsReady w → Keeps w → AreEnough rounds w
+        → SettlesIn paused rounds w u (Ok settled) → OffOrSettled w u settled
+    settles_on zero w u settled ready kept (inl few) h = absurd (omega (arith, few))
+    settles_on zero w u settled ready kept (inr (steady, few)) h = absurd (omega (arith, few))
+    settles_on (suc rounds) w u settled ready kept enough h =
+        by_told t.between t.last t.told t.came t.further t.whole (λ x l k also e further. settles_on rounds x l settled k also e further)
       where
         t : IsThen (Round paused) (AfterRound (SettlesIn paused rounds)) w u settled
         t = then_parts (Round paused) (AfterRound (SettlesIn paused rounds)) w u settled h
 
         by_told : (b l : Reached) (told : Bool) → Round paused w b (Ok told) → AfterRound (SettlesIn paused rounds) told b.world l (Ok settled)
             → u ≡ after b.turns l
-            → ((x : State) (y : Reached) → IsReady x → AreEnough rounds x → SettlesIn paused rounds x y (Ok settled) → OffOrSettled x y settled)
+            → ((x : State) (y : Reached) → IsReady x → Keeps x → AreEnough rounds x → SettlesIn paused rounds x y (Ok settled) → OffOrSettled x y settled)
             → OffOrSettled w u settled
         by_told b l false came further whole more = inr (told_same settled true further.1)
-        by_told b l true came further whole more = by_way (turns w b true ready came)
+        by_told b l true came further whole more = by_way (turns w b true ready kept came)
           where
             by_rest : (IsLeading w → IsLeading b.world) → OffOrSettled b.world l settled → OffOrSettled w u settled
             by_rest leading (inl off) = inl (behind w b.world b l u leading whole off)
             by_rest leading (inr quiet) = inr quiet
 
-            by_way : Off w b ⊎ HasTurned count w b.world true → OffOrSettled w u settled
+            by_way : Off w b ⊎ (HasTurned count w b.world true × Keeps b.world) → OffOrSettled w u settled
             by_way (inl off) = inl (first w b l u whole off)
-            by_way (inr x) = by_rest x.leading (more b.world l x.ready (enough_then rounds w b.world x enough) further)
+            by_way (inr (x, also)) = by_rest x.leading (more b.world l x.ready also (enough_then rounds w b.world x enough) further)
 
 -- ---- what may lie ahead again at most
 
@@ -281,7 +288,7 @@ asked_most : (log : Log) (es : List IdealEntry) → asked_sum (λ p. 12) es ≤ 
 asked_most log [] = omega arith
 asked_most log (e ∷ es) = omega (arith, asked_most log es)
 
-still_most : (w : State) → IsSteady w → ahead_still w ≤ 3 * most_ahead w
+pub still_most : (w : State) → IsSteady w → ahead_still w ≤ 3 * most_ahead w
 still_most w k =
     omega (
       arith,
@@ -293,13 +300,18 @@ still_most w k =
 
 -- ---- in a run
 
+-- where nothing more is handed on
+nothing_more : {A B : Type 0} → A ⊎ B → A ⊎ (B × Unit {0})
+nothing_more (inl off) = inl off
+nothing_more (inr turned) = inr (turned, tt)
+
 module _ (setup : Setup) (turns : List Turn) (paused : Bool) (rounds : ℕ) (w : State) (u : Reached) (settled : Bool) (is : IsSetup setup) (run : Runs setup turns w)
     (up : AreUp w) (unplanned : w.store.faults.plan ≡ []) (fetches : w.deep.faults.plan ≡ []) where
-  ready : IsReady setup is w
+  pub ready : IsReady setup is w
   ready = record { turns = turns; run = run; up = up; unplanned = unplanned; fetches = fetches }
 
   -- its rounds are those of `settle`
-  by_rounds : (P : Type 0) → (SettlesIn paused rounds w u (Ok settled) → P) → Settles paused rounds w u (Ok settled) → P
+  pub by_rounds : (P : Type 0) → (SettlesIn paused rounds w u (Ok settled) → P) → Settles paused rounds w u (Ok settled) → P
   by_rounds P f h = by_test ((rounds == 0) || nat_lt MOST_ROUNDS rounds) h
     where
       by_test : (b : Bool) → Choose b (Refuses NothingToDo w) (SettlesIn paused rounds w) u (Ok settled) → P
@@ -309,9 +321,9 @@ module _ (setup : Setup) (turns : List Turn) (paused : Bool) (rounds : ℕ) (w :
   pub settles_all : rounds_yet w.setup w.log w.store.writes < rounds → Settles paused rounds w u (Ok settled) → PutsOff u ⊎ (settled ≡ true)
   settles_all few h =
       by_rounds (PutsOff u ⊎ (settled ≡ true))
-      (λ g. settles_on setup is paused (λ w v. PutsOff v) ahead_in_world 1 (λ w b l u whole off. told_first IsPutOff b l u whole off)
+      (λ g. settles_on setup is paused (λ w v. PutsOff v) (λ w. Unit {0}) ahead_in_world 1 (λ w b l u whole off. told_first IsPutOff b l u whole off)
       (λ w m b l u leading whole off. told_behind IsPutOff b l u whole off) (λ w k. omega (arith, calm_ahead w k))
-      (λ w v told k h. off_or_turned setup is paused w v told k h) rounds w u settled ready (inl once) g) h
+      (λ w v told k also h. nothing_more (off_or_turned setup is paused w v told k h)) rounds w u settled ready tt (inl once) g) h
     where
       same : 1 * yet_of w ≡ yet_of w
       same = omega arith
@@ -322,8 +334,8 @@ module _ (setup : Setup) (turns : List Turn) (paused : Bool) (rounds : ℕ) (w :
   pub settles_unless_waiting : rounds_in_all w.setup w.log w.store.writes < rounds → Settles paused rounds w u (Ok settled) → Waits w u ⊎ (settled ≡ true)
   settles_unless_waiting few h =
       by_rounds (Waits w u ⊎ (settled ≡ true))
-      (λ g. settles_on setup is paused Waits ahead_still 3 waits_first waits_behind still_most
-      (λ w v told k h. waits_or_turned setup is paused w v told k h) rounds w u settled ready (inl few) g) h
+      (λ g. settles_on setup is paused Waits (λ w. Unit {0}) ahead_still 3 waits_first waits_behind still_most
+      (λ w v told k also h. nothing_more (waits_or_turned setup is paused w v told k h)) rounds w u settled ready tt (inl few) g) h
 
   pub settles_unless_told : rounds_in_all w.setup w.log w.store.writes < rounds → Settles paused rounds w u (Ok settled)
       → IsHeld u ⊎ IsTurnedAway u ⊎ (settled ≡ true)
