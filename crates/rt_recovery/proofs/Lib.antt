@@ -8,6 +8,7 @@ pub mod Reacting
 pub mod Recovering
 pub mod Restarting
 pub mod Same
+pub mod Serving
 pub mod Settled
 pub mod Starting
 pub mod Still
