@@ -1,5 +1,5 @@
 -- A cluster that was started anew: every server is up without a replica, and no controller has a machine.
-use Rattle.std.specs.Prelude.{◌≡◌, ℕ, true, List, [], Some, slice_get}
+use Rattle.std.specs.Prelude.{◌≡◌, ℕ, true, [], Some, slice_get}
 use Rattle.rt_nodes.specs.declared.controller_node.ControllerNode.{ControllerNode}
 use Rattle.rt_nodes.specs.declared.server_node.ServerNode.{ServerNode}
 use Rattle.rt_state.specs.declared.state.State.{State}
