@@ -142,7 +142,7 @@ came_sent m request = came.Sent m request
 same_sent : (m n : ℕ) (q r : Request) → came_sent m q ≡ came_sent n r → q ≡ r
 same_sent m n q r e = cc
 
-has_asked : (w u : State) (i : Instance) (p : Partition) (q : Sequence) (request : Request) → Steps w (event.Report i p q) u (Ok (came.Sent (length w.sent) request))
+pub has_asked : (w u : State) (i : Instance) (p : Partition) (q : Sequence) (request : Request) → Steps w (event.Report i p q) u (Ok (came.Sent (length w.sent) request))
     → HasAsked w u i p q request
 has_asked w u i p q request (cost, due, h) = by_server (slice_get w.servers i.0) refl h
   where

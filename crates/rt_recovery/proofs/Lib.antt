@@ -1,8 +1,11 @@
 pub mod Committing
+pub mod Delivering
 pub mod Entries
+pub mod Exchanging
 pub mod Forgetting
 pub mod Full
 pub mod Handling
+pub mod Opening
 pub mod Putting
 pub mod Reacting
 pub mod Recovering
@@ -13,5 +16,6 @@ pub mod Settled
 pub mod Starting
 pub mod Still
 pub mod Taking
+pub mod Turning
 pub mod Turns
 pub mod Walking
