@@ -1,9 +1,12 @@
 pub mod Committing
+pub mod Continued
+pub mod Continuing
 pub mod Delivering
 pub mod Entries
 pub mod Exchanging
 pub mod Forgetting
 pub mod Full
+pub mod GoingOn
 pub mod Handling
 pub mod Opening
 pub mod Putting
@@ -19,3 +22,4 @@ pub mod Taking
 pub mod Turning
 pub mod Turns
 pub mod Walking
+pub mod Whole

@@ -1,4 +1,5 @@
 pub mod ByRows
 pub mod Fresh
+pub mod GoingOn
 pub mod Restarting
 pub mod Same
