@@ -181,9 +181,13 @@ module _ (setup : Setup) (is : IsSetup setup) where
     bound w = weight * yet_of w
 
     -- so many rounds are enough: for all writes that are left and all that can lie ahead, or in a steady world for what does
-    abbrev AreEnough : ℕ → State → Type 0
+    abbrev pub AreEnough : ℕ → State → Type 0
     AreEnough rounds w =
         (left_of w * (bound w + 2) + (bound w + 1) < rounds) ⊎ (IsSteady w × (left_of w * (bound w + 2) + count w < rounds))
+
+    pub as_many : (some others : ℕ) (w : State) → some ≤ others → AreEnough some w → AreEnough others w
+    as_many some others w fits (inl few) = inl (omega (arith, few, fits))
+    as_many some others w fits (inr (steady, few)) = inr (steady, omega (arith, few, fits))
 
     enough_then : (rounds : ℕ) (w b : State) → HasTurned count w b true → AreEnough (suc rounds) w → AreEnough rounds b
     enough_then rounds w b x enough = by_spends x.spends
@@ -226,34 +230,60 @@ module _ (setup : Setup) (is : IsSetup setup) where
         by_spends (inr less) =
             fewer (omega (arith, less.0, left)) (mul-le weight (yet_of b) weight (yet_of w) (omega arith) (omega (arith, less.1, yet))) enough
 
-    -- a replica is put off so, or it has settled
-    abbrev OffOrSettled : State → Reached → Bool → Type 0
-    OffOrSettled w u settled = Off w u ⊎ (settled ≡ true)
+    -- a replica is put off so, or it has settled, or so many rounds more are enough
+    abbrev pub EndsOrGoesOn : ℕ → State → Reached → Bool → Type 0
+    EndsOrGoesOn more w u settled = Off w u ⊎ (settled ≡ true) ⊎ (IsReady u.world × Keeps u.world × AreEnough more u.world)
 
-    pub settles_on : (rounds : ℕ) (w : State) (u : Reached) (settled : Bool) → IsReady w → Keeps w → AreEnough rounds w
-        → SettlesIn paused rounds w u (Ok settled) → OffOrSettled w u settled
-    settles_on zero w u settled ready kept (inl few) h = absurd (omega (arith, few))
-    settles_on zero w u settled ready kept (inr (steady, few)) h = absurd (omega (arith, few))
-    settles_on (suc rounds) w u settled ready kept enough h =
-        by_told t.between t.last t.told t.came t.further t.whole (λ x l k also e further. settles_on rounds x l settled k also e further)
+    pub settles_further : (rounds more : ℕ) (w : State) (u : Reached) (settled : Bool) → IsReady w → Keeps w → AreEnough (rounds + more) w
+        → SettlesIn paused rounds w u (Ok settled) → EndsOrGoesOn more w u settled
+    settles_further zero more w u settled ready kept enough h =
+        let same : u.world ≡ w = ap (λ (x : Reached). x.world) h.0 in
+        inr (inr (subst IsReady (sym same) ready, subst Keeps (sym same) kept, subst (AreEnough more) (sym same) (as_many (zero + more) more w (omega arith) enough)))
+    settles_further (suc rounds) more w u settled ready kept enough h =
+        by_told t.between t.last t.told t.came t.further t.whole (λ x l k also e further. settles_further rounds more x l settled k also e further)
       where
         t : IsThen (Round paused) (AfterRound (SettlesIn paused rounds)) w u settled
         t = then_parts (Round paused) (AfterRound (SettlesIn paused rounds)) w u settled h
 
         by_told : (b l : Reached) (told : Bool) → Round paused w b (Ok told) → AfterRound (SettlesIn paused rounds) told b.world l (Ok settled)
             → u ≡ after b.turns l
-            → ((x : State) (y : Reached) → IsReady x → Keeps x → AreEnough rounds x → SettlesIn paused rounds x y (Ok settled) → OffOrSettled x y settled)
-            → OffOrSettled w u settled
-        by_told b l false came further whole more = inr (told_same settled true further.1)
-        by_told b l true came further whole more = by_way (turns w b true ready kept came)
+            → ((x : State) (y : Reached) → IsReady x → Keeps x → AreEnough (rounds + more) x → SettlesIn paused rounds x y (Ok settled)
+            → EndsOrGoesOn more x y settled)
+            → EndsOrGoesOn more w u settled
+        by_told b l false came further whole go = inr (inl (told_same settled true further.1))
+        by_told b l true came further whole go = by_way (turns w b true ready kept came)
           where
-            by_rest : (IsLeading w → IsLeading b.world) → OffOrSettled b.world l settled → OffOrSettled w u settled
-            by_rest leading (inl off) = inl (behind w b.world b l u leading whole off)
-            by_rest leading (inr quiet) = inr quiet
+            end : u.world ≡ l.world
+            end = ap (λ (x : Reached). x.world) whole
 
-            by_way : Off w b ⊎ (HasTurned count w b.world true × Keeps b.world) → OffOrSettled w u settled
+            enough_now : HasTurned count w b.world true → AreEnough (rounds + more) b.world
+            enough_now x =
+                enough_then (rounds + more) w b.world x (as_many (suc rounds + more) (suc (rounds + more)) w (omega arith) enough)
+
+            by_rest : (IsLeading w → IsLeading b.world) → EndsOrGoesOn more b.world l settled → EndsOrGoesOn more w u settled
+            by_rest leading (inl off) = inl (behind w b.world b l u leading whole off)
+            by_rest leading (inr (inl quiet)) = inr (inl quiet)
+            by_rest leading (inr (inr x)) =
+                inr (inr (subst IsReady (sym end) x.0, subst Keeps (sym end) x.1, subst (AreEnough more) (sym end) x.2))
+
+            by_way : Off w b ⊎ (HasTurned count w b.world true × Keeps b.world) → EndsOrGoesOn more w u settled
             by_way (inl off) = inl (first w b l u whole off)
-            by_way (inr (x, also)) = by_rest x.leading (more b.world l x.ready also (enough_then rounds w b.world x enough) further)
+            by_way (inr (x, also)) = by_rest x.leading (go b.world l x.ready also (enough_now x) further)
+
+    -- a replica is put off so, or it has settled
+    pub settles_on : (rounds : ℕ) (w : State) (u : Reached) (settled : Bool) → IsReady w → Keeps w → AreEnough rounds w → SettlesIn paused rounds w u (Ok settled)
+        → Off w u ⊎ (settled ≡ true)
+    settles_on rounds w u settled ready kept enough h =
+        by_way (settles_further rounds 0 w u settled ready kept (as_many rounds (rounds + 0) w (omega arith) enough) h)
+      where
+        none : AreEnough 0 u.world → ⊥
+        none (inl few) = omega (arith, few)
+        none (inr (steady, few)) = omega (arith, few)
+
+        by_way : EndsOrGoesOn 0 w u settled → Off w u ⊎ (settled ≡ true)
+        by_way (inl off) = inl off
+        by_way (inr (inl quiet)) = inr quiet
+        by_way (inr (inr x)) = absurd (none x.2)
 
 -- ---- what may lie ahead again at most
 
