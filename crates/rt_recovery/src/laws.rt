@@ -1,5 +1,5 @@
 //! How a cluster that was started anew comes to rest. Each law stands on a function that does nothing: its clause is the law.
-ghost use Rattle.std.specs.Prelude.{◌≡◌, ◌<◌, ◌≤◌, ℕ, Bool, List, [], Ok, true};
+ghost use Rattle.std.specs.Prelude.{◌≡◌, ◌*◌, ◌<◌, ◌≤◌, ℕ, Bool, List, [], Ok, true};
 ghost use Rattle.rt_macros.specs.Doing.{Reached};
 ghost use Rattle.rt_macros.specs.Settling.{Settles};
 ghost use Rattle.rt_model.specs.Setup.{IsSetup};
@@ -9,17 +9,23 @@ ghost use Rattle.rt_state.specs.declared.state.State.{State};
 ghost use Rattle.rt_calm.specs.Again.{IsLeading};
 ghost use Rattle.rt_calm.specs.Spent.{rounds_in_all};
 ghost use Rattle.rt_recovery.specs.Fresh.{IsFresh};
+ghost use Rattle.rt_recovery.specs.Often.{SettlesOften};
 ghost use Rattle.rt_recovery.specs.Restarting.{IsStartedAnew, StartsAnew};
 
 /// From any world of a run on that was started anew, `settle` answers `settled` as soon as it has more rounds than `rounds_in_all`. Every
 /// server is up without a replica and no controller has a machine, one that is up believes that it leads, no fault of a store is planned,
 /// and segments don't end by a time of 0 ms. Then each replica that reports does so by the row limit, at the one offset where its segment is
-/// full; the first is told to commit, and all others are told HOLD only while that commit goes on, which takes no time.
-#[tactic(auto, using(crate::proofs::Settled::settles_from_fresh))]
+/// full; the first is told to commit, and all others are told HOLD only while that commit goes on, which takes no time. One `settle` may have
+/// too few rounds for that: then several, one after the other, answer `settled` as soon as they have more in all.
+#[tactic(auto, using(crate::proofs::Settled::settles_from_fresh, crate::proofs::Settled::settles_often))]
 pub fn settle_ends_after_a_fresh_start()
-    ensures { (setup : Setup) (turns : List Turn) (paused : Bool) (rounds : ℕ) (w : State) (u : Reached) (settled : Bool) → IsSetup setup
+    ensures once { (setup : Setup) (turns : List Turn) (paused : Bool) (rounds : ℕ) (w : State) (u : Reached) (settled : Bool) → IsSetup setup
         → Runs setup turns w → IsFresh w → w.store.faults.plan ≡ [] → w.deep.faults.plan ≡ [] → IsLeading w → 1 ≤ setup.table.millis
         → rounds_in_all w.setup w.log w.store.writes < rounds → Settles paused rounds w u (Ok settled) → settled ≡ true }
+    ensures often { (setup : Setup) (turns : List Turn) (paused : Bool) (rounds times : ℕ) (w : State) (u : Reached) (settled : Bool)
+        → IsSetup setup → Runs setup turns w → IsFresh w → w.store.faults.plan ≡ [] → w.deep.faults.plan ≡ [] → IsLeading w
+        → 1 ≤ setup.table.millis → rounds_in_all w.setup w.log w.store.writes < times * rounds
+        → SettlesOften paused rounds times w u (Ok settled) → settled ≡ true }
 {}
 
 /// What comes of a script that has each node crash, where it is up, and restart, and then the first controller lead: the cluster is
