@@ -45,6 +45,7 @@ use Rattle.rt_macros.specs.declared.outcomes.Delivered.{Delivered}
 use Rattle.rt_macros.specs.declared.outcomes.Delivered.TheVariants as delivered
 use Rattle.rt_macros.specs.declared.outcomes.Replied.{Replied}
 use Rattle.rt_model.specs.Lawful.{IsLawfulHistory}
+use Rattle.rt_model.specs.Setup.{IsSetup}
 use Rattle.rt_model.specs.declared.asked.Asked.{Asked}
 use Rattle.rt_model.specs.declared.job_step.JobStep.{JobStep}
 use Rattle.rt_model.specs.declared.node.Seen.{Seen}
@@ -55,7 +56,6 @@ use Rattle.rt_model.specs.declared.request.RequestKind.{RequestKind}
 use Rattle.rt_model.specs.declared.request.RequestKind.TheVariants as kind
 use Rattle.rt_model.specs.declared.request.RequestNumber.{RequestNumber}
 use Rattle.rt_model.specs.declared.setup.Setup.{Setup}
-use Rattle.rt_model.specs.Setup.{IsSetup}
 use Rattle.rt_msgs.specs.Numbered.{upload_path}
 use Rattle.rt_past.specs.Past.{Past}
 use Rattle.rt_safety.specs.CommitRun.{open_job}
@@ -75,7 +75,10 @@ use Rattle.rt_unrefused.proofs.Answered.{delivery_leaves, job_leaves}
 use Rattle.rt_unrefused.proofs.JobSteps.{is_open_job, over, own_step, there_then, OwnStep, SendsIts}
 use Rattle.rt_world.specs.Reading.{events_left_in, leader_in}
 use Rattle.rt_world.specs.Step.{Steps}
+use Rattle.rt_heal.specs.Mended.{NeedsNoRepair}
+use Rattle.rt_heal.specs.Turned.{NoneHalfRetired}
 use Rattle.rt_heal.proofs.Quiet.{then_parts, told_not, told_same, IsThen}
+use Rattle.rt_heal.proofs.Wholes.{unneeding_goes_on}
 use Rattle.rt_calm.proofs.Controlled.{asking_on, delivery_fetches, delivery_leads, delivery_log, delivery_plan, delivery_writes, job_fetches, job_keeps_leads, job_log, job_plan, IsAsking}
 use Rattle.rt_calm.proofs.Ending.{does_commit, no_ending}
 use Rattle.rt_calm.proofs.Exchanged.{delivery_so, finishes, DeliversSo, HasFinished}
@@ -89,6 +92,12 @@ use Rattle.rt_recovery.proofs.Continuing.{first_goes, stage_goes, AllOn, GoesAt,
 pub same_goes_on : (w v : State) → v.setup ≡ w.setup → v.store.writes ≡ w.store.writes → AllGoOn w → AllGoOn v
 same_goes_on w v setup writes on =
     subst (λ (x : Setup). AllOn (starting_of x) v.store.writes) (sym setup) (subst (AllOn (starting_of w.setup)) (sym writes) on)
+
+-- where nothing is to be mended, and none is half retired
+pub mended_goes_on : (w : State) → IsSafeWorld w
+    → ((p : Partition) → p.0 < w.setup.partitions → NeedsNoRepair w.setup w.store.writes w.moment p)
+    → ((p : Partition) → p.0 < w.setup.partitions → NoneHalfRetired w.store.writes p) → AllGoOn w
+mended_goes_on w safe mended retired p within = (unneeding_goes_on w p safe within (mended p within), retired p within)
 
 -- ---- a controller's job
 

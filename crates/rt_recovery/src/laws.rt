@@ -1,14 +1,23 @@
 //! How a cluster that was started anew comes to rest. Each law stands on a function that does nothing: its clause is the law.
-ghost use Rattle.std.specs.Prelude.{◌≡◌, ◌*◌, ◌<◌, ◌≤◌, ℕ, Bool, List, [], Ok, true};
+ghost use Rattle.std.specs.Prelude.{◌≡◌, ◌*◌, ◌<◌, ◌≤◌, ℕ, Bool, List, [], Ok, true, false};
+ghost use Rattle.rt_base.specs.declared.numbers.Instance.{Instance};
 ghost use Rattle.rt_macros.specs.Doing.{Reached};
-ghost use Rattle.rt_macros.specs.Settling.{Settles};
+ghost use Rattle.rt_macros.specs.Querying.{Queries};
+ghost use Rattle.rt_macros.specs.Settling.{ExchangeTurn, SegmentAt, Settles};
+ghost use Rattle.rt_model.specs.Checked.{IsQuery};
 ghost use Rattle.rt_model.specs.Setup.{IsSetup};
+ghost use Rattle.rt_model.specs.declared.answer.Answer.{Answer};
+ghost use Rattle.rt_model.specs.declared.query.Query.{Query};
 ghost use Rattle.rt_model.specs.declared.setup.Setup.{Setup};
 ghost use Rattle.rt_safety.specs.Runs.{Leads, Runs, Turn};
 ghost use Rattle.rt_state.specs.declared.state.State.{State};
+ghost use Rattle.rt_heal.specs.Answered.{IsAnsweredWhole};
+ghost use Rattle.rt_heal.specs.AtRest.{IsAtRest};
 ghost use Rattle.rt_calm.specs.Again.{IsLeading};
 ghost use Rattle.rt_calm.specs.Spent.{rounds_in_all};
+ghost use Rattle.rt_recovery.specs.ByRows.{IsByRows};
 ghost use Rattle.rt_recovery.specs.Fresh.{IsFresh};
+ghost use Rattle.rt_recovery.specs.GoingOn.{AllGoOn};
 ghost use Rattle.rt_recovery.specs.Often.{SettlesOften};
 ghost use Rattle.rt_recovery.specs.Restarting.{IsStartedAnew, StartsAnew};
 
@@ -35,4 +44,25 @@ pub fn what_is_started_anew_is_fresh()
     ensures { (setup : Setup) (turns : List Turn) (w : State) (v : Reached) → IsSetup setup → Runs setup turns w
         → w.store.faults.plan ≡ [] → StartsAnew w v (Ok tt)
         → IsStartedAnew w v.world × ((more : List Turn) × Leads w more v.world) }
+{}
+
+/// From any world of a run on that was started anew, in which each partition goes on and has no committed segment between the two steps of
+/// its retirement, each query is answered whole once `settle` has answered, where it has more rounds than `rounds_in_all`: all servers rest,
+/// and the answer misses nothing, and names all offsets of each partition from its mark up to the stream's end. For each exchange leaves all
+/// partitions going on: what it writes is a commit, which runs up to its end, so that the next segment is in progress and is consumed.
+pub fn what_was_started_anew_is_answered_whole()
+    ensures exchanges { (setup : Setup) (turns : List Turn) (i : Instance) (s : SegmentAt) (busy : Bool) (w : State) (v : Reached) (told : Bool)
+        → IsSetup setup → Runs setup turns w → IsByRows w → w.store.faults.plan ≡ [] → AllGoOn w → ExchangeTurn i s busy w v (Ok told)
+        → AllGoOn v.world }
+    ensures goes_on { (setup : Setup) (turns : List Turn) (rounds : ℕ) (w : State) (u : Reached) (settled : Bool) → IsSetup setup
+        → Runs setup turns w → IsFresh w → w.store.faults.plan ≡ [] → w.deep.faults.plan ≡ [] → IsLeading w → 1 ≤ setup.table.millis
+        → rounds_in_all w.setup w.log w.store.writes < rounds → Settles false rounds w u (Ok settled) → AllGoOn w → AllGoOn u.world }
+    ensures rests { (setup : Setup) (turns : List Turn) (rounds : ℕ) (w : State) (u : Reached) (settled : Bool) → IsSetup setup
+        → Runs setup turns w → IsFresh w → w.store.faults.plan ≡ [] → w.deep.faults.plan ≡ [] → IsLeading w → 1 ≤ setup.table.millis
+        → rounds_in_all w.setup w.log w.store.writes < rounds → Settles false rounds w u (Ok settled) → IsAtRest u.world }
+    ensures whole { (setup : Setup) (turns : List Turn) (rounds : ℕ) (w : State) (u : Reached) (settled : Bool) → IsSetup setup
+        → Runs setup turns w → IsFresh w → w.store.faults.plan ≡ [] → w.deep.faults.plan ≡ [] → IsLeading w → 1 ≤ setup.table.millis
+        → rounds_in_all w.setup w.log w.store.writes < rounds → Settles false rounds w u (Ok settled) → AllGoOn w
+        → (query : Query) (v : Reached) (answer : Answer) → IsQuery u.world.setup.schema query → Queries query u.world v (Ok answer)
+        → IsAnsweredWhole u.world query answer }
 {}

@@ -3,4 +3,4 @@
 
 mod laws;
 
-pub use laws::{settle_ends_after_a_fresh_start, what_is_started_anew_is_fresh};
+pub use laws::{settle_ends_after_a_fresh_start, what_is_started_anew_is_fresh, what_was_started_anew_is_answered_whole};
