@@ -1,5 +1,6 @@
 //! How a cluster that was started anew comes to rest. Each law stands on a function that does nothing: its clause is the law.
 ghost use Rattle.std.specs.Prelude.{◌≡◌, ◌*◌, ◌<◌, ◌≤◌, ℕ, Bool, List, [], Ok, true, false};
+ghost use Rattle.rt_base.specs.declared.numbers.ControllerId.{ControllerId};
 ghost use Rattle.rt_base.specs.declared.numbers.Instance.{Instance};
 ghost use Rattle.rt_macros.specs.Doing.{Reached};
 ghost use Rattle.rt_macros.specs.Querying.{Queries};
@@ -18,6 +19,7 @@ ghost use Rattle.rt_calm.specs.Spent.{rounds_in_all};
 ghost use Rattle.rt_recovery.specs.ByRows.{IsByRows};
 ghost use Rattle.rt_recovery.specs.Fresh.{IsFresh};
 ghost use Rattle.rt_recovery.specs.GoingOn.{AllGoOn};
+ghost use Rattle.rt_recovery.specs.Mending.{HasMended, Mends};
 ghost use Rattle.rt_recovery.specs.Often.{SettlesOften};
 ghost use Rattle.rt_recovery.specs.Restarting.{IsStartedAnew, StartsAnew};
 
@@ -65,4 +67,14 @@ pub fn what_was_started_anew_is_answered_whole()
         → rounds_in_all w.setup w.log w.store.writes < rounds → Settles false rounds w u (Ok settled) → AllGoOn w
         → (query : Query) (v : Reached) (answer : Answer) → IsQuery u.world.setup.schema query → Queries query u.world v (Ok answer)
         → IsAnsweredWhole u.world query answer }
+{}
+
+/// What comes of a script that mends all partitions, one after the other, at a controller that is up: for each of them the grace passes
+/// five times, and behind each time a repair goes on up to its end. The first may have been under way from before; of the others at most
+/// three write. From any world of a run on in which no fault of the store is planned no partition needs a repair then. The nodes, the log
+/// and the deep store are as they were.
+pub fn mending_leaves_no_need_of_repair()
+    ensures { (setup : Setup) (turns : List Turn) (w : State) (v : Reached) (c : ControllerId) → IsSetup setup → Runs setup turns w
+        → w.store.faults.plan ≡ [] → Mends c w v (Ok tt)
+        → HasMended w v.world × ((more : List Turn) × Leads w more v.world) }
 {}
