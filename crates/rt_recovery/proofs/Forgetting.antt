@@ -28,7 +28,7 @@ use Rattle.rt_state.specs.Messages.{after_step, deliver_due, handed, Delivers, D
 use Rattle.rt_state.specs.Nodes.{ControllerDoes, ControllerDoesAt}
 use Rattle.rt_state.specs.Places.{AreAt}
 use Rattle.rt_state.specs.Repairs.{upkeep_at, Keeps, KeepsAt}
-use Rattle.rt_state.specs.Room.{no_cost, only_if, priced, set_cost, Due, Found}
+use Rattle.rt_state.specs.Room.{no_cost, only_if, priced, set_cost, Due}
 use Rattle.rt_state.specs.Start.{fresh_controller, fresh_controllers, start}
 use Rattle.rt_state.specs.declared.cost.Cost.{Cost}
 use Rattle.rt_state.specs.declared.state.State.{State}

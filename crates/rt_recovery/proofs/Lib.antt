@@ -10,12 +10,14 @@ pub mod Forgetting
 pub mod Full
 pub mod GoingOn
 pub mod Handling
+pub mod Leaving
 pub mod Mending
 pub mod Opening
 pub mod Putting
 pub mod Reacting
 pub mod Recovering
 pub mod Restarting
+pub mod Retired
 pub mod Same
 pub mod Serving
 pub mod Settled

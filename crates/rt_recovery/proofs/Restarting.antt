@@ -1,6 +1,6 @@
 -- Nodes that crash and restart are fresh, and all else but the servers' incarnations is as it was.
 use Rattle.std.specs.List.{position, position_or_len}
-use Rattle.std.proofs.Common.{◌≡◌, ◌⊎◌, inl, inr, ℕ, zero, suc, ◌+◌, ◌<◌, ◌≤◌, Bool, true, false, cond, not, List, [], ◌∷◌, ◌++◌, Option, Some, None, Result, Ok, Err, refl, sym, ◌∙◌, ap, subst, arith, length, nat_lt, slice_get}
+use Rattle.std.proofs.Common.{◌≡◌, ◌⊎◌, inl, inr, ℕ, suc, ◌+◌, ◌<◌, ◌≤◌, Bool, true, false, cond, not, List, [], ◌∷◌, ◌++◌, Option, Some, None, Result, Ok, Err, refl, sym, ◌∙◌, ap, subst, arith, length, nat_lt, slice_get}
 use Rattle.std.specs.Prelude.{◌||◌, slice_set}
 use Rattle.std.proofs.lemmas.Bool.{and_from, cases_lt, lt-ltb, not-true}
 use Rattle.std.proofs.lemmas.Option.{none-some, same_Some, slice_get_within}
@@ -9,8 +9,6 @@ use Rattle.rt_base.specs.declared.numbers.ControllerId.{ControllerId}
 use Rattle.rt_base.specs.declared.numbers.Instance.{Instance}
 use Rattle.rt_base.specs.declared.numbers.Partition.{Partition}
 use Rattle.rt_broker.proofs.Lasting.{got_of_set}
-use Rattle.rt_controller.specs.Controller.{believing}
-use Rattle.rt_deep.specs.Meaning.{Told as ToldDeep}
 use Rattle.rt_entry.specs.Calls.{Comes}
 use Rattle.rt_entry.specs.declared.refused.ServerRefused.{ServerRefused}
 use Rattle.rt_entry.specs.declared.refused.ServerRefused.TheVariants as refused
@@ -20,13 +18,11 @@ use Rattle.rt_events.specs.declared.event.Event.TheVariants as event
 use Rattle.rt_events.specs.declared.outcome.Outcome.{Outcome}
 use Rattle.rt_events.specs.declared.outcome.Outcome.TheVariants as told
 use Rattle.rt_events.specs.declared.refusal.Refusal.TheVariants.{NoSuchNode, NothingToDo}
-use Rattle.rt_macros.specs.Doing.{Act, Choose, EachFrom, Gives, Happens, Passed, Reached}
+use Rattle.rt_macros.specs.Doing.{Choose, Gives, Passed, Reached}
 use Rattle.rt_model.specs.Entries.{entries_of}
-use Rattle.rt_model.specs.Lawful.{bump, written_by, Write}
+use Rattle.rt_model.specs.Lawful.{bump, written_by}
 use Rattle.rt_model.specs.Metadata.{metadata_of}
 use Rattle.rt_model.specs.Setup.{IsSetup}
-use Rattle.rt_model.specs.declared.ideal_state.IdealEntry.{IdealEntry}
-use Rattle.rt_model.specs.declared.node.Listed.{Listed}
 use Rattle.rt_model.specs.declared.node.Seen.{Seen}
 use Rattle.rt_model.specs.declared.setup.Setup.{Setup}
 use Rattle.rt_nodes.specs.Reading.{leads, stands}
@@ -40,13 +36,12 @@ use Rattle.rt_safety.proofs.Runs.{leads_safe}
 use Rattle.rt_safety.specs.Runs.{happens, Leads, Runs, Turn}
 use Rattle.rt_server.specs.Calls.{in_incarnation, restarted_by, restarted_in}
 use Rattle.rt_server.specs.Lasting.{IsEmpty}
-use Rattle.rt_server.specs.Table.{Segment, Segments, ServerState}
-use Rattle.rt_entry.specs.declared.entry.Entry.{Entry}
+use Rattle.rt_server.specs.Table.{Segments, ServerState}
 use Rattle.rt_state.proofs.Possible.{only_passed}
 use Rattle.rt_state.specs.Clock.{node_believing}
 use Rattle.rt_state.specs.Finding.{has_controller, has_server, is_controller_up, is_server_up, is_up}
 use Rattle.rt_state.specs.IsSafeWorld.{IsSafeWorld}
-use Rattle.rt_state.specs.Lives.{controller_crashed, controller_restarted, is_answered, node_crashed, up_in_incarnation, NodeCrashes, NodeRestarts}
+use Rattle.rt_state.specs.Lives.{controller_crashed, controller_restarted, is_answered, up_in_incarnation, NodeCrashes, NodeRestarts}
 use Rattle.rt_state.specs.Nodes.{with_controller, with_server, ControllerDoes, ControllerDoesAt, ServerCallsAt, ServerDoesAt}
 use Rattle.rt_state.specs.Room.{counted, no_cost, only_if, priced}
 use Rattle.rt_state.specs.Start.{start}
@@ -58,14 +53,12 @@ use Rattle.rt_store.specs.Calls.{IsExact}
 use Rattle.rt_store.specs.Meaning.{Told}
 use Rattle.rt_store.specs.declared.refused.StoreRefused.{StoreRefused}
 use Rattle.rt_store.specs.declared.refused.StoreRefused.TheVariants as store
-use Rattle.rt_stream.specs.Log.{Log}
-use Rattle.rt_world.specs.Reading.{either, leader_in, then_at}
+use Rattle.rt_world.specs.Reading.{either, then_at}
 use Rattle.rt_world.specs.Step.{Steps}
-use Rattle.rt_heal.proofs.Quiet.{then_parts, IsThen}
+use Rattle.rt_heal.proofs.Quiet.{then_parts}
 use Rattle.rt_heal.proofs.Seeing.{leads_more, plan_met}
 use Rattle.rt_calm.proofs.Keeping.{leads_then}
-use Rattle.rt_calm.specs.Again.{IsLeading}
-use Rattle.rt_recovery.specs.Fresh.{IsFresh, IsFreshServer}
+use Rattle.rt_recovery.specs.Fresh.{IsFreshServer}
 use Rattle.rt_recovery.specs.Restarting.{ControllerAnew, ControllerCrash, ControllersAnew, IsStartedAnew, NodesAnew, ServerAnew, ServerCrash, ServersAnew, StartsAnew}
 use Rattle.rt_recovery.proofs.Forgetting.{runs_forget, AllForgot}
 use Rattle.rt_recovery.proofs.Turns.{from_leads, passed, HasPassed}

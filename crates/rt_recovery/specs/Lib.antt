@@ -4,4 +4,5 @@ pub mod GoingOn
 pub mod Mending
 pub mod Often
 pub mod Restarting
+pub mod Retiring
 pub mod Same

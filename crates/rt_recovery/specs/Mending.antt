@@ -1,5 +1,5 @@
 -- The partitions are mended, one after the other: repairs go on until none is needed.
-use Rattle.std.specs.Prelude.{◌≡◌, ◌<◌, ◌≤◌, ℕ, zero, suc, Bool, true, false, [], List}
+use Rattle.std.specs.Prelude.{◌≡◌, ◌<◌, ◌≤◌, ℕ, zero, suc, Bool, true, false, []}
 use Rattle.rt_base.specs.declared.numbers.ControllerId.{ControllerId}
 use Rattle.rt_base.specs.declared.numbers.Partition.{Partition}
 use Rattle.rt_events.specs.declared.event.Event.TheVariants.{Repair, Tick}
@@ -12,7 +12,6 @@ use Rattle.rt_model.specs.declared.node.Seen.{Seen}
 use Rattle.rt_model.specs.declared.seg_meta.SegMeta.{SegMeta}
 use Rattle.rt_repair.specs.declared.repair_step.RepairStep.{RepairStep}
 use Rattle.rt_repair.specs.declared.repair_step.RepairStep.TheVariants as step
-use Rattle.rt_safety.specs.Runs.{Leads, Turn}
 use Rattle.rt_state.specs.declared.state.State.{State}
 use Rattle.rt_heal.specs.AtRest.{AreUp}
 use Rattle.rt_heal.specs.Mended.{NeedsNoRepair}

@@ -22,6 +22,7 @@ ghost use Rattle.rt_recovery.specs.GoingOn.{AllGoOn};
 ghost use Rattle.rt_recovery.specs.Mending.{HasMended, Mends};
 ghost use Rattle.rt_recovery.specs.Often.{SettlesOften};
 ghost use Rattle.rt_recovery.specs.Restarting.{IsStartedAnew, StartsAnew};
+ghost use Rattle.rt_recovery.specs.Retiring.{LeavesOldOnes};
 
 /// From any world of a run on that was started anew, `settle` answers `settled` as soon as it has more rounds than `rounds_in_all`. Every
 /// server is up without a replica and no controller has a machine, one that is up believes that it leads, no fault of a store is planned,
@@ -77,4 +78,10 @@ pub fn mending_leaves_no_need_of_repair()
     ensures { (setup : Setup) (turns : List Turn) (w : State) (v : Reached) (c : ControllerId) → IsSetup setup → Runs setup turns w
         → w.store.faults.plan ≡ [] → Mends c w v (Ok tt)
         → HasMended w v.world × ((more : List Turn) × Leads w more v.world) }
+{}
+
+/// In each world of a run the committed segments that are listed and have no entries in the ideal state are those between the two steps of
+/// a retirement: they were kept as long as the setup says.
+pub fn segments_without_entries_are_old()
+    ensures { (setup : Setup) (turns : List Turn) (w : State) → IsSetup setup → Runs setup turns w → LeavesOldOnes w }
 {}
