@@ -1,5 +1,5 @@
 -- Segments keep their entries by what is added to the ideal state, and turned in it.
-use Rattle.std.proofs.Common.{◌≡◌, ℕ, ◌-◌, Bool, true, false, cond, nat_lt, List, [], ◌∷◌, refl, sym, ◌∙◌, ap}
+use Rattle.std.proofs.Common.{◌≡◌, ℕ, ◌-◌, Bool, true, false, cond, nat_lt, List, refl, ◌∙◌, ap}
 use Rattle.std.specs.Prelude.{◌&&◌, map}
 use Rattle.std.proofs.lemmas.Bool.{cond_both}
 use Rattle.rt_base.specs.declared.numbers.Instance.{Instance}

@@ -1,5 +1,5 @@
 -- In each world of a run the committed segments that are left without entries were kept as long as the setup says.
-use Rattle.std.proofs.Common.{◌≡◌, ◌⊎◌, inl, inr, ℕ, ◌+◌, ◌-◌, ◌<◌, ◌≤◌, Bool, true, false, not, nat_lt, List, [], ◌∷◌, ◌++◌, Option, Some, None, Ok, refl, sym, ◌∙◌, ap, subst, arith, length, slice_get, get_or, map}
+use Rattle.std.proofs.Common.{◌≡◌, ◌⊎◌, inl, inr, ℕ, ◌+◌, ◌-◌, ◌<◌, ◌≤◌, Bool, true, false, not, List, [], ◌∷◌, ◌++◌, Option, Some, None, refl, sym, ◌∙◌, ap, subst, arith, length, slice_get, get_or, map}
 use Rattle.std.specs.List.{range_with_len}
 use Rattle.std.specs.Prelude.{IfSome, IsNone, IsSome}
 use Rattle.std.proofs.lemmas.Bool.{cases_lt, false≢true, ltb-false}
@@ -53,13 +53,11 @@ use Rattle.rt_model.specs.Setup.{IsSetup}
 use Rattle.rt_model.specs.Starting.{starting_contents, Starting}
 use Rattle.rt_model.specs.declared.asked.Asked.{Asked}
 use Rattle.rt_model.specs.declared.ideal_state.IdealEntry.{IdealEntry}
-use Rattle.rt_model.specs.declared.job_step.JobStep.{JobStep}
 use Rattle.rt_model.specs.declared.node.Key.TheVariants as key
 use Rattle.rt_model.specs.declared.node.Listed.{Listed}
 use Rattle.rt_model.specs.declared.node.Node.{Node}
 use Rattle.rt_model.specs.declared.node.Node.TheVariants as node
 use Rattle.rt_model.specs.declared.node.Seen.{Seen}
-use Rattle.rt_model.specs.declared.reply.Reply.{Reply}
 use Rattle.rt_model.specs.declared.request.Request.{Request}
 use Rattle.rt_model.specs.declared.seg_meta.SegMeta.{SegMeta}
 use Rattle.rt_model.specs.declared.setup.Setup.{Setup}
@@ -94,7 +92,7 @@ use Rattle.rt_state.specs.Applying.{Next}
 use Rattle.rt_state.specs.Finding.{request_at}
 use Rattle.rt_state.specs.IsSafe.{past_of}
 use Rattle.rt_state.specs.IsSafeWorld.{IsSafeWorld}
-use Rattle.rt_state.specs.Jobs.{noted_set, stepped_by, JobSteps, JobStepsAt}
+use Rattle.rt_state.specs.Jobs.{noted_set, JobSteps, JobStepsAt}
 use Rattle.rt_state.specs.Messages.{after_step, handed, Delivers, DeliversAt}
 use Rattle.rt_state.specs.Nodes.{ControllerDoes, ControllerDoesAt}
 use Rattle.rt_state.specs.Repairs.{upkeep_at, Keeps, KeepsAt}
@@ -623,7 +621,7 @@ turn_leaves w turn new safe all t = λ p within l left.
       all_kept w.setup w.moment w.store.writes new.store.writes (same_entries w.store.writes new.store.writes (ap (λ (x : State). entries_of x.store.writes) is)),
     )
 
-leads_leave : (from : State) (turns : List Turn) (to : State) → IsSafeWorld from → LeavesOldOnes from → Leads from turns to → LeavesOldOnes to
+pub leads_leave : (from : State) (turns : List Turn) (to : State) → IsSafeWorld from → LeavesOldOnes from → Leads from turns to → LeavesOldOnes to
 leads_leave from [] to safe all same = subst LeavesOldOnes (sym same) all
 leads_leave from (turn ∷ turns) to safe all (next, t, rest) =
     leads_leave next turns to (leads_safe from (turn ∷ []) next safe (next, t, refl)) (turn_leaves from turn next safe all t) rest

@@ -18,6 +18,7 @@ pub mod Reacting
 pub mod Recovering
 pub mod Restarting
 pub mod Retired
+pub mod Retiring
 pub mod Same
 pub mod Serving
 pub mod Settled

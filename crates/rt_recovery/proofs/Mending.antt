@@ -9,27 +9,26 @@ use Rattle.rt_base.specs.declared.numbers.Moment.{Moment}
 use Rattle.rt_base.specs.declared.numbers.Partition.{Partition}
 use Rattle.rt_base.specs.declared.numbers.Sequence.{Sequence}
 use Rattle.rt_broker.proofs.Lasting.{got_of_set}
+use Rattle.rt_controller.specs.Controller.{Controlling}
 use Rattle.rt_events.specs.declared.event.Event.TheVariants as event
 use Rattle.rt_events.specs.declared.outcome.Outcome.{Outcome}
 use Rattle.rt_events.specs.declared.outcome.Outcome.TheVariants as told
 use Rattle.rt_lists.proofs.Members.{Has-push_cases}
 use Rattle.rt_lists.specs.Members.{Has}
-use Rattle.rt_macros.specs.Doing.{EachFrom, Happens, Passed, Reached}
+use Rattle.rt_macros.specs.Doing.{Happens, Passed, Reached}
 use Rattle.rt_model.proofs.Histories.{same_partition}
 use Rattle.rt_model.proofs.Lawful.{has_ideal_state}
 use Rattle.rt_model.proofs.Listings.{listed_has}
 use Rattle.rt_model.specs.Entries.{entries_by, entries_of}
 use Rattle.rt_model.specs.Ideal.{has_entry}
-use Rattle.rt_model.specs.Metadata.{metadata_of, node_key, sequences_of, IsInProgress}
+use Rattle.rt_model.specs.Metadata.{metadata_of, sequences_of, IsInProgress}
 use Rattle.rt_model.specs.Moments.{later}
-use Rattle.rt_model.specs.Repair.{are_offline, decide_by, decide_last, decide_open, last_listed}
+use Rattle.rt_model.specs.Repair.{are_offline, decide_by, decide_last, last_listed}
 use Rattle.rt_model.specs.Setup.{IsSetup}
-use Rattle.rt_model.specs.declared.decision.Decision.{Decision}
 use Rattle.rt_model.specs.declared.decision.Decision.TheVariants.{Abandon, AddToIdeal, Nothing}
 use Rattle.rt_model.specs.declared.ideal_state.IdealEntry.{IdealEntry}
 use Rattle.rt_model.specs.declared.node.Key.TheVariants as key
 use Rattle.rt_model.specs.declared.node.Listed.{Listed}
-use Rattle.rt_model.specs.declared.node.Node.{Node}
 use Rattle.rt_model.specs.declared.node.Node.TheVariants as node
 use Rattle.rt_model.specs.declared.node.Seen.{Seen}
 use Rattle.rt_model.specs.declared.seg_meta.SegMeta.{SegMeta}
@@ -46,8 +45,8 @@ use Rattle.rt_repair.proofs.Alone.{past_settles, repairs_alone}
 use Rattle.rt_repair.proofs.LastSegment.{last_listed_has}
 use Rattle.rt_repair.proofs.Standing.{entries_other, entries_written, listed_other}
 use Rattle.rt_repair.proofs.Telling.{told_repair}
-use Rattle.rt_repair.specs.Alone.{run_alone, stepped_on, then_stepped, FindsNothing, HasWritten as HasWrittenAlone, IsOverOf, IsRepaired, SettlesAlone}
-use Rattle.rt_repair.specs.Converging.{decided, standing_of, writes, Standing}
+use Rattle.rt_repair.specs.Alone.{run_alone, stepped_on, then_stepped, FindsNothing, HasWritten as HasWrittenAlone, IsOverOf, SettlesAlone}
+use Rattle.rt_repair.specs.Converging.{decided, standing_of, writes}
 use Rattle.rt_repair.specs.IsRepair.{Remembers}
 use Rattle.rt_repair.specs.Lasting.{IsRepairOver}
 use Rattle.rt_repair.specs.ReadNode.{last_follows, last_node}
@@ -67,43 +66,47 @@ use Rattle.rt_state.specs.Clock.{ticked}
 use Rattle.rt_state.specs.IsSafe.{past_of}
 use Rattle.rt_state.specs.IsSafeWorld.{IsSafeWorld}
 use Rattle.rt_state.specs.Repairs.{after_upkeep, chore_by, find_upkeep, upkeep_at, upkeep_in, KeepsAt}
-use Rattle.rt_state.specs.Room.{counted}
 use Rattle.rt_state.specs.declared.cost.Cost.{Cost}
 use Rattle.rt_state.specs.declared.state.State.{State}
 use Rattle.rt_store.specs.Contents.{starting_of}
 use Rattle.rt_store.specs.Meaning.{Told}
 use Rattle.rt_world.proofs.KeepsRepairs.{found_within, upkeep_there}
-use Rattle.rt_world.specs.Reading.{leader_in}
 use Rattle.rt_world.specs.Step.{Steps}
 use Rattle.rt_heal.proofs.Quiet.{then_parts}
 use Rattle.rt_heal.proofs.Sequences.{few_contents, few_segments}
-use Rattle.rt_heal.specs.AtRest.{AreUp}
 use Rattle.rt_heal.specs.Mended.{NeedsNoRepair}
 use Rattle.rt_calm.proofs.Keeping.{leads_then as turns_then, servers_up}
 use Rattle.rt_calm.proofs.Leading.{leads_put, leads_still, leads_then, KeepsLeads}
-use Rattle.rt_recovery.specs.Fresh.{IsFresh, IsFreshServer}
 use Rattle.rt_recovery.specs.Mending.{goes_further, goes_on_by, Goes, HasMended, IsWrittenBefore, Mends, MendTurn, RepairsIn, RepairTurn, RepairTurns}
-use Rattle.rt_recovery.proofs.Apart.{apart_same, IsApart, SameAt}
-use Rattle.rt_recovery.proofs.Stepping.{lists, reads, repair_writes_for, stepped_to, unplanned_at, writing_ends, HasEnded, HasWritten, WritesFor, WritesIdeal, WritesNode}
+use Rattle.rt_recovery.proofs.Apart.{SameAt}
+use Rattle.rt_recovery.proofs.Stepping.{lists, reads, repair_writes_for, stepped_to, unplanned_at, writing_ends, HasWritten, WritesFor}
 use Rattle.rt_recovery.proofs.Turns.{from_leads, passed, HasPassed}
 use Rattle.rt_recovery.proofs.Written.{runs_before}
 
 -- ---- what stands of a partition
 
 -- its nodes and its entries are as they were
-record IsSameOf (o : Partition) (h g : List Seen) : Type 0 where
-  listed : metadata_of g o ≡ metadata_of h o
-  entries : (s : Sequence) → SameAt o s (entries_of h) (entries_of g)
+pub record IsSameOf (o : Partition) (h g : List Seen) : Type 0 where
+  pub listed : metadata_of g o ≡ metadata_of h o
+  pub entries : (s : Sequence) → SameAt o s (entries_of h) (entries_of g)
 
-same_of : (o : Partition) (h g : List Seen) → g ≡ h → IsSameOf o h g
+pub same_of : (o : Partition) (h g : List Seen) → g ≡ h → IsSameOf o h g
 same_of o h g same = subst (IsSameOf o h) (sym same) (record { listed = refl; entries = λ s. record { has = refl; off = refl } })
 
-same_of_then : (o : Partition) (h g f : List Seen) → IsSameOf o h g → IsSameOf o g f → IsSameOf o h f
+pub same_of_then : (o : Partition) (h g f : List Seen) → IsSameOf o h g → IsSameOf o g f → IsSameOf o h f
 same_of_then o h g f a b =
     record {
       listed = b.listed ∙ a.listed;
       entries = λ s. record { has = (b.entries s).has ∙ (a.entries s).has; off = (b.entries s).off ∙ (a.entries s).off };
     }
+
+-- its last segment is as it was, with its entries
+pub record IsSameLast (o : Partition) (h g : List Seen) : Type 0 where
+  pub last : last_listed (metadata_of g o) ≡ last_listed (metadata_of h o)
+  pub entries : (l : Listed) → last_listed (metadata_of h o) ≡ Some l → SameAt o l.sequence (entries_of h) (entries_of g)
+
+pub same_last : (o : Partition) (h g : List Seen) → IsSameOf o h g → IsSameLast o h g
+same_last o h g same = record { last = ap last_listed same.listed; entries = λ l last. same.entries l.sequence }
 
 same_place : (p o : Partition) (a b : Sequence) → key.Meta p a ≡ key.Meta o b → p ≡ o
 same_place p o a b e = cc
@@ -158,24 +161,35 @@ before_written p now h g (inr (w, more, writes)) all =
 -- ---- what events leave
 
 -- no controller has a machine
-abbrev HaveNone : List ControllerNode → Type 0
+abbrev pub HaveNone : List ControllerNode → Type 0
 HaveNone cs = (j : ℕ) (n : ControllerNode) → slice_get cs j ≡ Some n → n.controller.machines ≡ []
 
--- turns lead on, and all but what is written and what is under way for partitions is as it was
-record GoesMending (w v : State) : Type 0 where
-  safe : IsSafeWorld v
-  led : (turns : List Turn) × Leads w turns v
-  servers : v.servers ≡ w.servers
-  leads : KeepsLeads w v
-  none : HaveNone w.controllers → HaveNone v.controllers
-  unplanned : w.store.faults.plan ≡ [] → v.store.faults.plan ≡ []
-  setup : v.setup ≡ w.setup
-  log : v.log ≡ w.log
-  deep : v.deep ≡ w.deep
-  moment : w.moment.0 ≤ v.moment.0
-  before : IsWrittenBefore w → IsWrittenBefore v
+-- another one that has as few is put in its place
+pub put_none : (w y : State) (c : ControllerId) (n m : ControllerNode) → m.controller ≡ n.controller → slice_get w.controllers c.0 ≡ Some n
+    → y.controllers ≡ slice_set w.controllers c.0 m → HaveNone w.controllers → HaveNone y.controllers
+put_none w y c n m same there put all j x at =
+    by_place (got_of_set w.controllers c.0 j m x (ap (λ (cs : List ControllerNode). slice_get cs j) (sym put) ∙ at))
+  where
+    by_place : ((j ≡ c.0) × (x ≡ m)) ⊎ (slice_get w.controllers j ≡ Some x) → x.controller.machines ≡ []
+    by_place (inl here) =
+        ap (λ (z : ControllerNode). z.controller.machines) here.1 ∙ ap (λ (z : Controlling). z.machines) same ∙ all c.0 n there
+    by_place (inr other) = all j x other
 
-mending_still : (w : State) → IsSafeWorld w → GoesMending w w
+-- turns lead on, and all but what is written and what is under way for partitions is as it was
+pub record GoesMending (w v : State) : Type 0 where
+  pub safe : IsSafeWorld v
+  pub led : (turns : List Turn) × Leads w turns v
+  pub servers : v.servers ≡ w.servers
+  pub leads : KeepsLeads w v
+  pub none : HaveNone w.controllers → HaveNone v.controllers
+  pub unplanned : w.store.faults.plan ≡ [] → v.store.faults.plan ≡ []
+  pub setup : v.setup ≡ w.setup
+  pub log : v.log ≡ w.log
+  pub deep : v.deep ≡ w.deep
+  pub moment : w.moment.0 ≤ v.moment.0
+  pub before : IsWrittenBefore w → IsWrittenBefore v
+
+pub mending_still : (w : State) → IsSafeWorld w → GoesMending w w
 mending_still w safe =
     record {
       safe = safe;
@@ -191,7 +205,7 @@ mending_still w safe =
       before = λ before. before;
     }
 
-mending_then : (w m v : State) → GoesMending w m → GoesMending m v → GoesMending w v
+pub mending_then : (w m v : State) → GoesMending w m → GoesMending m v → GoesMending w v
 mending_then w m v x y =
     record {
       safe = y.safe;
@@ -325,15 +339,6 @@ module _ (c : ControllerId) (p : Partition) where
 
   module _ (w y : State) (o : Outcome) (r : Repairing) (safe : IsSafeWorld w) (unplanned : w.store.faults.plan ≡ []) (k : IsUnder c p w r)
       (steps : Steps w (event.Repair c p) y (Ok o)) where
-    put_none : (n m : ControllerNode) → m.controller ≡ n.controller → slice_get w.controllers c.0 ≡ Some n → y.controllers ≡ slice_set w.controllers c.0 m
-        → HaveNone w.controllers → HaveNone y.controllers
-    put_none n m same there put all j x at =
-        by_place (got_of_set w.controllers c.0 j m x (ap (λ (cs : List ControllerNode). slice_get cs j) (sym put) ∙ at))
-      where
-        by_place : ((j ≡ c.0) × (x ≡ m)) ⊎ (slice_get w.controllers j ≡ Some x) → x.controller.machines ≡ []
-        by_place (inl here) = ap (λ (z : ControllerNode). z.controller.machines) here.1 ∙ ap (λ z. z.machines) same ∙ all c.0 n there
-        by_place (inr other) = all j x other
-
     stepped_by : (n : ControllerNode) (old new : Upkeep) (store : Told) (x : Stepped) (cost : Cost) → slice_get w.controllers c.0 ≡ Some n
         → upkeep_at w c p ≡ Some old → IsLeft store x (repair_stepped w.store r w.moment) → new ≡ record old { repair = going_on x.repair }
         → o ≡ told.Repaired x.step → y ≡ after_upkeep w c p n new store cost → IsReady w.setup (past_of w) p r
@@ -364,7 +369,7 @@ module _ (c : ControllerId) (p : Partition) where
               led = (happens (event.Repair c p) o ∷ [], (y, (tt, steps), refl));
               servers = ap (λ (z : State). z.servers) is;
               leads = leads_put w y c n m there controllers refl refl;
-              none = put_none n m refl there controllers;
+              none = put_none w y c n m refl there controllers;
               unplanned = λ none. ap (λ (t : Told). t.faults.plan) own ∙ unplanned_at w.store r w.moment r.stage none;
               setup = ap (λ (z : State). z.setup) is;
               log = ap (λ (z : State). z.log) is;
@@ -696,23 +701,20 @@ module _ (c : ControllerId) (p : Partition) where
 
 -- ---- what another partition keeps
 
-module _ (setup : Setup) (o : Partition) (h g : List Seen) (same : IsSameOf o h g) (now then : Moment) (on : now.0 ≤ then.0) where
+module _ (setup : Setup) (o : Partition) (h g : List Seen) (same : IsSameLast o h g) (now then : Moment) (on : now.0 ≤ then.0) where
   over_kept : IsOverOf (beginning o setup) now (standing_of h o) → IsOverOf (beginning o setup) then (standing_of g o)
-  over_kept over l last = omega (arith, over l (ap last_listed (sym same.listed) ∙ last), on)
+  over_kept over l last = omega (arith, over l (sym same.last ∙ last), on)
 
   -- what is decided of the same last segment
-  decides_same : (x : Option Listed) → ((l : Listed) → x ≡ Some l → (later l.seen.meta.written setup.grace).0 ≤ now.0)
+  decides_same : (x : Option Listed) → last_listed (metadata_of h o) ≡ x → ((l : Listed) → x ≡ Some l → (later l.seen.meta.written setup.grace).0 ≤ now.0)
       → decide_last o (entries_of h) now setup.grace x ≡ Nothing → decide_last o (entries_of g) then setup.grace x ≡ Nothing
-  decides_same None over e = e
-  decides_same (Some l) over e = by_number (not (nat_lt l.sequence.0 LAST_NUMBER)) e
+  decides_same None last over e = e
+  decides_same (Some l) last over e = by_number (not (nat_lt l.sequence.0 LAST_NUMBER)) e
     where
-      grace_end : ℕ
-      grace_end = (later l.seen.meta.written setup.grace).0
-
       by_status : (st : Status) → decide_by o l.sequence (entries_of h) l.seen.meta st ≡ Nothing → decide_by o l.sequence (entries_of g) l.seen.meta st ≡ Nothing
       by_status InProgress e =
-          ap (λ (b : Bool). cond (not b) (AddToIdeal l.sequence) (cond (are_offline (entries_of g) o l.sequence) (Abandon l.sequence) Nothing)) (same.entries l.sequence).has
-          ∙ ap (λ (b : Bool). cond (not (has_entry (entries_of h) o l.sequence)) (AddToIdeal l.sequence) (cond b (Abandon l.sequence) Nothing)) (same.entries l.sequence).off
+          ap (λ (b : Bool). cond (not b) (AddToIdeal l.sequence) (cond (are_offline (entries_of g) o l.sequence) (Abandon l.sequence) Nothing)) (same.entries l last).has
+          ∙ ap (λ (b : Bool). cond (not (has_entry (entries_of h) o l.sequence)) (AddToIdeal l.sequence) (cond b (Abandon l.sequence) Nothing)) (same.entries l last).off
           ∙ e
       by_status (Done commit) e = e
       by_status Abandoned e = e
@@ -728,13 +730,13 @@ module _ (setup : Setup) (o : Partition) (h g : List Seen) (same : IsSameOf o h 
           cond_both (nat_lt then.0 (later l.seen.meta.written setup.grace).0) Nothing (decide_by o l.sequence (entries_of g) l.seen.meta l.seen.meta.status) (λ d. d ≡ Nothing)
           (λ b. refl) (λ b. by_status l.seen.meta.status own)
 
-  needs_kept : NeedsNoRepair setup h now o → NeedsNoRepair setup g then o
+  pub needs_kept : NeedsNoRepair setup h now o → NeedsNoRepair setup g then o
   needs_kept k =
       record {
         over = over_kept k.over;
         nothing =
-            ap (λ (ls : List Listed). decide_last o (entries_of g) then setup.grace (last_listed ls)) same.listed
-            ∙ decides_same (last_listed (metadata_of h o)) k.over k.nothing;
+            ap (decide_last o (entries_of g) then setup.grace) same.last
+            ∙ decides_same (last_listed (metadata_of h o)) refl k.over k.nothing;
       }
 
 -- ---- all partitions
@@ -755,7 +757,8 @@ module _ (c : ControllerId) (from : State) (none : from.store.faults.plan ≡ []
           → q.0 < i + 1 → NeedsNoRepair y.setup y.store.writes y.moment q
       kept_or_own w y i k x q (inl lt) below =
           subst (λ (s : Setup). NeedsNoRepair s y.store.writes y.moment q) (sym x.on.goes.setup)
-          (needs_kept w.setup q w.store.writes y.store.writes (x.on.others q (λ e. omega (arith, lt, e))) w.moment y.moment x.on.goes.moment (k.needs q lt))
+          (needs_kept w.setup q w.store.writes y.store.writes
+          (same_last q w.store.writes y.store.writes (x.on.others q (λ e. omega (arith, lt, e)))) w.moment y.moment x.on.goes.moment (k.needs q lt))
       kept_or_own w y i k x q (inr past) below =
           let same : i ≡ q.0 = omega (arith, past, below) in
           subst (NeedsNoRepair y.setup y.store.writes y.moment) (same_partition (record { 0 = i }) q same) x.needs

@@ -1,12 +1,11 @@
 -- A step of a retirement: what it makes of the retirement, and of what was written.
-use Rattle.std.proofs.Common.{◌≡◌, ◌⊎◌, inl, inr, ℕ, zero, suc, ◌+◌, ◌<◌, ◌≤◌, Bool, true, false, cond, not, nat_lt, List, [], ◌∷◌, ◌++◌, Option, Some, None, Result, Ok, Err, refl, sym, ◌∙◌, ap, subst, arith, length, get_or}
+use Rattle.std.proofs.Common.{◌≡◌, ◌⊎◌, inl, inr, ℕ, ◌+◌, ◌<◌, ◌≤◌, Bool, true, false, cond, not, nat_lt, List, [], ◌∷◌, ◌++◌, Option, Some, None, Result, Ok, Err, refl, sym, ◌∙◌, ap, subst, arith, length, get_or}
 use Rattle.std.specs.List.{range_with_len}
 use Rattle.std.specs.Prelude.{◌||◌, map}
-use Rattle.std.proofs.lemmas.Bool.{cases_lt}
+use Rattle.std.proofs.lemmas.Bool.{cases_lt, false≢true}
 use Rattle.std.proofs.lemmas.List.{length-map}
 use Rattle.std.proofs.lemmas.List.FromFn.{get_or-range_with_len, length-range_with_len}
 use Rattle.std.proofs.lemmas.Option.{none-some, same_Some}
-use Rattle.rt_base.specs.Faults.{answer_under, fault_of}
 use Rattle.rt_base.specs.declared.numbers.Moment.{Moment}
 use Rattle.rt_base.specs.declared.numbers.Partition.{Partition}
 use Rattle.rt_base.specs.declared.numbers.Sequence.{Sequence}
@@ -23,10 +22,8 @@ use Rattle.rt_model.specs.declared.ideal_state.IdealEntry.{IdealEntry}
 use Rattle.rt_model.specs.declared.ideal_state.IdealState.{IdealState}
 use Rattle.rt_model.specs.declared.node.Key.TheVariants as key
 use Rattle.rt_model.specs.declared.node.Listed.{Listed}
-use Rattle.rt_model.specs.declared.node.Node.{Node}
 use Rattle.rt_model.specs.declared.node.Node.TheVariants as node
 use Rattle.rt_model.specs.declared.node.Seen.{Seen}
-use Rattle.rt_model.specs.declared.status.Status.{Status}
 use Rattle.rt_model.proofs.Histories.{Stands-last}
 use Rattle.rt_model.proofs.Lawful.{has_chains, versions_count_writes}
 use Rattle.rt_model.proofs.Listings.{has_listings, listed_has}
@@ -34,13 +31,13 @@ use Rattle.rt_repair.proofs.Lists.{lowest_again}
 use Rattle.rt_repair.proofs.MayRepair.{state_read}
 use Rattle.rt_repair.proofs.Setting.{retire_leaves}
 use Rattle.rt_repair.specs.IsRepair.{HasIdeal}
-use Rattle.rt_repair.specs.IsRetire.{HasListed, Remembers}
-use Rattle.rt_repair.specs.ReadNode.{listed_again, lowest_listed, lowest_node, read_by, read_node}
+use Rattle.rt_repair.specs.IsRetire.{Remembers}
+use Rattle.rt_repair.specs.ReadNode.{listed_again, lowest_listed, lowest_node, read_by}
 use Rattle.rt_repair.specs.RetireSteps.{after_list, after_read, deleted, removed, with_ideal, Stepped}
 use Rattle.rt_repair.specs.Retired.{is_ended, retire_by, retire_node}
 use Rattle.rt_repair.specs.Retirement.{delete_write, goes, remove_write, retiring_at, Retirement}
 use Rattle.rt_repair.specs.Setting.{retire_write, retire_write_at, retire_write_by, writes_after}
-use Rattle.rt_repair.specs.Told.{retire_at, retire_deleted, retire_done, retire_ended, retire_stepped, Left}
+use Rattle.rt_repair.specs.Told.{retire_at, retire_deleted, retire_done, retire_ended, retire_stepped}
 use Rattle.rt_repair.specs.declared.read_node.ReadNode.{ReadNode}
 use Rattle.rt_repair.specs.declared.retirement.RetireStage.{RetireStage}
 use Rattle.rt_repair.specs.declared.retirement.RetireStage.TheVariants as stage
@@ -49,11 +46,15 @@ use Rattle.rt_repair.specs.declared.retiring.RetireStep.TheVariants as step
 use Rattle.rt_repair.specs.declared.retiring.Retiring.{Retiring}
 use Rattle.rt_repair.specs.declared.retiring.Retiring.TheVariants as decision
 use Rattle.rt_store.proofs.Seeing.{effect_of}
-use Rattle.rt_store.proofs.Told.{leaves_on}
+use Rattle.rt_store.proofs.Told.{leaves_on, read_same}
 use Rattle.rt_store.specs.Answers.{after_call, answer_of, found_in, listing, reading, refusal_of, Leaves}
 use Rattle.rt_store.specs.Calls.{answer_on, told_on}
 use Rattle.rt_store.specs.Meaning.{Told}
+use Rattle.rt_store.specs.declared.refused.StoreRefused.{StoreRefused}
 use Rattle.rt_store.specs.declared.refused.StoreRefused.TheVariants as store
+use Rattle.rt_heal.proofs.Seeing.{plan_met}
+use Rattle.rt_recovery.specs.Retiring.{goes_further, is_nothing}
+use Rattle.rt_recovery.proofs.Stepping.{unfailing}
 
 -- ---- what is decided of a node
 
@@ -64,7 +65,7 @@ pub record Decides (es : List IdealEntry) (p : Partition) (now : Moment) (keep :
   pub old : nat_lt now.0 (later l.seen.meta.written keep).0 ≡ false
   pub has : has_entry es p l.sequence ≡ there
 
-abbrev by_tests : Bool → Bool → Bool → Bool → Sequence → Retiring
+abbrev pub by_tests : Bool → Bool → Bool → Bool → Sequence → Retiring
 by_tests ended young there next q =
     cond (not ended || young) decision.Nothing (cond (not there) (decision.Delete q) (cond next (decision.Remove q) decision.Nothing))
 
@@ -244,3 +245,124 @@ pub retire_writes_for : (s : Starting) (t : Told) (r : Retirement) (now : Moment
 retire_writes_for s t r now lawful within k =
     subst (HasRetired r.partition now r.keep t.writes) (sym (retire_leaves t r now))
     (called t r.partition now r.keep (retire_write r now) (stage_for s t.writes lawful r now within r.stage k))
+
+-- ---- what a step makes of a retirement, where no fault of the store is planned
+
+abbrev pub stepped_to : Retirement → RetireStage → RetireStep → Stepped
+stepped_to r at did = record { retire = goes r at; step = did }
+
+pub lists : (t : Told) (r : Retirement) (now : Moment) → r.stage ≡ stage.Listing → t.faults.plan ≡ []
+    → (retire_stepped t r now).stepped ≡ Some (stepped_to r (stage.Reading (lowest_node r.partition (metadata_of t.writes r.partition))) step.Listed)
+lists t r now at none =
+    ap (λ (s : RetireStage). (retire_at t r now s).stepped) at ∙ ap (after_list r) (unfailing t (listing r.partition) none)
+
+pub reads : (t : Told) (r : Retirement) (now : Moment) (lowest : Option ReadNode) (ideal : Seen) → r.stage ≡ stage.Reading lowest
+    → t.faults.plan ≡ [] → value_of t.writes key.Ideal ≡ Some ideal
+    → (retire_stepped t r now).stepped ≡ Some (stepped_to r (stage.Writing lowest ideal) step.IdealRead)
+reads t r now lowest ideal at none value =
+    ap (λ (s : RetireStage). (retire_at t r now s).stepped) at
+    ∙ ap (after_read r) (unfailing t (reading key.Ideal) none ∙ ap found_in value)
+    ∙ ap (λ (s : RetireStage). Some (stepped_to r (with_ideal s ideal) step.IdealRead)) at
+
+pub listing_writes : (t : Told) (r : Retirement) (now : Moment) → r.stage ≡ stage.Listing → (retire_stepped t r now).told.writes ≡ t.writes
+listing_writes t r now at = ap (λ (s : RetireStage). (retire_at t r now s).told.writes) at ∙ read_same t
+
+pub reading_writes : (t : Told) (r : Retirement) (now : Moment) (lowest : Option ReadNode) → r.stage ≡ stage.Reading lowest → (retire_stepped t r now).told.writes ≡ t.writes
+reading_writes t r now lowest at = ap (λ (s : RetireStage). (retire_at t r now s).told.writes) at ∙ read_same t
+
+-- it has ended, and tells no step behind which there is another; it tells `nothing` only where that was decided
+pub record HasEnded (t : Told) (r : Retirement) (x : Stepped) (left : Told) (d : Retiring) : Type 0 where
+  pub ended : x.retire ≡ goes r stage.Ended
+  pub tells : goes_further x.step ≡ false
+  pub nothing : is_nothing x.step ≡ true → (d ≡ decision.Nothing) × (left.writes ≡ t.writes)
+
+abbrev Ends : Option RetireStep → Type 0
+Ends o = (did : RetireStep) → o ≡ Some did → (goes_further did ≡ false) × (is_nothing did ≡ false)
+
+ends_so : (own : RetireStep) → goes_further own ≡ false → is_nothing own ≡ false → Ends (Some own)
+ends_so own e f did same = (ap goes_further (sym (same_Some own did same)) ∙ e, ap is_nothing (sym (same_Some own did same)) ∙ f)
+
+ends_none : Ends None
+ends_none did e = absurd (none-some did e)
+
+ended_by : (t : Told) (r : Retirement) (x : Stepped) (left : Told) (d : Retiring) (o : Option RetireStep) → Ends o → retire_ended r o ≡ Some x
+    → HasEnded t r x left d
+ended_by t r x left d None ends e = absurd (none-some x e)
+ended_by t r x left d (Some did) ends e =
+    let same = same_Some (stepped_to r stage.Ended did) x e in
+    let k = ends did refl in
+    record {
+      ended = ap (λ (y : Stepped). y.retire) (sym same);
+      tells = ap (λ (y : Stepped). goes_further y.step) (sym same) ∙ k.0;
+      nothing = λ says. absurd (false≢true (sym k.1 ∙ ap (λ (y : Stepped). is_nothing y.step) same ∙ says));
+    }
+
+removed_ends : (s : Sequence) (answer : Result ℕ StoreRefused) → Ends (removed s answer)
+removed_ends s (Ok version) = ends_so (step.Removed s version) refl refl
+removed_ends s (Err store.NoNode) = ends_so step.Failed refl refl
+removed_ends s (Err (store.Exists found)) = ends_so step.Failed refl refl
+removed_ends s (Err (store.VersionChanged expected found)) = ends_so (step.Changed expected found) refl refl
+removed_ends s (Err store.Failed) = ends_so step.Failed refl refl
+removed_ends s (Err store.Memory) = ends_none
+
+deleted_ends : (s : Sequence) (answer : Result (Unit {0}) StoreRefused) → Ends (deleted s answer)
+deleted_ends s (Ok done) = ends_so (step.Deleted s) refl refl
+deleted_ends s (Err store.NoNode) = ends_so (step.Gone s) refl refl
+deleted_ends s (Err (store.Exists found)) = ends_so step.Failed refl refl
+deleted_ends s (Err (store.VersionChanged expected found)) = ends_so (step.Changed expected found) refl refl
+deleted_ends s (Err store.Failed) = ends_so step.Failed refl refl
+deleted_ends s (Err store.Memory) = ends_none
+
+-- nothing is done and told
+nothing_ends : (t : Told) (r : Retirement) (x : Stepped) (d : Retiring) → d ≡ decision.Nothing → retire_ended r (Some step.Nothing) ≡ Some x → HasEnded t r x t d
+nothing_ends t r x d is e =
+    let same = same_Some (stepped_to r stage.Ended step.Nothing) x e in
+    record {
+      ended = ap (λ (y : Stepped). y.retire) (sym same);
+      tells = ap (λ (y : Stepped). goes_further y.step) (sym same);
+      nothing = λ says. (is, refl);
+    }
+
+-- there is a node to delete where that is decided
+none_decided : (p : Partition) (es : List IdealEntry) (now : Moment) (keep : ℕ) (s : Sequence) (o : Option ReadNode) → delete_write o ≡ None
+    → retire_by p es now keep (listed_again o) ≡ decision.Delete s → ⊥
+none_decided p es now keep s None none e = cc
+none_decided p es now keep s (Some n) none e = none-some (delete n.seen) (sym none)
+
+done_ends : (t : Told) (r : Retirement) (now : Moment) (lowest : Option ReadNode) (ideal : Seen) (x : Stepped) (d : Retiring) → retiring_at r now lowest ideal ≡ d
+    → (retire_done t r lowest ideal d).stepped ≡ Some x → HasEnded t r x (retire_done t r lowest ideal d).told d
+done_ends t r now lowest ideal x decision.Nothing is e = nothing_ends t r x decision.Nothing refl e
+done_ends t r now lowest ideal x (decision.Remove s) is e =
+    let answer = answer_on t (answer_of (λ w. w.version) (remove_write r s ideal)) in
+    ended_by t r x (retire_done t r lowest ideal (decision.Remove s)).told (decision.Remove s) (removed s answer) (removed_ends s answer) e
+done_ends t r now lowest ideal x (decision.Delete s) is e = by_call (delete_write lowest) refl e
+  where
+    by_call : (o : Option Write) → delete_write lowest ≡ o → (retire_deleted t r (deleted s) o).stepped ≡ Some x
+        → HasEnded t r x (retire_deleted t r (deleted s) o).told (decision.Delete s)
+    by_call None none e = absurd (none_decided r.partition (entries_by ideal.node) now r.keep s lowest none is)
+    by_call (Some call) there e =
+        let answer = answer_on t (answer_of (λ w. tt) call) in
+        ended_by t r x (retire_deleted t r (deleted s) (Some call)).told (decision.Delete s) (deleted s answer) (deleted_ends s answer) e
+
+pub writing_ends : (t : Told) (r : Retirement) (now : Moment) (lowest : Option ReadNode) (ideal : Seen) (x : Stepped) → r.stage ≡ stage.Writing lowest ideal
+    → (retire_stepped t r now).stepped ≡ Some x → HasEnded t r x (retire_stepped t r now).told (retiring_at r now lowest ideal)
+writing_ends t r now lowest ideal x at e =
+    subst (λ (left : Told). HasEnded t r x left (retiring_at r now lowest ideal)) (sym (ap (λ (s : RetireStage). (retire_at t r now s).told) at))
+    (done_ends t r now lowest ideal x (retiring_at r now lowest ideal) refl (sym (ap (λ (s : RetireStage). (retire_at t r now s).stepped) at) ∙ e))
+
+-- ---- no fault is planned
+
+done_plan : (t : Told) (r : Retirement) (lowest : Option ReadNode) (ideal : Seen) (d : Retiring) → t.faults.plan ≡ [] → (retire_done t r lowest ideal d).told.faults.plan ≡ []
+done_plan t r lowest ideal decision.Nothing none = none
+done_plan t r lowest ideal (decision.Remove s) none = plan_met t.faults none
+done_plan t r lowest ideal (decision.Delete s) none = by_call (delete_write lowest)
+  where
+    by_call : (o : Option Write) → (retire_deleted t r (deleted s) o).told.faults.plan ≡ []
+    by_call None = none
+    by_call (Some call) = plan_met t.faults none
+
+pub unplanned_at : (t : Told) (r : Retirement) (now : Moment) (s : RetireStage) → t.faults.plan ≡ [] → (retire_at t r now s).told.faults.plan ≡ []
+unplanned_at t r now stage.Listing none = plan_met t.faults none
+unplanned_at t r now (stage.Reading lowest) none = plan_met t.faults none
+unplanned_at t r now (stage.Writing lowest ideal) none = done_plan t r lowest ideal (retiring_at r now lowest ideal) none
+unplanned_at t r now stage.Ended none = none

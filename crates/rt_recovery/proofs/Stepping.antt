@@ -10,8 +10,8 @@ use Rattle.rt_meta.specs.Lives.{abandoned_of, first_of}
 use Rattle.rt_model.specs.Entries.{entries_by, entries_in, entries_of}
 use Rattle.rt_model.specs.History.{last_write, value_of}
 use Rattle.rt_model.specs.Ideal.{goes_on}
-use Rattle.rt_model.specs.Lawful.{create, create_after, set, written_by, IsLawfulHistory, Write}
-use Rattle.rt_model.specs.Metadata.{listed_write, metadata_of, node_key}
+use Rattle.rt_model.specs.Lawful.{set, written_by, IsLawfulHistory, Write}
+use Rattle.rt_model.specs.Metadata.{metadata_of}
 use Rattle.rt_model.specs.Repair.{last_listed}
 use Rattle.rt_model.specs.Starting.{Starting}
 use Rattle.rt_model.specs.declared.decision.Decision.{Decision}
@@ -33,7 +33,7 @@ use Rattle.rt_repair.specs.ReadNode.{last_follows, last_node, read_by, read_node
 use Rattle.rt_repair.specs.RepairSteps.{abandoned, after_list, after_read, created, gone_by, ideal_set, with_ideal, Stepped}
 use Rattle.rt_repair.specs.Repairing.{abandon_by, abandon_write, added_entries, create_write, decision_at, goes, ideal_write, Repairing}
 use Rattle.rt_repair.specs.Setting.{repair_write, repair_write_at, repair_write_by, writes_after}
-use Rattle.rt_repair.specs.Told.{repair_at, repair_done, repair_ended, repair_set, repair_stepped, Left}
+use Rattle.rt_repair.specs.Told.{repair_at, repair_done, repair_ended, repair_set, repair_stepped}
 use Rattle.rt_repair.specs.declared.read_node.ReadNode.{ReadNode}
 use Rattle.rt_repair.specs.declared.repair.RepairStage.{RepairStage}
 use Rattle.rt_repair.specs.declared.repair.RepairStage.TheVariants as stage
@@ -57,7 +57,7 @@ abbrev pub stepped_to : Repairing → RepairStage → RepairStep → Stepped
 stepped_to r at did = record { repair = goes r at; step = did }
 
 -- without a fault a call is answered
-unfailing : {X : Type 0} (t : Told) (answer : List Seen → Result X StoreRefused) → t.faults.plan ≡ [] → answer_on t answer ≡ answer t.writes
+pub unfailing : {X : Type 0} (t : Told) (answer : List Seen → Result X StoreRefused) → t.faults.plan ≡ [] → answer_on t answer ≡ answer t.writes
 unfailing t answer none = ap (λ (ps : List Bool). answer_under store.Failed (fault_of ps) (answer t.writes)) none
 
 pub lists : (t : Told) (r : Repairing) (now : Moment) → r.stage ≡ stage.Listing → t.faults.plan ≡ []

@@ -1,7 +1,6 @@
 -- In each world of a run no segment's node was written later than now: what writes one writes it with its own moment.
-use Rattle.std.proofs.Common.{◌≡◌, ◌⊎◌, inl, inr, ℕ, zero, suc, ◌≤◌, Bool, List, [], ◌∷◌, ◌++◌, Option, Some, None, Ok, refl, sym, ◌∙◌, ap, subst, arith, length, slice_get}
+use Rattle.std.proofs.Common.{◌≡◌, ◌⊎◌, inl, inr, ℕ, zero, suc, ◌≤◌, Bool, List, [], ◌∷◌, ◌++◌, Option, Some, None, refl, sym, ◌∙◌, ap, subst, arith, length, slice_get}
 use Rattle.std.proofs.lemmas.Bool.{cond_both}
-use Rattle.std.specs.Prelude.{cond}
 use Rattle.rt_base.specs.declared.numbers.ControllerId.{ControllerId}
 use Rattle.rt_base.specs.declared.numbers.Instance.{Instance}
 use Rattle.rt_base.specs.declared.numbers.Moment.{Moment}
@@ -11,7 +10,7 @@ use Rattle.rt_base.specs.declared.numbers.Offset.{Offset}
 use Rattle.rt_broker.specs.Asking.{piece_at, Asking}
 use Rattle.rt_commit.specs.Assignment.{Assigned}
 use Rattle.rt_commit.specs.Calls.{calls_nothing, creates, gets, puts, reads, sets, Call}
-use Rattle.rt_commit.specs.Job.{call_at, done_node, ideal_node, next_node}
+use Rattle.rt_commit.specs.Job.{call_at}
 use Rattle.rt_commit.specs.Told.{store_after}
 use Rattle.rt_commit.specs.declared.job.Job.{Job}
 use Rattle.rt_commit.specs.declared.job.JobStage.{JobStage}
@@ -23,17 +22,14 @@ use Rattle.rt_controller.specs.Requests.{call_of, handle_call, has_machine, has_
 use Rattle.rt_controller.specs.Working.{job_place, work_call, work_call_at, work_call_on, Working}
 use Rattle.rt_controller.specs.declared.handled.Handled.{Handled}
 use Rattle.rt_controller.specs.declared.handled.Handled.TheVariants as handled
-use Rattle.rt_deep.specs.Meaning.{Told as ToldDeep}
 use Rattle.rt_events.specs.declared.event.Event.{Event}
 use Rattle.rt_events.specs.declared.event.Event.TheVariants as event
 use Rattle.rt_events.specs.declared.outcome.Outcome.{Outcome}
 use Rattle.rt_lists.proofs.Members.{Has-append_cases, Has-push_cases}
 use Rattle.rt_lists.specs.Members.{Has}
-use Rattle.rt_meta.specs.Lives.{abandoned_of, first_of}
 use Rattle.rt_model.specs.Entries.{entries_by}
 use Rattle.rt_model.specs.Ideal.{goes_on}
 use Rattle.rt_model.specs.Lawful.{bump, create, create_after, delete, set, written_by, Write}
-use Rattle.rt_model.specs.Setup.{IsSetup}
 use Rattle.rt_model.specs.Starting.{starting_boot, starting_boots, starting_contents, starting_ideal, starting_meta, starting_metas, Starting}
 use Rattle.rt_model.specs.declared.asked.Asked.{Asked}
 use Rattle.rt_model.specs.declared.decision.Decision.{Decision}
@@ -56,7 +52,7 @@ use Rattle.rt_nodes.specs.declared.upkeep.Upkeep.{Upkeep}
 use Rattle.rt_repair.proofs.Setting.{repair_leaves, retire_leaves}
 use Rattle.rt_repair.proofs.Telling.{told_repair, told_retire}
 use Rattle.rt_repair.specs.RepairSteps as of_repair
-use Rattle.rt_repair.specs.Repairing.{abandon_by, abandon_write, added_entries, create_write, decision_at, ideal_write, Repairing}
+use Rattle.rt_repair.specs.Repairing.{abandon_by, abandon_write, added_entries, create_write, decision_at, Repairing}
 use Rattle.rt_repair.specs.RetireSteps as of_retire
 use Rattle.rt_repair.specs.Retirement.{delete_write, retiring_at, Retirement}
 use Rattle.rt_repair.specs.Setting.{repair_write, repair_write_at, repair_write_by, retire_write, retire_write_at, retire_write_by, writes_after}
@@ -86,7 +82,6 @@ use Rattle.rt_store.specs.Answers.{after_call, Leaves}
 use Rattle.rt_store.specs.Calls.{told_on}
 use Rattle.rt_store.specs.Contents.{starting_of}
 use Rattle.rt_store.specs.Meaning.{Told}
-use Rattle.rt_stream.specs.Log.{Log}
 use Rattle.rt_world.specs.Step.{way_of}
 use Rattle.rt_world.specs.Way.{Goes, Way}
 use Rattle.rt_world.specs.Way as way
@@ -436,7 +431,7 @@ turn_before w (happens e o) new all (fits, (cost, due, h)) =
     later_before new.store.writes w.moment new.moment k.moment (before_then w.moment w.store.writes new.store.writes k.wrote all)
 turn_before w passes new all (cost, due, is) = subst IsWrittenBefore (sym is) all
 
-leads_before : (from : State) (turns : List Turn) (to : State) → IsWrittenBefore from → Leads from turns to → IsWrittenBefore to
+pub leads_before : (from : State) (turns : List Turn) (to : State) → IsWrittenBefore from → Leads from turns to → IsWrittenBefore to
 leads_before from [] to all same = subst IsWrittenBefore (sym same) all
 leads_before from (turn ∷ turns) to all (next, t, rest) = leads_before next turns to (turn_before from turn next all t) rest
 

@@ -1,5 +1,5 @@
 -- Retirements of all partitions go on until no segment stands between the two steps of one.
-use Rattle.std.specs.Prelude.{◌≡◌, ◌<◌, ◌≤◌, ℕ, zero, suc, Bool, true, false, [], List, Some, is_some}
+use Rattle.std.specs.Prelude.{◌≡◌, ◌<◌, ◌≤◌, ◌&&◌, ℕ, zero, suc, Bool, true, false, [], List, Some, is_some}
 use Rattle.rt_base.specs.declared.numbers.ControllerId.{ControllerId}
 use Rattle.rt_base.specs.declared.numbers.Moment.{Moment}
 use Rattle.rt_base.specs.declared.numbers.Partition.{Partition}
@@ -32,52 +32,51 @@ goes_further step.Listed = true
 goes_further step.IdealRead = true
 goes_further _ = false
 
--- and what leaves a segment without entries
-abbrev pub is_removal : RetireStep → Bool
-is_removal (step.Removed s version) = true
-is_removal _ = false
+abbrev pub is_nothing : RetireStep → Bool
+is_nothing step.Nothing = true
+is_nothing _ = false
 
 abbrev pub goes_on_by : Outcome → Bool
 goes_on_by (told.Retired did) = goes_further did
 goes_on_by _ = false
 
-abbrev pub removes_by : Outcome → Bool
-removes_by (told.Retired did) = is_removal did
-removes_by _ = false
+abbrev pub nothing_by : Outcome → Bool
+nothing_by (told.Retired did) = is_nothing did
+nothing_by _ = false
 
 abbrev pub Goes : Bool → Bool → Act Bool → Act Bool
-Goes true removed further w = further w
-Goes false removed further w = Gives removed w
+Goes true nothing further w = further w
+Goes false nothing further w = Gives nothing w
 
--- `retain cC P` for so many steps at most, up to the one that ends the retirement; and whether that one took a segment's entries out of
--- the ideal state
+-- `retain cC P` for so many steps at most, up to the one that ends the retirement; and whether that one tells `nothing`
 abbrev pub RetiresIn : ControllerId → Partition → ℕ → Act Bool
 RetiresIn c p zero w = Gives false w
 RetiresIn c p (suc steps) w =
-    Then (Happens (Retain c p)) (λ outcome. Goes (goes_on_by outcome) (removes_by outcome) (RetiresIn c p steps)) w
+    Then (Happens (Retain c p)) (λ outcome. Goes (goes_on_by outcome) (nothing_by outcome) (RetiresIn c p steps)) w
 
 -- ---- a partition
 
--- the segment's node is deleted by another one
-abbrev pub IfRemoved : ControllerId → Partition → Bool → Act Bool
-IfRemoved c p true w = RetiresIn c p 3 w
-IfRemoved c p false w = Gives false w
+abbrev pub Until : Act Bool → Bool → Act Bool
+Until further true w = Gives true w
+Until further false w = further w
 
-abbrev pub RetireWhole : ControllerId → Partition → Act Bool
-RetireWhole c p w = Then (RetiresIn c p 3) (IfRemoved c p) w
+-- so many retirements at most, up to the first that tells `nothing`
+abbrev pub RetiresUntil : ControllerId → Partition → ℕ → Act Bool
+RetiresUntil c p zero w = Gives false w
+RetiresUntil c p (suc times) w = Then (RetiresIn c p 3) (Until (RetiresUntil c p times)) w
 
--- what is under way ends first
-abbrev pub RetireBoth : ControllerId → Partition → Act Bool
-RetireBoth c p w = Then (RetiresIn c p 3) (λ ended. RetireWhole c p) w
+-- what is under way ends first. Without a retention no segment is retired
+abbrev pub RetiresOf : ControllerId → ℕ → Partition → Act Bool
+RetiresOf c times p w =
+    Choose (is_some w.setup.retention) (Then (RetiresIn c p 3) (λ ended. RetiresUntil c p times) w) (Gives true w)
 
--- where segments are kept for some time alone
-abbrev pub RetireTurn : ControllerId → ℕ → Unit {0} → Act (Unit {0})
-RetireTurn c at done w =
-    Choose (is_some w.setup.retention) (Then (RetireBoth c (record { 0 = at })) (λ deleted. Gives tt) w) (Gives tt w)
+-- it is noted whether each partition came to `nothing`
+abbrev pub RetireTurn : ControllerId → ℕ → ℕ → Bool → Act Bool
+RetireTurn c times at noted w = Then (RetiresOf c times (record { 0 = at })) (λ nothing. Gives (noted && nothing)) w
 
 -- all partitions
-abbrev pub Retires : ControllerId → Act (Unit {0})
-Retires c w = EachFrom (RetireTurn c) 0 w.setup.partitions tt w
+abbrev pub Retires : ControllerId → ℕ → Act Bool
+Retires c times w = EachFrom (RetireTurn c times) 0 w.setup.partitions true w
 
 -- ---- what comes of it
 

@@ -22,7 +22,7 @@ ghost use Rattle.rt_recovery.specs.GoingOn.{AllGoOn};
 ghost use Rattle.rt_recovery.specs.Mending.{HasMended, Mends};
 ghost use Rattle.rt_recovery.specs.Often.{SettlesOften};
 ghost use Rattle.rt_recovery.specs.Restarting.{IsStartedAnew, StartsAnew};
-ghost use Rattle.rt_recovery.specs.Retiring.{LeavesOldOnes};
+ghost use Rattle.rt_recovery.specs.Retiring.{HasRetired, LeavesOldOnes, Retires};
 
 /// From any world of a run on that was started anew, `settle` answers `settled` as soon as it has more rounds than `rounds_in_all`. Every
 /// server is up without a replica and no controller has a machine, one that is up believes that it leads, no fault of a store is planned,
@@ -84,4 +84,14 @@ pub fn mending_leaves_no_need_of_repair()
 /// a retirement: they were kept as long as the setup says.
 pub fn segments_without_entries_are_old()
     ensures { (setup : Setup) (turns : List Turn) (w : State) → IsSetup setup → Runs setup turns w → LeavesOldOnes w }
+{}
+
+/// What comes of a script that retires old segments of all partitions, one after the other, at a controller that is up: for each of them
+/// what is under way ends, and then retirements come up to the first that tells `nothing`. Where each partition came to that, from any
+/// world of a run on in which no fault of the store is planned, no segment is between the two steps of its retirement then, and partitions
+/// that needed no repair need none. The nodes, the log and the deep store are as they were.
+pub fn retirements_up_to_nothing_leave_none_half_done()
+    ensures { (setup : Setup) (turns : List Turn) (w : State) (v : Reached) (c : ControllerId) (times : ℕ) → IsSetup setup
+        → Runs setup turns w → w.store.faults.plan ≡ [] → Retires c times w v (Ok true)
+        → HasRetired w v.world × ((more : List Turn) × Leads w more v.world) }
 {}
