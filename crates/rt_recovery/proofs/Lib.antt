@@ -10,6 +10,7 @@ pub mod Forgetting
 pub mod Full
 pub mod GoingOn
 pub mod Handling
+pub mod Healing
 pub mod Leaving
 pub mod Mending
 pub mod Opening

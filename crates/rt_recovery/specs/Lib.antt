@@ -1,6 +1,7 @@
 pub mod ByRows
 pub mod Fresh
 pub mod GoingOn
+pub mod Healing
 pub mod Mending
 pub mod Often
 pub mod Restarting
