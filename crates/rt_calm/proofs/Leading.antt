@@ -258,10 +258,11 @@ module _ (w : State) (k : IsLeading w) where
       by_place : (o : Option ℕ) → position leads cs ≡ o → (c : ControllerId) × (then_at (either o (position stands cs)) ≡ Some c)
       by_place None none = absurd (none_leads none)
       by_place (Some place) first =
-          let there = position-Some leads cs place k.node first in
-          (record { 0 = place },
-          cond-true (nat_le place LAST_NUMBER) (Some (record { 0 = place })) None
-          (le-leb place LAST_NUMBER (omega (arith, there.0, safe.safe.all_controllers, safe.safe.setup.few_controllers))))
+          let there = position-Some leads cs place k.node first in (
+            record { 0 = place },
+            cond-true (nat_le place LAST_NUMBER) (Some (record { 0 = place })) None
+                (le-leb place LAST_NUMBER (omega (arith, there.0, safe.safe.all_controllers, safe.safe.setup.few_controllers))),
+          )
 
   -- and that one leads
   pub leader_leads : (c : ControllerId) → leader_in w ≡ Some c → leads_in (slice_get cs c.0) ≡ true

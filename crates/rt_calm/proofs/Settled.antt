@@ -176,7 +176,7 @@ module _ (setup : Setup) (is : IsSetup setup) where
       (behind : (w m : State) (b l u : Reached) → (IsLeading w → IsLeading m) → u ≡ after b.turns l → Off m l → Off w u)
       (most : (w : State) → IsSteady w → count w ≤ weight * most_ahead w)
       (turns : (w : State) (v : Reached) (told : Bool) → IsReady w → Keeps w → Round paused w v (Ok told)
-          → Off w v ⊎ (HasTurned count w v.world told × Keeps v.world)) where
+      → Off w v ⊎ (HasTurned count w v.world told × Keeps v.world)) where
     abbrev bound : State → ℕ
     bound w = weight * yet_of w
 
