@@ -1,16 +1,13 @@
 -- The replicas' part of a round from a fresh start on. Less is left of what lies ahead and may lie ahead again, or the world stays the same:
 -- nothing happened, or replicas were told to hold while their segments have machines. But such a segment has a committer, whose own visit
 -- doesn't leave the world so.
-use Rattle.std.proofs.Common.{◌≡◌, ◌⊎◌, inl, inr, ℕ, zero, suc, ◌+◌, ◌<◌, ◌≤◌, Bool, true, false, List, [], ◌∷◌, Option, Some, None, Ok, refl, sym, ◌∙◌, ap, subst, arith, slice_get}
+use Rattle.std.proofs.Common.{◌≡◌, ◌⊎◌, inl, inr, ℕ, zero, suc, ◌+◌, ◌<◌, ◌≤◌, Bool, true, false, List, [], ◌∷◌, Option, Some, None, Ok, refl, sym, ◌∙◌, ap, subst, arith}
 use Rattle.std.proofs.lemmas.Bool.{cases_lt, false≢true, true≢false}
 use Rattle.std.proofs.lemmas.Option.{slice_get_within}
-use Rattle.rt_base.specs.declared.gate.NodeId.TheVariants.{Server}
 use Rattle.rt_base.specs.declared.numbers.Instance.{Instance}
 use Rattle.rt_base.specs.declared.numbers.Offset.{Offset}
 use Rattle.rt_consumer.specs.Requests.{builds_at, builds_in}
 use Rattle.rt_consumer.specs.declared.consumer.Consumer.{Consumer}
-use Rattle.rt_consumer.specs.declared.phase.Phase.{Phase}
-use Rattle.rt_consumer.specs.declared.phase.Phase.TheVariants as phase
 use Rattle.rt_consumer.specs.declared.stage.Stage.{Stage}
 use Rattle.rt_consumer.specs.declared.stage.Stage.TheVariants.{Building, CatchingUp, ConsumingToOnline, Ending, Holding, InitialConsuming, Retaining, Starting, Uploading}
 use Rattle.rt_consumer.specs.declared.unsealed.Unsealed.{Unsealed}
@@ -24,18 +21,16 @@ use Rattle.rt_model.specs.Completion.{Completion}
 use Rattle.rt_model.specs.declared.setup.Setup.{Setup}
 use Rattle.rt_nodes.specs.declared.server_node.ServerNode.{ServerNode}
 use Rattle.rt_server.specs.Due.{held_of, segments_where}
-use Rattle.rt_server.specs.Table.{replica_at, replica_of, Segment}
+use Rattle.rt_server.specs.Table.{replica_at, Segment}
 use Rattle.rt_state.specs.Finding.{is_server_up, is_up}
-use Rattle.rt_state.specs.IsSafeWorld.{IsSafeWorld}
 use Rattle.rt_state.specs.declared.state.State.{State}
 use Rattle.rt_world.specs.Reading.{held_in, listed_by}
 use Rattle.rt_heal.proofs.Quiet.{then_parts, told_same, IsThen}
-use Rattle.rt_calm.specs.Again.{ahead_still, asked_machines, awaits, machine_of, IsLeading}
-use Rattle.rt_calm.specs.Ahead.{ahead_in_world}
-use Rattle.rt_calm.proofs.Keeping.{keeps_still, keeps_then, middle_same, IsGoing, KeepsOn}
+use Rattle.rt_calm.specs.Again.{ahead_still, asked_machines, awaits, machine_of}
+use Rattle.rt_calm.proofs.Keeping.{keeps_still, keeps_then, middle_same, KeepsOn}
 use Rattle.rt_calm.proofs.Rounds.{build_steps, consume_steps, exchange_goes, MayStep}
 use Rattle.rt_calm.proofs.Settling.{still_settling, IsSettling}
-use Rattle.rt_recovery.specs.ByRows.{IsByRows, IsMachineByRows}
+use Rattle.rt_recovery.specs.ByRows.{IsByRows}
 use Rattle.rt_recovery.specs.GoingOn.{AllGoOn}
 use Rattle.rt_recovery.specs.Same.{IsCommitter, IsSame}
 use Rattle.rt_recovery.proofs.Entries.{entry_found}
