@@ -44,7 +44,7 @@ use Rattle.rt_state.specs.declared.state.State.{State}
 use Rattle.rt_store.specs.Meaning.{Told}
 use Rattle.rt_stream.specs.Log.{messages_of, Log}
 use Rattle.rt_world.specs.Reading.{held_in, is_ready_at, leader_in}
-use Rattle.rt_world.specs.Step.{Steps}
+use Rattle.rt_world.specs.Step.{due_of, Steps}
 use Rattle.rt_heal.specs.AtRest.{AreUp}
 use Rattle.rt_heal.specs.Calm.{AreAllCalm}
 use Rattle.rt_heal.proofs.Calming.{servers_calmed, HasCalmed}
@@ -52,15 +52,16 @@ use Rattle.rt_heal.proofs.Dropped.{runs_told, IsToldRightly}
 use Rattle.rt_heal.proofs.LessRounds.{servers_rest, states, HasRested, IsSteady}
 use Rattle.rt_heal.proofs.LessWorld.{builds_less, builds_made, consumes_less, consumes_made, LeavesLess}
 use Rattle.rt_heal.proofs.Most.{asked_sum, calm_sum, own_segment, servers_sum, table_sum}
+use Rattle.rt_heal.proofs.Nothing.{nothing}
 use Rattle.rt_heal.proofs.Quiet.{then_parts, told_not, told_same, IsThen}
 use Rattle.rt_heal.proofs.Seeing.{same_leader}
-use Rattle.rt_calm.specs.Again.{again_servers, again_table, ahead_still, asked_machines, machine_of, machines_by, stray_again}
+use Rattle.rt_calm.specs.Again.{again_servers, again_table, ahead_still, asked_machines, machine_of, machines_by, stray_again, IsLeading}
 use Rattle.rt_calm.specs.Ahead.{ahead_at, ahead_entry, ahead_in, ahead_in_world, ahead_of, ahead_servers, ahead_table, most_ahead, most_ahead_of, stop_ahead}
 use Rattle.rt_calm.specs.Off.{IsPutOff, IsSuccess, PutsOff, Succeeds, Waits}
 use Rattle.rt_calm.specs.Spent.{most_yet, writes_left, Spends}
-use Rattle.rt_calm.proofs.Exchanged.{exchanged_before, exchanged_behind, finishes, told_behind, told_first, waits_behind, waits_first, HasExchanged, OffOrLess, Wrote}
+use Rattle.rt_calm.proofs.Exchanged.{exchanged_before, exchanged_behind, finishes, told_behind, told_first, waits_behind, waits_first, HasExchanged, HasFinished, OffOrLess, Wrote}
 use Rattle.rt_calm.proofs.Keeping.{can_follow, keeps_still, keeps_then, middle_same, step_keeps, IsGoing, KeepsOn}
-use Rattle.rt_calm.proofs.Leading.{leads_still}
+use Rattle.rt_calm.proofs.Leading.{leader_there, leads_still}
 use Rattle.rt_calm.proofs.Machines.{still_turned}
 use Rattle.rt_calm.proofs.Serving.{attempt_does, servers_serve, HasServed}
 use Rattle.rt_calm.proofs.Settling.{settling_in_run, still_settling, IsSettling}
@@ -372,33 +373,72 @@ exchanged_goes w busy v told x =
     by_still (inl waits) = inl waits
     by_still (inr less) = inr (lessens_by ahead_still w busy v.world told less)
 
-requests_go : (i : Instance) (s : SegmentAt) (c : ControllerId) (busy : Bool) (w : State) (v : Reached) (told : Bool) → IsGoing w → leader_in w ≡ Some c
-    → Requests i s c busy w v (Ok told) → HasGone w busy v told
-requests_go i s c busy w v told k led t = by_told t.between t.told t.last t.came.by t.further t.whole
+-- a request was sent and answered, and the answer taken
+pub record HasMade (w : State) (i : Instance) (p : Partition) (q : Sequence) (v : Reached) : Type 0 where
+  pub controller : ControllerId
+  pub led : leader_in w ≡ Some controller
+  pub sent : State
+  pub outcome : Outcome
+  pub steps : Steps w (Report i p q) sent (Ok outcome)
+  pub last : Reached
+  pub fin : HasFinished w sent i p q controller outcome last
+  pub world : v.world ≡ last.world
+  pub exchanged : HasExchanged w v
+
+-- or there was nothing to ask
+abbrev pub HasRequested : State → Instance → SegmentAt → Bool → Reached → Bool → Type 0
+HasRequested w i s busy v told = ((v.world ≡ w) × (told ≡ busy) × (due_of w (Report i s.0 s.1) ≡ nothing)) ⊎ HasMade w i s.0 s.1 v
+
+requested : (i : Instance) (s : SegmentAt) (c : ControllerId) (busy : Bool) (w : State) (v : Reached) (told : Bool) → IsGoing w → leader_in w ≡ Some c
+    → Requests i s c busy w v (Ok told) → HasRequested w i s busy v told
+requested i s c busy w v told k led t = by_told t.between t.told t.last t.came.by t.further t.whole
   where
     by_told : (b : Reached) (r : Result Outcome Refusal) (l : Reached) → HappensBy (Report i s.0 s.1) w b r → AfterRequest c busy r b.world l (Ok told)
-        → v ≡ after b.turns l → HasGone w busy v told
+        → v ≡ after b.turns l → HasRequested w i s busy v told
     by_told b (Ok o) l by further whole =
         let f = then_parts (AfterReport c o) (λ exchanged. Gives true) b.world l told further in
-        let x = (finishes w b.world i s.0 s.1 c o f.between f.told k led by.0 f.came).taken.exchanged in
+        let fin = finishes w b.world i s.0 s.1 c o f.between f.told k led by.0 f.came in
         let end : l ≡ after f.between.turns (stays f.between.world) = f.whole ∙ ap (after f.between.turns) f.further.0 in
-        exchanged_goes w busy v told (exchanged_behind w b l v whole (exchanged_before w f.between l end x))
+        inr (record {
+          controller = c;
+          led = led;
+          sent = b.world;
+          outcome = o;
+          steps = by.0;
+          last = f.between;
+          fin = fin;
+          world = ap (λ (z : Reached). z.world) whole ∙ ap (λ (z : Reached). z.world) end;
+          exchanged = exchanged_behind w b l v whole (exchanged_before w f.between l end fin.taken.exchanged);
+        })
     by_told b (Err NothingToDo) l by further whole =
-        let end : v.world ≡ w =
-        ap (λ (z : Reached). z.world) whole ∙ ap (λ (z : Reached). z.world) further.0 ∙ ap (λ (z : Reached). z.world) by.1 in
-        nothing_went w busy v told k end (told_same told busy further.1)
+        inl (
+          ap (λ (z : Reached). z.world) whole ∙ ap (λ (z : Reached). z.world) further.0 ∙ ap (λ (z : Reached). z.world) by.1,
+          told_same told busy further.1,
+          by.0,
+        )
     by_told b (Err NoSuchMessage) l by further whole = absurd (told_not told NoSuchMessage further.1)
     by_told b (Err NoSuchNode) l by further whole = absurd (told_not told NoSuchNode further.1)
     by_told b (Err NodeDown) l by further whole = absurd (told_not told NodeDown further.1)
     by_told b (Err (Limit which)) l by further whole = absurd (told_not told (Limit which) further.1)
     by_told b (Err Memory) l by further whole = absurd (told_not told Memory further.1)
 
+-- where a controller leads, replicas ask one
+pub exchange_requests : (i : Instance) (s : SegmentAt) (busy : Bool) (w : State) (v : Reached) (told : Bool) → IsGoing w → IsLeading w
+    → ExchangeTurn i s busy w v (Ok told) → HasRequested w i s busy v told
+exchange_requests i s busy w v told k leading h =
+    let there = leader_there w leading k.safe in
+    requested i s there.0 busy w v told k there.1 (subst (λ (o : Option ControllerId). WithLeader i s o busy w v (Ok told)) there.1 h)
+
 pub exchange_goes : (i : Instance) (s : SegmentAt) → Goes (ExchangeTurn i s)
 exchange_goes i s busy w v told k h = by_leader (leader_in w) refl h
   where
     by_leader : (o : Option ControllerId) → leader_in w ≡ o → WithLeader i s o busy w v (Ok told) → HasGone w busy v told
     by_leader None led g = rests w busy v told k g.0 (told_same told busy g.1)
-    by_leader (Some c) led g = requests_go i s c busy w v told k led g
+    by_leader (Some c) led g = by_way (requested i s c busy w v told k led g)
+      where
+        by_way : HasRequested w i s busy v told → HasGone w busy v told
+        by_way (inl (same, e, due)) = nothing_went w busy v told k same e
+        by_way (inr m) = exchanged_goes w busy v told m.exchanged
 
 -- ---- replicas
 

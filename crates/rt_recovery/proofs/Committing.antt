@@ -1,10 +1,9 @@
 -- What the job of a commit writes: it makes its segment Done, and leaves the nodes of all other segments, and who is to consume those.
-use Rattle.std.proofs.Common.{◌≡◌, ◌⊎◌, inl, inr, ◌==◌, Bool, true, false, cond, List, [], ◌∷◌, ◌++◌, map, ℕ, Some, None, Ok, refl, sym, ◌∙◌, ap, subst}
+use Rattle.std.proofs.Common.{◌≡◌, ◌⊎◌, inl, inr, ◌==◌, Bool, true, false, cond, List, [], ◌∷◌, ◌++◌, map, ℕ, Some, Ok, refl, sym, ◌∙◌, ap, subst}
 use Rattle.std.proofs.lemmas.Bool.{and_parts, eqb-true, false≢true}
 use Rattle.std.proofs.lemmas.Option.{none-some, same_Some}
 use Rattle.rt_base.specs.declared.numbers.Instance.{Instance}
 use Rattle.rt_base.specs.declared.numbers.Moment.{Moment}
-use Rattle.rt_base.specs.declared.numbers.Offset.{Offset}
 use Rattle.rt_base.specs.declared.numbers.Partition.{Partition}
 use Rattle.rt_base.specs.declared.numbers.Sequence.{Sequence}
 use Rattle.rt_commit.specs.Assignment.{replicas_in, Assigned}
@@ -24,7 +23,6 @@ use Rattle.rt_controller.specs.Steps.{Works}
 use Rattle.rt_controller.specs.Working.{work_call, work_call_at, work_call_on, Working}
 use Rattle.rt_controller.proofs.Telling.{told_work}
 use Rattle.rt_deep.specs.Memory.{means as deep_means}
-use Rattle.rt_lists.specs.Members.{Has}
 use Rattle.rt_lists.proofs.Lists.{All-found}
 use Rattle.rt_lists.proofs.Members.{Has-append_left, Has-push}
 use Rattle.rt_model.specs.Entries.{entries_by, entries_in, entries_of}

@@ -34,8 +34,6 @@ use Rattle.rt_deep.specs.Memory.{means as deep_means}
 use Rattle.rt_events.specs.declared.event.Event.TheVariants as event
 use Rattle.rt_events.specs.declared.outcome.Outcome.{Outcome}
 use Rattle.rt_events.specs.declared.refusal.Refusal.TheVariants.{Limit}
-use Rattle.rt_heal.proofs.Quiet.{then_parts, told_not, told_same, IsThen}
-use Rattle.rt_heal.proofs.Sequences.{few_contents, few_segments}
 use Rattle.rt_lists.specs.Members.{Has}
 use Rattle.rt_lists.proofs.Lists.{contains_found, All-found}
 use Rattle.rt_lists.proofs.Members.{Has-place}
@@ -96,6 +94,8 @@ use Rattle.rt_unrefused.proofs.JobSteps.{is_open_job, over, own_step, OwnStep, S
 use Rattle.rt_world.specs.Reading.{events_left_in}
 use Rattle.rt_world.specs.Step.{Steps}
 use Rattle.rt_world.proofs.KeepsMessages.{request_sent}
+use Rattle.rt_heal.proofs.Quiet.{then_parts, told_not, told_same, IsThen}
+use Rattle.rt_heal.proofs.Sequences.{few_contents, few_segments}
 use Rattle.rt_calm.specs.Again.{machine_of, machines_in}
 use Rattle.rt_calm.specs.Waiting.{WaitsFor}
 use Rattle.rt_calm.proofs.Awaited.{unless_ended}
@@ -191,9 +191,78 @@ few_numbers w q safe right = by_order (cases_lt q.sequence.0 (sequences_of w.sto
         let life = Has-writes_of w.store.writes begun.0 (key.Meta q.partition (record { 0 = q.sequence.0 })) begun.1 begun.2 in
         absurd (subst (λ (ws : List Seen). Has ws begun.0) (order.ahead q.sequence.0 le) life)
 
-module _ (u : State) (m : ℕ) (c : ControllerId) (q : Request) (going : IsGoing u) (asks : request_at u m ≡ Some q)
-    (leads : leads_in (slice_get u.controllers c.0) ≡ true) (unplanned : u.store.faults.plan ≡ []) (fetches : u.deep.faults.plan ≡ [])
-    (b : Reached) (r : Replied) (came : Handles c m u b (Ok r)) where
+-- a request was delivered to a controller that leads, while no fault is planned, and answered so
+pub record IsHandled (u : State) (c : ControllerId) (q : Request) (b : Reached) (r : Replied) : Type 0 where
+  pub message : ℕ
+  pub going : IsGoing u
+  pub asks : request_at u message ≡ Some q
+  pub leads : leads_in (slice_get u.controllers c.0) ≡ true
+  pub unplanned : u.store.faults.plan ≡ []
+  pub fetches : u.deep.faults.plan ≡ []
+  pub came : Handles c message u b (Ok r)
+
+-- ---- what comes of it
+
+module _ (u : State) (c : ControllerId) (q : Request) (b : Reached) (r : Replied) where
+  abbrev pub Turns : State → Option Completion → Option Completion → Type 0
+  Turns z from left = IsTurned (machines_at u c) (machines_at z c) q.partition q.sequence from left
+
+  -- it is answered so, and nothing was written; the machine was this before, and is that
+  pub record IsAnsweredBy (from left : Option Completion) (s : ReplyStatus) : Type 0 where
+    pub status : r.status ≡ s
+    pub turned : Turns b.world from left
+    pub moment : b.world.moment ≡ u.moment
+    pub written : b.world.store.writes ≡ u.store.writes
+
+  -- a machine is made that waits for the sender, which is told to commit
+  pub record IsPicked : Type 0 where
+    pub made : Completion
+    pub answered : IsAnsweredBy None (Some made) (status.Commit q.offset)
+    pub state : made.state ≡ machine.CommitterNotified
+    pub winner : made.winner ≡ q.number.instance
+    pub offset : made.offset ≡ q.offset
+    pub early : is_late made u.moment ≡ false
+    pub write : Seen
+    pub there : value_of u.store.writes (key.Meta q.partition q.sequence) ≡ Some write
+    pub meta : SegMeta
+    pub is : write.node ≡ node.Meta meta
+    pub opened : meta.status ≡ InProgress
+
+  -- the segment isn't in progress
+  abbrev pub IsOver : Type 0
+  IsOver = (s : ReplyStatus) × IsFinishedTold s × IsAnsweredBy None None s
+
+  -- a commit's job has ended, and its machine is gone
+  pub record IsEndedBy (from : Option Completion) (z : State) : Type 0 where
+    pub status : FailedOrSuccess r.status
+    pub turned : Turns z from None
+    pub moment : z.moment ≡ u.moment
+    pub committed : HasCommitted u.store.writes z.store.writes q.partition q.sequence
+
+  -- it is under way
+  record IsUnderWay (from : Option Completion) (z : State) (j : ℕ) : Type 0 where
+    asking : IsAsking u z
+    job : IsOpenFor z c j q
+    left : Option Completion
+    turned : Turns z from left
+    moment : z.moment ≡ u.moment
+    committed : HasCommitted u.store.writes z.store.writes q.partition q.sequence
+
+-- ---- how it comes
+
+module _ (u : State) (c : ControllerId) (q : Request) (b : Reached) (r : Replied) (k : IsHandled u c q b r) where
+  abbrev Turned : State → Option Completion → Option Completion → Type 0
+  Turned z from left = Turns u c q b r z from left
+
+  abbrev Answered : Option Completion → Option Completion → ReplyStatus → Type 0
+  Answered from left s = IsAnsweredBy u c q b r from left s
+
+  abbrev Ended : Option Completion → State → Type 0
+  Ended from z = IsEndedBy u c q b r from z
+
+  abbrev UnderWay : Option Completion → State → ℕ → Type 0
+  UnderWay from z j = IsUnderWay u c q b r from z j
+
   abbrev h : List Seen
   h = u.store.writes
 
@@ -201,18 +270,18 @@ module _ (u : State) (m : ℕ) (c : ControllerId) (q : Request) (going : IsGoing
   i = q.number.instance
 
   safe : IsSafeWorld u
-  safe = going.safe
+  safe = k.going.safe
 
   right : IsRequest u.setup (past_of u) q
-  right = safe.safe.past.requests q (request_sent u m q asks)
+  right = safe.safe.past.requests q (request_sent u k.message q k.asks)
 
-  abbrev t : IsThen (Happens (event.Deliver m c)) (λ outcome. AfterDelivery c (delivered_in outcome)) u b r
-  t = then_parts (Happens (event.Deliver m c)) (λ outcome. AfterDelivery c (delivered_in outcome)) u b r came
+  abbrev t : IsThen (Happens (event.Deliver k.message c)) (λ outcome. AfterDelivery c (delivered_in outcome)) u b r
+  t = then_parts (Happens (event.Deliver k.message c)) (λ outcome. AfterDelivery c (delivered_in outcome)) u b r k.came
 
   abbrev d : State
   d = t.between.world
 
-  steps : Steps u (event.Deliver m c) d (Ok t.told)
+  steps : Steps u (event.Deliver k.message c) d (Ok t.told)
   steps = t.came.by.0
 
   -- ---- the delivery
@@ -228,10 +297,10 @@ module _ (u : State) (m : ℕ) (c : ControllerId) (q : Request) (going : IsGoing
     told : delivered_in t.told ≡ delivered_by (length u.sent) given
     machines : machines_at d c ≡ new.machines
 
-  has_delivered : HasDelivered
-  has_delivered =
+  did : HasDelivered
+  did =
       by_node (slice_get u.controllers c.0) refl
-      (subst (λ (x : Option Request). DeliversAt x (slice_get u.controllers c.0) u c steps.0 (d, t.told)) asks steps.2)
+      (subst (λ (x : Option Request). DeliversAt x (slice_get u.controllers c.0) u c steps.0 (d, t.told)) k.asks steps.2)
     where
       told_by : (z : State) (given : Handled) → z.sent ≡ u.sent → (d, t.told) ≡ handed z steps.0 given
           → delivered_in t.told ≡ delivered_by (length u.sent) given
@@ -257,31 +326,28 @@ module _ (u : State) (m : ℕ) (c : ControllerId) (q : Request) (going : IsGoing
                 ∙ ap machines_in (own_slot u.controllers c.0 n (record n { controller = new }) at);
           }
 
-  k : HasDelivered
-  k = has_delivered
+  over_before : IsControllerOver u.setup (past_of u) did.node.controller
+  over_before = (safe.safe.controllers c.0 did.node did.at).over
 
-  over_before : IsControllerOver u.setup (past_of u) k.node.controller
-  over_before = (safe.safe.controllers c.0 k.node k.at).over
+  it_leads : did.node.controller.leads ≡ true
+  it_leads = sym (ap leads_in did.at) ∙ k.leads
 
-  it_leads : k.node.controller.leads ≡ true
-  it_leads = sym (ap leads_in k.at) ∙ leads
-
-  possible : IsPossiblyHandled k.given
+  possible : IsPossiblyHandled did.given
   possible =
-      (handles_over u.setup (past_of u) u.store k.store u.deep k.deep k.node.controller k.new q u.moment k.given safe.safe.setup safe.safe.past (few_writes u safe) refl refl
-      (request_sent u m q asks) over_before k.handles).possible
+      (handles_over u.setup (past_of u) u.store did.store u.deep did.deep did.node.controller did.new q u.moment did.given safe.safe.setup safe.safe.past (few_writes u safe) refl refl
+      (request_sent u k.message q k.asks) over_before did.handles).possible
 
-  before : machines_at u c ≡ k.node.controller.machines
-  before = ap machines_in k.at
+  before : machines_at u c ≡ did.node.controller.machines
+  before = ap machines_in did.at
 
-  turned_so : (m n : Option Completion) → IsTurned k.node.controller.machines k.new.machines q.partition q.sequence m n
-      → IsTurned (machines_at u c) (machines_at d c) q.partition q.sequence m n
+  turned_so : (m n : Option Completion) → IsTurned did.node.controller.machines did.new.machines q.partition q.sequence m n
+      → Turned d m n
   turned_so m n is =
       subst (λ (ms : List SegmentMachine). IsTurned ms (machines_at d c) q.partition q.sequence m n) (sym before)
-      (subst (λ (ns : List SegmentMachine). IsTurned k.node.controller.machines ns q.partition q.sequence m n) (sym k.machines) is)
+      (subst (λ (ns : List SegmentMachine). IsTurned did.node.controller.machines ns q.partition q.sequence m n) (sym did.machines) is)
 
-  told_so : (led : Result JobStage ReplyStatus) → GivesTo led (delivered_by (length u.sent) k.given) → GivesTo led (delivered_in t.told)
-  told_so led so = subst (GivesTo led) (sym k.told) so
+  told_so : (led : Result JobStage ReplyStatus) → GivesTo led (delivered_by (length u.sent) did.given) → GivesTo led (delivered_in t.told)
+  told_so led so = subst (GivesTo led) (sym did.told) so
 
   -- ---- past the segment's start
 
@@ -291,13 +357,13 @@ module _ (u : State) (m : ℕ) (c : ControllerId) (q : Request) (going : IsGoing
   machine_beyond : (g : Completion) (what : Ask) → machine_of (machines_at u c) q.partition q.sequence ≡ Some g → ask_in q.offset q.kind ≡ Some what
       → IsBeyond (node.Meta g.seen.meta) (asked_offset what)
   machine_beyond g what has asked =
-      let x = found_machine k.node.controller.machines q.partition q.sequence g (ap (λ (ms : List SegmentMachine). machine_of ms q.partition q.sequence) (sym before) ∙ has) in
+      let x = found_machine did.node.controller.machines q.partition q.sequence g (ap (λ (ms : List SegmentMachine). machine_of ms q.partition q.sequence) (sym before) ∙ has) in
       let parts = and_parts (x.0.partition.0 == q.partition.0) (x.0.sequence.0 == q.sequence.0) x.2 in
       let of_p = same_partition x.0.partition q.partition (eqb-true x.0.partition.0 q.partition.0 parts.0) in
       let of_q = same_sequence x.0.sequence q.sequence (eqb-true x.0.sequence.0 q.sequence.0 parts.1) in
-      let place = Has-place k.node.controller.machines x.0 x.1 in
+      let place = Has-place did.node.controller.machines x.0 x.1 in
       let reads : IsRead h x.0.partition x.0.sequence (machine_write x.0) =
-      (All-found (IsMachineOver u.setup (past_of u)) k.node.controller.machines place.0 x.0 over_before.machines place.1).machine.read in
+      (All-found (IsMachineOver u.setup (past_of u)) did.node.controller.machines place.0 x.0 over_before.machines place.1).machine.read in
       let own =
       subst (λ (s : Sequence). IsRead h q.partition s (record { key = key.Meta q.partition s; version = x.0.machine.seen.version; node = node.Meta x.0.machine.seen.meta })) of_q
       (subst (λ (p : Partition). IsRead h p x.0.sequence (record { key = key.Meta p x.0.sequence; version = x.0.machine.seen.version; node = node.Meta x.0.machine.seen.meta })) of_p reads) in
@@ -308,61 +374,54 @@ module _ (u : State) (m : ℕ) (c : ControllerId) (q : Request) (going : IsGoing
 
   -- a machine has reacted
   record HasReactedTo (what : Ask) (from : Option Completion) (g : Completion) : Type 0 where
-    turned : IsTurned (machines_at u c) (machines_at d c) q.partition q.sequence from (unless_ended (react g i what u.moment).1)
+    turned : Turned d from (unless_ended (react g i what u.moment).1)
     gives : GivesTo (leads_to (named_file q g.seen) (react g i what u.moment).0) (delivered_in t.told)
 
-  reacted_to : (what : Ask) (from : Option Completion) (g : Completion) → HasReacted k.node.controller.machines k.new.machines q u.moment what from g k.given
+  reacted_to : (what : Ask) (from : Option Completion) (g : Completion) → HasReacted did.node.controller.machines did.new.machines q u.moment what from g did.given
       → HasReactedTo what from g
   reacted_to what from g x =
       let led = leads_to (named_file q g.seen) (react g i what u.moment).0 in
       record {
         turned = turned_so from (unless_ended (react g i what u.moment).1) x.turned;
-        gives = told_so led (gives_to (length u.sent) led k.given x.gives);
+        gives = told_so led (gives_to (length u.sent) led did.given x.gives);
       }
 
   its_machine_reacts : (g : Completion) (what : Ask) → machine_of (machines_at u c) q.partition q.sequence ≡ Some g → ask_in q.offset q.kind ≡ Some what
       → HasReactedTo what (Some g) g
   its_machine_reacts g what has asked =
       reacted_to what (Some g) g
-      (machine_reacts u.store u.deep k.node.controller q u.moment it_leads (few_numbers u q safe right) over_before.one k.store k.deep k.new k.given k.handles possible g
+      (machine_reacts u.store u.deep did.node.controller q u.moment it_leads (few_numbers u q safe right) over_before.one did.store did.deep did.new did.given did.handles possible g
       (ap (λ (ms : List SegmentMachine). machine_of ms q.partition q.sequence) (sym before) ∙ has) what asked)
 
   -- ---- an answer at once
 
-  -- it is answered so, and nothing was written; the machine was this before, and is that
-  pub record IsAnsweredBy (from left : Option Completion) (s : ReplyStatus) : Type 0 where
-    pub status : r.status ≡ s
-    pub turned : IsTurned (machines_at u c) (machines_at b.world c) q.partition q.sequence from left
-    pub moment : b.world.moment ≡ u.moment
-    pub written : b.world.store.writes ≡ u.store.writes
-
-  answered_at_once : (from left : Option Completion) (s : ReplyStatus) → IsTurned (machines_at u c) (machines_at d c) q.partition q.sequence from left
-      → GivesTo (Err s) (delivered_in t.told) → IsAnsweredBy from left s
+  answered_at_once : (from left : Option Completion) (s : ReplyStatus) → Turned d from left
+      → GivesTo (Err s) (delivered_in t.told) → Answered from left s
   answered_at_once from left s turned gives = by_delivered (delivered_in t.told) gives t.further
     where
-      by_delivered : (x : Delivered) → GivesTo (Err s) x → AfterDelivery c x d t.last (Ok r) → IsAnsweredBy from left s
+      by_delivered : (x : Delivered) → GivesTo (Err s) x → AfterDelivery c x d t.last (Ok r) → Answered from left s
       by_delivered (delivered.Replied y) so further =
           let end : b.world ≡ d = ap (λ (z : Reached). z.world) t.whole ∙ ap (λ (z : Reached). z.world) further.0 in
           record {
             status = ap (λ (z : Replied). z.status) (told_same r y further.1) ∙ so;
-            turned = subst (λ (z : State). IsTurned (machines_at u c) (machines_at z c) q.partition q.sequence from left) (sym end) turned;
-            moment = ap (λ (z : State). z.moment) end ∙ delivery_moment u d m c t.told steps;
-            written = ap (λ (z : State). z.store.writes) end ∙ delivery_writes u d m c t.told steps;
+            turned = subst (λ (z : State). Turned z from left) (sym end) turned;
+            moment = ap (λ (z : State). z.moment) end ∙ delivery_moment u d k.message c t.told steps;
+            written = ap (λ (z : State). z.store.writes) end ∙ delivery_writes u d k.message c t.told steps;
           }
       by_delivered (delivered.Started j) so further = absurd so
       by_delivered delivered.Neither so further = absurd so
 
   -- so by a reaction of a machine that goes on
   answered_reaction : (what : Ask) (from : Option Completion) (g n : Completion) (told : Said) → HasReactedTo what from g
-      → react g i what u.moment ≡ (reaction.Answer told, n) → has_ended n.state ≡ false → IsAnsweredBy from (Some n) (status_of told)
+      → react g i what u.moment ≡ (reaction.Answer told, n) → has_ended n.state ≡ false → Answered from (Some n) (status_of told)
   answered_reaction what from g n told x is goes_on =
       answered_at_once from (Some n) (status_of told)
-      (subst (IsTurned (machines_at u c) (machines_at d c) q.partition q.sequence from)
+      (subst (Turned d from)
       (ap (λ (y : Reaction × Completion). unless_ended y.1) is ∙ ap (λ (b : Bool). cond b None (Some n)) goes_on) x.turned)
       (subst (λ (y : Reaction × Completion). GivesTo (leads_to (named_file q g.seen) y.0) (delivered_in t.told)) is x.gives)
 
   pub is_held : (g : Completion) (reason : Reason) → machine_of (machines_at u c) q.partition q.sequence ≡ Some g → q.kind ≡ kind.Consumed reason
-      → WaitsFor g.state → is_late g u.moment ≡ false → (i.0 ≡ g.winner.0 → ⊥) → g.offset.0 ≡ q.offset.0 → IsAnsweredBy (Some g) (Some g) status.Hold
+      → WaitsFor g.state → is_late g u.moment ≡ false → (i.0 ≡ g.winner.0 → ⊥) → g.offset.0 ≡ q.offset.0 → Answered (Some g) (Some g) status.Hold
   is_held g reason has is waits early apart level =
       let asked : ask_in q.offset q.kind ≡ Some (ask.Consumed q.offset reason) = ap (ask_in q.offset) is in
       answered_reaction (ask.Consumed q.offset reason) (Some g) g g said.Hold (its_machine_reacts g (ask.Consumed q.offset reason) has asked)
@@ -371,17 +430,17 @@ module _ (u : State) (m : ℕ) (c : ControllerId) (q : Request) (going : IsGoing
 
   pub is_continued : (g : Completion) → machine_of (machines_at u c) q.partition q.sequence ≡ Some g → q.kind ≡ kind.CommitStart
       → g.state ≡ machine.CommitterNotified → is_late g u.moment ≡ false → g.winner.0 ≡ i.0 → g.offset.0 ≡ q.offset.0
-      → IsAnsweredBy (Some g) (Some (goes g machine.CommitterUploading)) status.CommitContinue
+      → Answered (Some g) (Some (goes g machine.CommitterUploading)) status.CommitContinue
   is_continued g has is notified early own level =
       let asked : ask_in q.offset q.kind ≡ Some (ask.CommitStart q.offset) = ap (ask_in q.offset) is in
       answered_reaction (ask.CommitStart q.offset) (Some g) g (goes g machine.CommitterUploading) said.CommitContinue
       (its_machine_reacts g (ask.CommitStart q.offset) has asked)
       (own_starts g i q.offset u.moment early (machine_beyond g (ask.CommitStart q.offset) has asked) own level notified) refl
 
-  same_turned : (o : Option Completion) → k.new.machines ≡ k.node.controller.machines → machine_of (machines_at u c) q.partition q.sequence ≡ o
-      → IsTurned (machines_at u c) (machines_at d c) q.partition q.sequence o o
+  same_turned : (o : Option Completion) → did.new.machines ≡ did.node.controller.machines → machine_of (machines_at u c) q.partition q.sequence ≡ o
+      → Turned d o o
   same_turned o same is =
-      let now : machines_at d c ≡ machines_at u c = k.machines ∙ same ∙ sym before in
+      let now : machines_at d c ≡ machines_at u c = did.machines ∙ same ∙ sym before in
       record {
         before = is;
         behind = ap (λ (ms : List SegmentMachine). machine_of ms q.partition q.sequence) now ∙ is;
@@ -389,40 +448,22 @@ module _ (u : State) (m : ℕ) (c : ControllerId) (q : Request) (going : IsGoing
       }
 
   pub is_uploaded : (path bytes : List ℕ) (o : Option Completion) → machine_of (machines_at u c) q.partition q.sequence ≡ o → q.kind ≡ kind.Upload path bytes
-      → (shown : List ℕ) × IsAnsweredBy o o (status.UploadSuccess shown)
+      → (shown : List ℕ) × Answered o o (status.UploadSuccess shown)
   is_uploaded path bytes o has is =
-      let put = upload_puts u.store u.deep k.node.controller q u.moment it_leads (few_numbers u q safe right) over_before.one k.store k.deep k.new k.given k.handles possible fetches path bytes is in
-      let shown = uploaded_to (length u.sent) k.given put.1 in
+      let put = upload_puts u.store u.deep did.node.controller q u.moment it_leads (few_numbers u q safe right) over_before.one did.store did.deep did.new did.given did.handles possible k.fetches path bytes is in
+      let shown = uploaded_to (length u.sent) did.given put.1 in
       (shown.0, answered_at_once o o (status.UploadSuccess shown.0) (same_turned o put.0 has) (told_so (Err (status.UploadSuccess shown.0)) shown.1))
 
   -- ---- the first report
 
-  -- a machine is made that waits for the sender, which is told to commit
-  pub record IsPicked : Type 0 where
-    pub made : Completion
-    pub answered : IsAnsweredBy None (Some made) (status.Commit q.offset)
-    pub state : made.state ≡ machine.CommitterNotified
-    pub winner : made.winner ≡ i
-    pub offset : made.offset ≡ q.offset
-    pub early : is_late made u.moment ≡ false
-    pub write : Seen
-    pub there : value_of h (key.Meta q.partition q.sequence) ≡ Some write
-    pub meta : SegMeta
-    pub is : write.node ≡ node.Meta meta
-    pub opened : meta.status ≡ InProgress
-
-  -- the segment isn't in progress
-  abbrev pub IsOver : Type 0
-  IsOver = (s : ReplyStatus) × IsFinishedTold s × IsAnsweredBy None None s
-
-  listed : Contains (replicas_in k.node.controller.assigned q.partition) i
+  listed : Contains (replicas_in did.node.controller.assigned q.partition) i
   listed =
       let rs = replicas_of q.partition u.setup.table.replication u.setup.servers in
       let place = Has-place rs i right.assigned in
       subst (λ (is : List Instance). Contains is i) (sym (ap (λ (x : Assigned). replicas_in x q.partition) over_before.assigned)) (contains_found rs place.0 i place.1)
 
   begun_picks : q.kind ≡ kind.Consumed RowLimit
-      → HasBegun h k.node.controller.machines k.new.machines q (replicas_in k.node.controller.assigned q.partition) u.moment (ask.Consumed q.offset RowLimit) k.given → IsPicked
+      → HasBegun h did.node.controller.machines did.new.machines q (replicas_in did.node.controller.assigned q.partition) u.moment (ask.Consumed q.offset RowLimit) did.given → IsPicked u c q b r
   begun_picks is x =
       let has = value_has h (key.Meta q.partition q.sequence) x.write x.there in
       let read : IsRead h q.partition q.sequence (record { key = key.Meta q.partition q.sequence; version = x.write.version; node = node.Meta x.meta }) =
@@ -440,7 +481,7 @@ module _ (u : State) (m : ℕ) (c : ControllerId) (q : Request) (going : IsGoing
       record {
         made = goes (one x) machine.CommitterNotified;
         answered =
-            subst (λ (z : Offset). IsAnsweredBy None (Some (goes (one x) machine.CommitterNotified)) (status.Commit z))
+            subst (λ (z : Offset). Answered None (Some (goes (one x) machine.CommitterNotified)) (status.Commit z))
             (chosen_offset i q.offset rs listed (seen x) u.moment) answered;
         state = refl;
         winner = chosen_winner i q.offset rs listed (seen x) u.moment;
@@ -454,57 +495,41 @@ module _ (u : State) (m : ℕ) (c : ControllerId) (q : Request) (going : IsGoing
       }
     where
       rs : List Instance
-      rs = replicas_in k.node.controller.assigned q.partition
+      rs = replicas_in did.node.controller.assigned q.partition
 
-      seen : HasBegun h k.node.controller.machines k.new.machines q rs u.moment (ask.Consumed q.offset RowLimit) k.given → SeenMeta
+      seen : HasBegun h did.node.controller.machines did.new.machines q rs u.moment (ask.Consumed q.offset RowLimit) did.given → SeenMeta
       seen y = record { version = y.write.version; meta = y.meta }
 
-      one : HasBegun h k.node.controller.machines k.new.machines q rs u.moment (ask.Consumed q.offset RowLimit) k.given → Completion
+      one : HasBegun h did.node.controller.machines did.new.machines q rs u.moment (ask.Consumed q.offset RowLimit) did.given → Completion
       one y = chosen i q.offset rs listed (seen y) u.moment
 
-  pub is_reported : machine_of (machines_at u c) q.partition q.sequence ≡ None → q.kind ≡ kind.Consumed RowLimit → IsPicked ⊎ IsOver
+  pub is_reported : machine_of (machines_at u c) q.partition q.sequence ≡ None → q.kind ≡ kind.Consumed RowLimit → IsPicked u c q b r ⊎ IsOver u c q b r
   is_reported none is =
-      by_begun (report_begins u.store u.deep k.node.controller q u.moment it_leads (few_numbers u q safe right) over_before.one k.store k.deep k.new k.given k.handles possible
-      (ap (λ (ms : List SegmentMachine). machine_of ms q.partition q.sequence) (sym before) ∙ none) unplanned RowLimit is)
+      by_begun (report_begins u.store u.deep did.node.controller q u.moment it_leads (few_numbers u q safe right) over_before.one did.store did.deep did.new did.given did.handles possible
+      (ap (λ (ms : List SegmentMachine). machine_of ms q.partition q.sequence) (sym before) ∙ none) k.unplanned RowLimit is)
     where
-      by_begun : HasBegun h k.node.controller.machines k.new.machines q (replicas_in k.node.controller.assigned q.partition) u.moment (ask.Consumed q.offset RowLimit) k.given
-          ⊎ ((k.new.machines ≡ k.node.controller.machines) × FinishedSo k.given) → IsPicked ⊎ IsOver
+      by_begun : HasBegun h did.node.controller.machines did.new.machines q (replicas_in did.node.controller.assigned q.partition) u.moment (ask.Consumed q.offset RowLimit) did.given
+          ⊎ ((did.new.machines ≡ did.node.controller.machines) × FinishedSo did.given) → IsPicked u c q b r ⊎ IsOver u c q b r
       by_begun (inl x) = inl (begun_picks is x)
       by_begun (inr (same, finished)) =
-          let so = finished_to (length u.sent) k.given finished in
+          let so = finished_to (length u.sent) did.given finished in
           inr (so.0, so.1, answered_at_once None None so.0 (same_turned None same none) (told_so (Err so.0) so.2))
 
   -- ---- a commit's job
 
-  -- it has ended, and its machine is gone
-  pub record IsEndedBy (from : Option Completion) (z : State) : Type 0 where
-    pub status : FailedOrSuccess r.status
-    pub turned : IsTurned (machines_at u c) (machines_at z c) q.partition q.sequence from None
-    pub moment : z.moment ≡ u.moment
-    pub committed : HasCommitted h z.store.writes q.partition q.sequence
-
-  -- it is under way
-  record IsUnderWay (from : Option Completion) (z : State) (j : ℕ) : Type 0 where
-    asking : IsAsking u z
-    job : IsOpenFor z c j q
-    left : Option Completion
-    turned : IsTurned (machines_at u c) (machines_at z c) q.partition q.sequence from left
-    moment : z.moment ≡ u.moment
-    committed : HasCommitted h z.store.writes q.partition q.sequence
-
   module _ (path : List ℕ) (is : q.kind ≡ kind.CommitEnd path) (from : Option Completion) where
-    module _ (z y : State) (j : ℕ) (o : Outcome) (way : IsUnderWay from z j) (works : Steps z (event.Job c j) y (Ok o)) where
+    module _ (z y : State) (j : ℕ) (o : Outcome) (way : UnderWay from z j) (works : Steps z (event.Job c j) y (Ok o)) where
       safe_then : IsSafeWorld z
       safe_then = way.asking.keeps.going.safe
 
-      did : OwnStep z y c j o
-      did = own_step z y c j o works
+      step : OwnStep z y c j o
+      step = own_step z y c j o works
 
-      abbrev its : WorksOver z.setup (past_of z) z.store did.store z.deep did.deep did.node.controller did.new j did.did
-      its = over z y c j o safe_then did
+      abbrev its : WorksOver z.setup (past_of z) z.store step.store z.deep step.deep step.node.controller step.new j step.did
+      its = over z y c j o safe_then step
 
       own_job : its.job ≡ way.job.job
-      own_job = is_open_job z y c j o safe_then did way.job.job way.job.there
+      own_job = is_open_job z y c j o safe_then step way.job.job way.job.there
 
       asked : its.job.asked ≡ asked_of q
       asked = ap (λ (x : Job). x.asked) own_job ∙ way.job.asked
@@ -522,23 +547,23 @@ module _ (u : State) (m : ℕ) (c : ControllerId) (q : Request) (going : IsGoing
 
       committed_then : Committed y.store.writes
       committed_then =
-          subst Committed (sym (ap (λ (x : Told). x.writes) did.written))
-          (subst (λ (a : Asked). CommittedAt a did.store.writes) asked
-          (job_commits z.setup (past_of z) h z.store did.store z.deep did.deep did.node.controller did.new j its.job z.moment did.did refl
-          (safe_then.safe.controllers c.0 did.node did.at).over (versions_count_writes (starting_of z.setup) z.store.writes safe_then.safe.past.lawful) did.works its.open_job commit
+          subst Committed (sym (ap (λ (x : Told). x.writes) step.written))
+          (subst (λ (a : Asked). CommittedAt a step.store.writes) asked
+          (job_commits z.setup (past_of z) h z.store step.store z.deep step.deep step.node.controller step.new j its.job z.moment step.did refl
+          (safe_then.safe.controllers c.0 step.node step.at).over (versions_count_writes (starting_of z.setup) z.store.writes safe_then.safe.past.lawful) step.works its.open_job commit
           (subst (λ (a : Asked). CommittedAt a z.store.writes) (sym asked) way.committed)))
 
       moment_then : y.moment ≡ u.moment
       moment_then = job_moment z y c j o works ∙ way.moment
 
-      machines_then : machines_at y c ≡ machines_after (machines_at z c) (asked_of q) true did.did.reply
+      machines_then : machines_at y c ≡ machines_after (machines_at z c) (asked_of q) true step.did.reply
       machines_then =
-          step_machines z y c j o safe_then did
-          ∙ ap (λ (a : Asked). machines_after (machines_at z c) a (commits its.job.stage) did.did.reply) asked
-          ∙ ap (λ (x : Bool). machines_after (machines_at z c) (asked_of q) x did.did.reply) commit
+          step_machines z y c j o safe_then step
+          ∙ ap (λ (a : Asked). machines_after (machines_at z c) a (commits its.job.stage) step.did.reply) asked
+          ∙ ap (λ (x : Bool). machines_after (machines_at z c) (asked_of q) x step.did.reply) commit
 
       one : HaveOneMachine (machines_at z c)
-      one = subst HaveOneMachine (sym (ap machines_in did.at)) (safe_then.safe.controllers c.0 did.node did.at).over.one
+      one = subst HaveOneMachine (sym (ap machines_in step.at)) (safe_then.safe.controllers c.0 step.node step.at).over.one
 
       asking_then : IsAsking u y
       asking_then =
@@ -547,13 +572,13 @@ module _ (u : State) (m : ℕ) (c : ControllerId) (q : Request) (going : IsGoing
 
       -- behind a step it goes on, or has ended
       abbrev WayBehind : Option Replied → Type 0
-      WayBehind None = IsUnderWay from y j
-      WayBehind (Some x) = FailedOrSuccess x.status → x ≡ r → IsEndedBy from y
+      WayBehind None = UnderWay from y j
+      WayBehind (Some x) = FailedOrSuccess x.status → x ≡ r → Ended from y
 
-      step_goes : (reply : Option Reply) → did.did.reply ≡ reply → SendsIts z.sent y did.told.0 reply → Behind y c j q (ending did.told.0 reply)
-          → WayBehind (ending did.told.0 reply)
+      step_goes : (reply : Option Reply) → step.did.reply ≡ reply → SendsIts z.sent y step.told.0 reply → Behind y c j q (ending step.told.0 reply)
+          → WayBehind (ending step.told.0 reply)
       step_goes None replies sends behind =
-          let at : ending did.told.0 None ≡ None = no_ending did.told.0 in
+          let at : ending step.told.0 None ≡ None = no_ending step.told.0 in
           subst WayBehind (sym at)
           (record {
             asking = asking_then;
@@ -566,7 +591,7 @@ module _ (u : State) (m : ℕ) (c : ControllerId) (q : Request) (going : IsGoing
             committed = committed_then;
           })
       step_goes (Some reply) replies sends behind =
-          let at : ending did.told.0 (Some reply) ≡ Some (replied (length z.sent) reply) = ap (λ (x : Option ℕ). ending x (Some reply)) sends.0 in
+          let at : ending step.told.0 (Some reply) ≡ Some (replied (length z.sent) reply) = ap (λ (x : Option ℕ). ending x (Some reply)) sends.0 in
           subst WayBehind (sym at)
           (λ status own. record {
             status = subst (λ (x : Replied). FailedOrSuccess x.status) own status;
@@ -581,11 +606,11 @@ module _ (u : State) (m : ℕ) (c : ControllerId) (q : Request) (going : IsGoing
 
       way_behind : WayBehind (ended_in o)
       way_behind =
-          subst (λ (x : Outcome). WayBehind (ended_in x)) (sym did.told.1)
-          (step_goes did.did.reply refl did.sends
-          (subst (λ (x : Outcome). Behind y c j q (ended_in x)) did.told.1 (step_behind z y c j q o safe_then way.job works)))
+          subst (λ (x : Outcome). WayBehind (ended_in x)) (sym step.told.1)
+          (step_goes step.did.reply refl step.sends
+          (subst (λ (x : Outcome). Behind y c j q (ended_in x)) step.told.1 (step_behind z y c j q o safe_then way.job works)))
 
-    ends_job : (j left : ℕ) (z : State) (l : Reached) → IsUnderWay from z j → EndsJob c j left z l (Ok r) → IsEndedBy from l.world
+    ends_job : (j left : ℕ) (z : State) (l : Reached) → UnderWay from z j → EndsJob c j left z l (Ok r) → Ended from l.world
     ends_job j zero z l way g = absurd (told_not r (Limit Events) g.1)
     ends_job j (suc left) z l way g =
         by_step x.told x.last made (step_behind z s.between.world c j q s.told way.asking.keeps.going.safe way.job s.came.by.0)
@@ -608,13 +633,13 @@ module _ (u : State) (m : ℕ) (c : ControllerId) (q : Request) (going : IsGoing
 
         by_step : (o : Option Replied) (last : Reached) → o ≡ ended_in s.told → Behind s.between.world c j q (ended_in s.told) → Goes (ended_in s.told)
             → AfterStep (EndsJob c j left) o x.between.world last (Ok r) → l ≡ after x.between.turns last
-            → ((last : Reached) → IsUnderWay from x.between.world j → EndsJob c j left x.between.world last (Ok r) → IsEndedBy from last.world)
-            → IsEndedBy from l.world
+            → ((last : Reached) → UnderWay from x.between.world j → EndsJob c j left x.between.world last (Ok r) → Ended from last.world)
+            → Ended from l.world
         by_step None last same behind so further whole more =
-            subst (IsEndedBy from) (sym (ap (λ (y : Reached). y.world) whole))
-            (more last (subst (λ (y : State). IsUnderWay from y j) (sym at) (subst Goes (sym same) so)) further)
+            subst (Ended from) (sym (ap (λ (y : Reached). y.world) whole))
+            (more last (subst (λ (y : State). UnderWay from y j) (sym at) (subst Goes (sym same) so)) further)
         by_step (Some y) last same behind so further whole more =
-            subst (IsEndedBy from)
+            subst (Ended from)
             (sym (ap (λ (n : Reached). n.world) whole ∙ ap (λ (n : Reached). n.world) further.0 ∙ at))
             ((subst Goes (sym same) so) (subst (Behind s.between.world c j q) (sym same) behind).2 (sym (told_same r y further.1)))
 
@@ -622,32 +647,32 @@ module _ (u : State) (m : ℕ) (c : ControllerId) (q : Request) (going : IsGoing
 
     delivered_asking : IsAsking u d
     delivered_asking =
-        asking_on u u d (event.Deliver m c) t.told (record { keeps = keeps_still u going; servers = refl }) tt steps (delivery_leaves u d m c t.told steps).servers
-        (delivery_log u d m c t.told steps) (delivery_leads u d m c t.told steps) (λ none. delivery_plan u d m c t.told steps none)
-        (λ none. delivery_fetches u d m c t.told steps none)
+        asking_on u u d (event.Deliver k.message c) t.told (record { keeps = keeps_still u k.going; servers = refl }) tt steps (delivery_leaves u d k.message c t.told steps).servers
+        (delivery_log u d k.message c t.told steps) (delivery_leads u d k.message c t.told steps) (λ none. delivery_plan u d k.message c t.told steps none)
+        (λ none. delivery_fetches u d k.message c t.told steps none)
 
-    started_ends : (s : JobStage) (left : Option Completion) → IsTurned (machines_at u c) (machines_at d c) q.partition q.sequence from left
-        → GivesTo (Ok s) (delivered_in t.told) → IsEndedBy from b.world
+    started_ends : (s : JobStage) (left : Option Completion) → Turned d from left
+        → GivesTo (Ok s) (delivered_in t.told) → Ended from b.world
     started_ends s left turned gives =
-        by_delivered (delivered_in t.told) (delivery_so u d m c q t.told safe asks steps) gives t.further
+        by_delivered (delivered_in t.told) (delivery_so u d k.message c q t.told safe k.asks steps) gives t.further
       where
-        by_delivered : (x : Delivered) → DeliversSo d c q x → GivesTo (Ok s) x → AfterDelivery c x d t.last (Ok r) → IsEndedBy from b.world
+        by_delivered : (x : Delivered) → DeliversSo d c q x → GivesTo (Ok s) x → AfterDelivery c x d t.last (Ok r) → Ended from b.world
         by_delivered (delivered.Started j) so g further =
-            subst (IsEndedBy from) (sym (ap (λ (z : Reached). z.world) t.whole))
+            subst (Ended from) (sym (ap (λ (z : Reached). z.world) t.whole))
             (ends_job j (events_left_in d) d t.last
             (record {
               asking = delivered_asking;
               job = so.0;
               left = left;
               turned = turned;
-              moment = delivery_moment u d m c t.told steps;
-              committed = inl (delivery_writes u d m c t.told steps);
+              moment = delivery_moment u d k.message c t.told steps;
+              committed = inl (delivery_writes u d k.message c t.told steps);
             }) further)
         by_delivered (delivered.Replied x) so g further = absurd g
         by_delivered delivered.Neither so g further = absurd g
 
   pub is_ended : (g : Completion) (path : List ℕ) → machine_of (machines_at u c) q.partition q.sequence ≡ Some g → q.kind ≡ kind.CommitEnd path
-      → g.state ≡ machine.CommitterUploading → is_late g u.moment ≡ false → g.winner.0 ≡ i.0 → g.offset.0 ≡ q.offset.0 → IsEndedBy (Some g) b.world
+      → g.state ≡ machine.CommitterUploading → is_late g u.moment ≡ false → g.winner.0 ≡ i.0 → g.offset.0 ≡ q.offset.0 → Ended (Some g) b.world
   is_ended g path has is uploading early own level =
       let asked : ask_in q.offset q.kind ≡ Some (ask.CommitEnd q.offset) = ap (ask_in q.offset) is in
       let x = its_machine_reacts g (ask.CommitEnd q.offset) has asked in

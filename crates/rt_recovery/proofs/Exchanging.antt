@@ -1,21 +1,17 @@
 -- An exchange leaves a world in which segments end by the row limit alone; and where it writes nothing, less lies ahead, or nothing happened,
 -- or the replica was told HOLD while a committer of its segment is there.
-use Rattle.std.proofs.Common.{◌≡◌, ◌⊎◌, inl, inr, ℕ, zero, suc, ◌<◌, ◌==◌, ◌&&◌, nat_lt, Bool, true, false, cond, List, [], ◌∷◌, length, Option, Some, None, Result, Ok, Err, refl, sym, ◌∙◌, ap, subst, arith, slice_get}
-use Rattle.std.specs.Map.{keys_of, set_value}
-use Rattle.std.specs.Prelude.{slice_set}
-use Rattle.std.proofs.lemmas.Bool.{and_from, cond-true, eq-eqb, eqb-true, false≢true, true≢false}
+use Rattle.std.proofs.Common.{◌≡◌, ◌⊎◌, inl, inr, ℕ, ◌<◌, ◌==◌, ◌&&◌, nat_lt, Bool, true, false, cond, List, [], Option, Some, None, Ok, refl, sym, ◌∙◌, ap, subst, slice_get}
+use Rattle.std.proofs.lemmas.Bool.{and_from, cond-true, eq-eqb, false≢true, true≢false}
 use Rattle.std.proofs.lemmas.Option.{none-some, same_Some}
 use Rattle.rt_base.specs.declared.numbers.ControllerId.{ControllerId}
 use Rattle.rt_base.specs.declared.numbers.Instance.{Instance}
 use Rattle.rt_base.specs.declared.numbers.Offset.{Offset}
 use Rattle.rt_base.specs.declared.numbers.Partition.{Partition}
 use Rattle.rt_base.specs.declared.numbers.Sequence.{Sequence}
-use Rattle.rt_commit.specs.Told.{ToldDeep}
 use Rattle.rt_consumer.specs.Consumer.{asks_at, at, cur_in, ends_at}
-use Rattle.rt_consumer.specs.Replies.{answered, answered_at, replied as answered_by, turned}
+use Rattle.rt_consumer.specs.Replies.{answered, answered_at, replied as answered_by}
 use Rattle.rt_consumer.specs.Requests.{asks_now, kind_at, kind_in, size_in}
 use Rattle.rt_consumer.specs.declared.consumer.Consumer.{Consumer}
-use Rattle.rt_consumer.specs.declared.phase.Discarded.{Discarded}
 use Rattle.rt_consumer.specs.declared.phase.Phase.{Phase}
 use Rattle.rt_consumer.specs.declared.phase.Phase.TheVariants as phase
 use Rattle.rt_consumer.specs.declared.replies.Turn.{Turn}
@@ -24,20 +20,13 @@ use Rattle.rt_consumer.specs.declared.stage.Stage.{Stage}
 use Rattle.rt_consumer.specs.declared.stage.Stage.TheVariants.{Building, CatchingUp, ConsumingToOnline, Ending, Holding, InitialConsuming, Retaining, Starting, Uploading}
 use Rattle.rt_consumer.specs.declared.unsealed.Unsealed.{Unsealed}
 use Rattle.rt_consumer.specs.declared.waited.Waited.TheVariants.{Step}
-use Rattle.rt_controller.specs.declared.segment_machine.SegmentMachine.{SegmentMachine}
-use Rattle.rt_entry.specs.declared.entry.Entry.{Entry}
 use Rattle.rt_entry.specs.declared.entry.Entry.TheVariants.{Replica}
-use Rattle.rt_events.specs.declared.event.Event.TheVariants as event
-use Rattle.rt_events.specs.declared.outcome.Outcome.{Outcome}
-use Rattle.rt_events.specs.declared.refusal.Refusal.{Refusal}
-use Rattle.rt_events.specs.declared.refusal.Refusal.TheVariants.{Limit, Memory, NodeDown, NoSuchMessage, NoSuchNode, NothingToDo}
 use Rattle.rt_fsm.proofs.Table.{by_test}
-use Rattle.rt_lists.specs.Members.{Has, IsFront}
+use Rattle.rt_lists.specs.Members.{Has}
+use Rattle.rt_macros.specs.Doing.{Reached}
+use Rattle.rt_macros.specs.Settling.{ExchangeTurn, SegmentAt}
 use Rattle.rt_model.specs.Completion.{goes, has_deadline, is_late, Completion}
-use Rattle.rt_model.specs.Entries.{entries_of}
 use Rattle.rt_model.specs.History.{value_of}
-use Rattle.rt_model.specs.Ideal.{mode_of}
-use Rattle.rt_model.specs.declared.ideal_state.Mode.TheVariants.{Consuming}
 use Rattle.rt_model.specs.declared.machine_state.MachineState.{MachineState}
 use Rattle.rt_model.specs.declared.machine_state.MachineState.TheVariants as machine
 use Rattle.rt_model.specs.declared.node.Key.TheVariants as key
@@ -51,81 +40,46 @@ use Rattle.rt_model.specs.declared.request.Reason.TheVariants.{RowLimit}
 use Rattle.rt_model.specs.declared.request.Request.{Request}
 use Rattle.rt_model.specs.declared.request.RequestKind.{RequestKind}
 use Rattle.rt_model.specs.declared.request.RequestKind.TheVariants as kind
-use Rattle.rt_model.specs.declared.request.RequestNumber.{RequestNumber}
 use Rattle.rt_model.specs.declared.setup.Setup.{Setup}
-use Rattle.rt_model.proofs.Histories.{same_instance}
 use Rattle.rt_msgs.specs.Numbered.{upload_path}
-use Rattle.rt_mutable.specs.Consuming.{Consuming as Rows}
 use Rattle.rt_nodes.specs.Requests.{asks_due}
-use Rattle.rt_nodes.specs.declared.controller_node.ControllerNode.{ControllerNode}
 use Rattle.rt_nodes.specs.declared.server_node.ServerNode.{ServerNode}
 use Rattle.rt_past.specs.Segments.{IsBegun}
 use Rattle.rt_replica.specs.Lasting.{IsReplica}
 use Rattle.rt_segment.specs.Segment.{SealedSegment}
 use Rattle.rt_segment.specs.Spelling.{file_of}
-use Rattle.rt_server.specs.Table.{entry_of, is_segment, put_back, replica_at, replica_of, segment_cmp, segment_of, Segment, Segments}
-use Rattle.rt_server.proofs.Kept.{replica_found}
-use Rattle.rt_server.proofs.LastingTables.{at as segment_at, lookup-Has, segment_exact}
+use Rattle.rt_server.specs.Table.{is_segment, replica_at, replica_of, segment_of, Segment}
+use Rattle.rt_server.proofs.LastingTables.{at as segment_at}
 use Rattle.rt_server.proofs.Merge.{it_is}
 use Rattle.rt_state.specs.Finding.{find_server, replica_at as replica_there, replica_in}
 use Rattle.rt_state.specs.IsSafe.{past_of}
-use Rattle.rt_state.specs.IsSafeWorld.{IsSafeWorld}
 use Rattle.rt_state.specs.Requests.{report_by}
 use Rattle.rt_state.specs.Room.{dropped, then_due, upload_cost}
 use Rattle.rt_state.specs.declared.state.State.{State}
 use Rattle.rt_store.specs.Meaning.{Told}
-use Rattle.rt_stream.specs.Log.{Log}
-use Rattle.rt_world.specs.Reading.{leader_in}
-use Rattle.rt_world.specs.Step.{due_of, Steps}
-use Rattle.rt_macros.specs.Doing.{after, Gives, HappensBy, Reached}
-use Rattle.rt_macros.specs.Exchanging.{AfterReport}
-use Rattle.rt_macros.specs.Settling.{AfterRequest, ExchangeTurn, Requests, SegmentAt, WithLeader}
-use Rattle.rt_heal.proofs.Nothing.{fails_test, nothing}
-use Rattle.rt_heal.proofs.Quiet.{then_parts, told_not, told_same}
-use Rattle.rt_calm.specs.Again.{ahead_still, asked_machines, awaits, is_notified, is_uploading, machine_of, machines_by, machines_in, waits_at, IsLeading}
+use Rattle.rt_heal.proofs.Nothing.{fails_test}
+use Rattle.rt_calm.specs.Again.{ahead_still, asked_machines, awaits, is_notified, is_uploading, machine_of, waits_at, IsLeading}
 use Rattle.rt_calm.specs.Off.{IsSuccess}
 use Rattle.rt_calm.specs.Waiting.{WaitsFor}
-use Rattle.rt_calm.proofs.Answering.{left_awaits, phase_of}
+use Rattle.rt_calm.proofs.Answering.{phase_of}
 use Rattle.rt_calm.proofs.Awaited.{awaits_parts, waits_or_not, WaitsOn, WaitsOrNot}
 use Rattle.rt_calm.proofs.Ending.{FailedOrSuccess}
-use Rattle.rt_calm.proofs.Exchanged.{finishes, turns_so, HasAsked, HasFinished, HasTaken, MakesWait}
-use Rattle.rt_calm.proofs.Keeping.{goes_on, IsGoing, KeepsOn}
-use Rattle.rt_calm.proofs.Leading.{leader_leads, leader_there, leads_in}
-use Rattle.rt_calm.proofs.Machines.{at_segment, IsTurned}
-use Rattle.rt_calm.proofs.Moving.{machines_at}
+use Rattle.rt_calm.proofs.Exchanged.{HasAsked, MakesWait}
+use Rattle.rt_calm.proofs.Keeping.{IsGoing}
+use Rattle.rt_calm.proofs.Rounds.{exchange_requests, HasMade, HasRequested}
 use Rattle.rt_calm.proofs.Settling.{IsSettling}
-use Rattle.rt_calm.proofs.Sums.{HasPut}
-use Rattle.rt_recovery.specs.ByRows.{CommitsFor, IsByRows, IsByRowsAt, IsFull, IsMachineByRows, IsOpen, IsToConsume, Reports, StandsByRows}
+use Rattle.rt_recovery.specs.ByRows.{CommitsFor, IsByRows, IsByRowsAt, IsMachineByRows, IsOpen, IsToConsume, Reports, StandsByRows}
 use Rattle.rt_recovery.specs.Same.{IsSame}
 use Rattle.rt_recovery.proofs.Committing.{HasCommitted, IsEnded, LeavesOthers}
 use Rattle.rt_recovery.proofs.Delivering.{is_continued, is_ended, is_held, is_reported, is_uploaded, IsAnsweredBy, IsEndedBy, IsOver, IsPicked}
 use Rattle.rt_recovery.proofs.Entries.{entry_found}
+use Rattle.rt_recovery.proofs.Exchanged.{by_rows_then, commits_at, committer_then, handled, has, holds_on, machine_then, on, phase_then, safe_then, stands_then, stood, told_then, turned_world, unwritten, world_then, Exchange}
 use Rattle.rt_recovery.proofs.Full.{full_alike}
 use Rattle.rt_recovery.proofs.Handling.{IsFinishedTold}
 use Rattle.rt_recovery.proofs.Opening.{consumes_same, not_ended, open_before, open_same}
 use Rattle.rt_recovery.proofs.Same.{put_same}
-use Rattle.rt_recovery.proofs.Still.{awaited_commits, later_still, IsLater, IsStill}
-use Rattle.rt_recovery.proofs.Turning.{apart_segments, machine_on, own_committer, reports_on, turned_by_rows, GoesOn, HasTurned}
-
--- ---- puts in the same place
-
-set_twice : {X : Type 0} (xs : List X) (i : ℕ) (a b : X) → slice_set (slice_set xs i a) i b ≡ slice_set xs i b
-set_twice [] i a b = refl
-set_twice (x ∷ xs) zero a b = refl
-set_twice (x ∷ xs) (suc i) a b = ap (λ ys. x ∷ ys) (set_twice xs i a b)
-
-value_twice : (f : Segment → Bool) (es : List (Segment × Entry)) (a b : Entry) → set_value f (set_value f es a) b ≡ set_value f es b
-value_twice f [] a b = refl
-value_twice f (e ∷ es) a b = by_key (f e.0) refl (value_twice f es a b)
-  where
-    by_key : (c : Bool) → f e.0 ≡ c → set_value f (set_value f es a) b ≡ set_value f es b
-        → set_value f (cond c ((e.0, a) ∷ es) (e ∷ set_value f es a)) b ≡ cond c ((e.0, b) ∷ es) (e ∷ set_value f es b)
-    by_key true is more = ap (λ (c : Bool). cond c ((e.0, b) ∷ es) ((e.0, a) ∷ set_value f es b)) is
-    by_key false is more =
-        ap (λ (c : Bool). cond c ((e.0, b) ∷ set_value f es a) (e ∷ set_value f (set_value f es a) b)) is ∙ ap (λ (xs : List (Segment × Entry)). e ∷ xs) more
-
-put_twice : (t : Segments) (p : Partition) (q : Sequence) (a b : Entry) → put_back (put_back t p q a) p q b ≡ put_back t p q b
-put_twice t p q a b = ap (λ (es : List (Segment × Entry)). record t { entries = es }) (value_twice (is_segment p q) t.entries a b)
+use Rattle.rt_recovery.proofs.Still.{awaited_commits}
+use Rattle.rt_recovery.proofs.Turning.{apart_segments, machine_on, reports_on, turned_by_rows, GoesOn, HasTurned}
 
 -- ---- machines that wait
 
@@ -184,220 +138,71 @@ IsCommitting (Retaining done) = ⊥
 
 -- ---- a request and its answer
 
-module _ (w u : State) (i : Instance) (p : Partition) (q : Sequence) (c : ControllerId) (o : Outcome) (v : Reached) (fin : HasFinished w u i p q c o v)
-    (going : IsGoing w) (before : IsByRows w) (leading : IsLeading w) (led : leader_in w ≡ Some c) (unplanned : w.store.faults.plan ≡ [])
-    (fetches : w.deep.faults.plan ≡ []) (steps : Steps w (event.Report i p q) u (Ok o)) where
+module _ (it : Exchange) where
+  abbrev w : State
+  w = it.from
+
+  abbrev u : State
+  u = it.sent
+
+  abbrev i : Instance
+  i = it.instance
+
+  abbrev p : Partition
+  p = it.partition
+
+  abbrev q : Sequence
+  q = it.sequence
+
+  abbrev c : ControllerId
+  c = it.controller
+
+  abbrev v : State
+  v = it.to.world
+
   abbrev request : Request
-  request = fin.its.request
+  request = it.fin.its.request
 
   abbrev asked : HasAsked w u i p q request
-  asked = fin.asked
-
-  abbrev n : ServerNode
-  n = asked.old
+  asked = it.fin.asked
 
   abbrev r : Consumer
   r = asked.replica
 
-  abbrev waiting : Consumer
-  waiting = record r { waited = Some (Step request.number) }
+  abbrev n : ServerNode
+  n = asked.old
 
   abbrev b : Reached
-  b = fin.between
+  b = it.fin.between
 
   abbrev reply : Reply
-  reply = fin.answered.answer.reply
+  reply = it.fin.answered.answer.reply
 
   abbrev next : Consumer
-  next = answered_by waiting reply
-
-  abbrev taken : HasTaken b.world v.world i p q asked.new waiting reply
-  taken = fin.taken.taken
+  next = answered_by (record r { waited = Some (Step request.number) }) reply
 
   abbrev new : ServerNode
-  new = taken.new
-
-  on : KeepsOn w v.world
-  on = fin.taken.exchanged.on
-
-  safe_then : IsSafeWorld v.world
-  safe_then = on.going.safe
-
-  going_then : IsGoing u
-  going_then = goes_on w u (event.Report i p q) o going tt steps
-
-  leads_then : leads_in (slice_get u.controllers c.0) ≡ true
-  leads_then = ap (λ (cs : List ControllerNode). leads_in (slice_get cs c.0)) asked.controllers ∙ leader_leads w leading c led
-
-  unplanned_then : u.store.faults.plan ≡ []
-  unplanned_then = ap (λ (t : Told). t.faults.plan) asked.store ∙ unplanned
-
-  fetches_then : u.deep.faults.plan ≡ []
-  fetches_then = ap (λ (d : ToldDeep). d.faults.plan) asked.deep ∙ fetches
-
-  machines_before : machines_at u c ≡ asked_machines w
-  machines_before =
-      ap (λ (cs : List ControllerNode). machines_in (slice_get cs c.0)) asked.controllers ∙ sym (ap (machines_by w.controllers) led)
-
-  machines_behind : machines_at b.world c ≡ asked_machines v.world
-  machines_behind =
-      sym (ap (machines_by v.world.controllers) (on.leads.leader ∙ led)
-      ∙ ap (λ (cs : List ControllerNode). machines_in (slice_get cs c.0)) taken.controllers)
-
-  machine_then : (m : Option Completion) → machine_of (asked_machines w) p q ≡ m → machine_of (machines_at u c) request.partition request.sequence ≡ m
-  machine_then m e =
-      ap (λ (ms : List SegmentMachine). machine_of ms request.partition request.sequence) machines_before
-      ∙ ap (λ (x : Partition). machine_of (asked_machines w) x request.sequence) fin.its.segment.0
-      ∙ ap (λ (x : Sequence). machine_of (asked_machines w) p x) fin.its.segment.1 ∙ e
-
-  turned_then : (m l : Option Completion) → IsTurned (machines_at u c) (machines_at b.world c) request.partition request.sequence m l
-      → IsTurned (asked_machines w) (asked_machines v.world) p q m l
-  turned_then m l is =
-      at_segment (asked_machines w) (asked_machines v.world) request.partition p request.sequence q m l fin.its.segment.0 fin.its.segment.1
-      (subst (λ (ms : List SegmentMachine). IsTurned ms (asked_machines v.world) request.partition request.sequence m l) machines_before
-      (subst (λ (ns : List SegmentMachine). IsTurned (machines_at u c) ns request.partition request.sequence m l) machines_behind is))
-
-  has : Has n.server.table.entries (segment_at (p, q) (Replica r))
-  has =
-      lookup-Has segment_cmp segment_exact n.server.table.entries (p, q) (Replica r)
-      (replica_found (entry_of n.server.table p q) r asked.found)
-
-  stood : IsByRowsAt w i.0 (p, q) r r.phase
-  stood = before.replicas i.0 n asked.at (p, q) r has
+  new = it.fin.taken.taken.new
 
   abbrev Turned : Option Completion → Option Completion → Type 0
-  Turned m l = HasTurned w v.world i.0 n new p q r next m l
+  Turned m l = HasTurned w v i.0 n new p q r next m l
 
-  turned_world : (m l : Option Completion) → b.world.moment ≡ u.moment → IsTurned (machines_at u c) (machines_at b.world c) request.partition request.sequence m l
-      → Turned m l
-  turned_world m l same is =
-      record {
-        there = asked.at;
-        found = asked.found;
-        servers =
-            taken.servers ∙ ap (λ (ns : List ServerNode). slice_set ns i.0 new) (fin.answered.asking.servers ∙ asked.servers)
-            ∙ set_twice w.servers i.0 asked.new new;
-        table =
-            taken.table ∙ ap (λ (t : Segments). put_back t p q (Replica next)) asked.table
-            ∙ put_twice n.server.table p q (Replica waiting) (Replica next);
-        setup = on.setup;
-        log = on.log;
-        moment = taken.moment ∙ same ∙ asked.moment;
-        turned = turned_then m l is;
-      }
-
-  -- ---- the replica with its answer
-
-  turn_so : (s : ReplyStatus) → reply.status ≡ s → next ≡ turned waiting (answered r.phase s)
-  turn_so s e =
-      turns_so w u i p q request asked fin.its.segment fin.its.instance c led going fin.within b fin.answer fin.answered
-      ∙ ap (λ (x : ReplyStatus). turned waiting (answered r.phase x)) e
-
-  turned_phase : (t : Turn) → (turned waiting t).phase ≡ phase_of t
-  turned_phase (Stays ph) = refl
-  turned_phase (Goes ph) = refl
-
-  later : (t : Turn) → IsLater r (turned waiting t)
-  later (Stays ph) = record { partition = refl; start = refl; started = refl }
-  later (Goes ph) = record { partition = refl; start = refl; started = refl }
-
-  stands_then : (s : ReplyStatus) (t : Turn) → reply.status ≡ s → answered r.phase s ≡ t → IsByRowsAt v.world i.0 (p, q) r (phase_of t)
-      → IsByRowsAt v.world i.0 (p, q) next next.phase
-  stands_then s t e f h =
-      let still : IsStill v.world v.world (p, q) = record { setup = refl; log = refl; moment = refl; writes = refl; machine = refl } in
-      subst (λ (x : Consumer). IsByRowsAt v.world i.0 (p, q) x x.phase) (sym (turn_so s e ∙ ap (turned waiting) f))
-      (subst (IsByRowsAt v.world i.0 (p, q) (turned waiting t)) (sym (turned_phase t))
-      (later_still v.world v.world (p, q) still r (turned waiting t) (later t) i.0 (phase_of t) h))
-
-  phase_then : (s : ReplyStatus) (t : Turn) → reply.status ≡ s → answered r.phase s ≡ t → next.phase ≡ phase_of t
-  phase_then s t e f = ap (λ (x : Consumer). x.phase) (turn_so s e ∙ ap (turned waiting) f) ∙ turned_phase t
-
-  -- ---- what comes of it
+  abbrev Answered : Option Completion → Option Completion → ReplyStatus → Type 0
+  Answered m l s = IsAnsweredBy u c request b it.fin.answer m l s
 
   -- HOLD is told while the segment has a machine, and the world is the same but for who waits; or another answer
   record IsHeldSo : Type 0 where
-    same : IsSame w v.world
+    same : IsSame w v
     machine : Completion
     is : machine_of (asked_machines w) p q ≡ Some machine
     asks : (held : Unsealed) → r.phase ≡ phase.Unsealed held → IsCommitting held.stage → ⊥
 
   record HasComeOut : Type 0 where
-    by_rows : IsByRows v.world
+    by_rows : IsByRows v
     told : IsHeldSo ⊎ (reply.status ≡ status.Hold → ⊥)
 
-  -- ---- nothing was written
+  -- ---- a replica that holds rows
 
-  module _ (m l : Option Completion) (s : ReplyStatus)
-      (answer : IsAnsweredBy u (length w.sent) c request going_then fin.its.there leads_then unplanned_then fetches_then b fin.answer fin.came m l s) where
-    told_then : reply.status ≡ s
-    told_then = sym fin.answered.answer.status ∙ answer.status
-
-    unwritten : v.world.store.writes ≡ w.store.writes
-    unwritten = ap (λ (t : Told). t.writes) taken.store ∙ answer.written ∙ ap (λ (t : Told). t.writes) asked.store
-
-    world_then : Turned m l
-    world_then = turned_world m l answer.moment answer.turned
-
-    asked_on : (j : ℕ) (x : Segment) → (IsOpen w x → IsToConsume w j x) → IsOpen v.world x → IsToConsume v.world j x
-    asked_on j x consumes opened = consumes_same w v.world unwritten j x (consumes (open_same v.world w (sym unwritten) x opened))
-
-    -- others go on, as far as the machine waits for them
-    others_go : WaitsOn i m l → (j : ℕ) (z : ServerNode) → slice_get w.servers j ≡ Some z → (x : Segment) (y : Consumer)
-        → Has z.server.table.entries (segment_at x (Replica y)) → (j ≡ i.0 → is_segment p q x ≡ false) → GoesOn w v.world j x
-    others_go waits j z there x y held apart =
-        record {
-          setup = on.setup;
-          log = on.log;
-          moment = world_then.moment;
-          consumes = asked_on j x;
-          commits = λ stage end awaited opened consumes. (
-            by_segment stage end (is_segment p q x) refl awaited,
-            open_same w v.world unwritten x opened,
-            consumes_same w v.world unwritten j x consumes,
-          );
-        }
-      where
-        by_segment : (stage : Stage) (end : Offset) (k : Bool) → is_segment p q x ≡ k → awaits (machine_of (asked_machines w) x.0 x.1) j stage end ≡ true
-            → awaits (machine_of (asked_machines v.world) x.0 x.1) j stage end ≡ true
-        by_segment stage end false other awaited =
-            ap (λ (g : Option Completion). awaits g j stage end) (world_then.turned.others x.0 x.1 (apart_segments p q x other)) ∙ awaited
-        by_segment stage end true is awaited =
-            let same : (p, q) ≡ x = it_is (p, q) x is in
-            let was = subst (λ (y : Segment). awaits (machine_of (asked_machines w) y.0 y.1) j stage end ≡ true) (sym same) awaited in
-            subst (λ (y : Segment). awaits (machine_of (asked_machines v.world) y.0 y.1) j stage end ≡ true) same
-            (ap (λ (g : Option Completion). awaits g j stage end) world_then.turned.behind
-            ∙ waits j stage end (λ own. true≢false (sym is ∙ apart own)) (ap (λ (g : Option Completion). awaits g j stage end) (sym world_then.turned.before) ∙ was))
-
-    by_rows_then : WaitsOn i m l → (t : Turn) → answered r.phase s ≡ t → IsByRowsAt v.world i.0 (p, q) r (phase_of t)
-        → ((g : Completion) → l ≡ Some g → IsMachineByRows v.world (p, q) g) → IsByRows v.world
-    by_rows_then waits t f h machines =
-        turned_by_rows w v.world i.0 n new p q r next m l world_then safe_then before (others_go waits) (stands_then s t told_then f h) machines
-
-    -- the sender waits on, or commits further
-    holds_on : (held : Unsealed) (reason : Reason) → Reports w r held.rows.end reason → (IsOpen w (p, q) → IsToConsume w i.0 (p, q))
-        → IsByRowsAt v.world i.0 (p, q) r (at held.rows (Holding reason))
-    holds_on held reason reports consumes =
-        (reports_on w v.world on.setup on.log r held.rows.end reason reports, asked_on i.0 (p, q) consumes)
-
-    commits_at : (held : Unsealed) (reason : Reason) (g : Completion) (stage : Stage) → Reports w r held.rows.end reason → IsOpen w (p, q) → IsToConsume w i.0 (p, q)
-        → l ≡ Some g → awaits (Some g) i.0 stage held.rows.end ≡ true → CommitsFor v.world i.0 (p, q) r (record { rows = held.rows; stage = stage }) reason
-    commits_at held reason g stage reports opened consumes is awaited =
-        record {
-          reports = reports_on w v.world on.setup on.log r held.rows.end reason reports;
-          awaited = ap (λ (k : Option Completion). awaits k i.0 stage held.rows.end) (world_then.turned.behind ∙ is) ∙ awaited;
-          opened = open_same w v.world unwritten (p, q) opened;
-          consumes = consumes_same w v.world unwritten i.0 (p, q) consumes;
-        }
-
-    committer_then : (rows : Rows) (stage : Stage) (t : Turn) (g : Completion) → answered r.phase s ≡ t → phase_of t ≡ at rows stage → g.winner.0 ≡ i.0
-        → is_late g w.moment ≡ false → awaits (Some g) i.0 stage rows.end ≡ true → IsMachineByRows v.world (p, q) g
-    committer_then rows stage t g f is winner early awaited =
-        own_committer w v.world i.0 n new p q r next m l world_then safe_then g (record { rows = rows; stage = stage }) (phase_then s t told_then f ∙ is) winner
-        (ap (is_late g) world_then.moment ∙ early) awaited
-
-  -- ---- a report
-
-  -- the machine that waits for another committer stays
   module _ (held : Unsealed) (stands : r.phase ≡ phase.Unsealed held) where
     end_is : request.offset ≡ held.rows.end
     end_is = asked.offset ∙ ap cur_in stands
@@ -411,20 +216,23 @@ module _ (w u : State) (i : Instance) (p : Partition) (q : Sequence) (c : Contro
         same_unsealed held k.rows
         (sym stands
         ∙ ap (λ (x : Consumer). x.phase) (sym (same_Some k.replica r (sym (ap replica_at (entry_found n.server.table.entries (p, q) (Replica k.replica)
-        (going.safe.safe.servers i.0 n asked.at).over.kept.ascending (subst (λ (z : ServerNode). Has z.server.table.entries (segment_at (p, q) (Replica k.replica))) node k.has))) ∙ asked.found)))
+        (it.going.safe.safe.servers i.0 n asked.at).over.kept.ascending (subst (λ (z : ServerNode). Has z.server.table.entries (segment_at (p, q) (Replica k.replica))) node k.has))) ∙ asked.found)))
         ∙ k.unsealed)
       where
         node : k.node ≡ n
         node = same_Some k.node n (sym k.there ∙ ap (slice_get w.servers) is ∙ asked.at)
+
+    -- ---- a report
 
     module _ (reason : Reason) (is : held.stage ≡ Holding reason) (reports : Reports w r held.rows.end reason) (consumes : IsOpen w (p, q) → IsToConsume w i.0 (p, q))
         (asks : request.kind ≡ kind.Consumed reason) where
       kind_is : request.kind ≡ kind.Consumed RowLimit
       kind_is = asks ∙ ap kind.Consumed reports.by_rows
 
+      -- the machine, which waits for another committer, stays
       module _ (g : Completion) (of : machine_of (asked_machines w) p q ≡ Some g) where
         k : IsMachineByRows w (p, q) g
-        k = before.machines (p, q) g of
+        k = it.by_rows.machines (p, q) g of
 
         another : g.winner.0 ≡ i.0 → ⊥
         another own =
@@ -434,53 +242,53 @@ module _ (w u : State) (i : Instance) (p : Partition) (q : Sequence) (c : Contro
         committer : (why : Reason) × CommitsFor w g.winner.0 (p, q) k.replica k.rows why
         committer =
             awaited_commits w g.winner.0 (p, q) k.replica k.rows g k.rows.rows.end k.rows.stage
-            (subst (IsByRowsAt w g.winner.0 (p, q) k.replica) k.unsealed (before.replicas g.winner.0 k.node k.there (p, q) k.replica k.has)) k.awaited
+            (subst (IsByRowsAt w g.winner.0 (p, q) k.replica) k.unsealed (it.by_rows.replicas g.winner.0 k.node k.there (p, q) k.replica k.has)) k.awaited
 
         level : g.offset.0 ≡ request.offset.0
         level =
             (awaits_parts g g.winner.0 k.rows.stage k.rows.rows.end k.awaited).2
             ∙ ap (λ (x : Offset). x.0)
-            (full_alike w going.safe (p, q) g.winner.0 i.0 k.node n k.replica r k.rows.rows.end held.rows.end k.there asked.at k.has has committer.1.reports.full reports.full
+            (full_alike w it.going.safe (p, q) g.winner.0 i.0 k.node n k.replica r k.rows.rows.end held.rows.end k.there asked.at k.has (has it) committer.1.reports.full reports.full
             ∙ sym end_is)
 
-        answer : IsAnsweredBy u (length w.sent) c request going_then fin.its.there leads_then unplanned_then fetches_then b fin.answer fin.came (Some g) (Some g) status.Hold
+        answer : Answered (Some g) (Some g) status.Hold
         answer =
-            is_held u (length w.sent) c request going_then fin.its.there leads_then unplanned_then fetches_then b fin.answer fin.came g reason (machine_then (Some g) of) asks
+            is_held u c request b it.fin.answer (handled it) g reason (machine_then it (Some g) of) asks
             (awaiting_waits g g.winner.0 k.rows.stage k.rows.rows.end k.awaited) (ap (is_late g) asked.moment ∙ k.early)
-            (λ own. another (sym own ∙ fin.its.instance)) level
+            (λ own. another (sym own ∙ it.fin.its.instance)) level
 
         world : Turned (Some g) (Some g)
-        world = world_then (Some g) (Some g) status.Hold answer
+        world = world_then it (Some g) (Some g) status.Hold answer
 
         phase_same : next.phase ≡ r.phase
         phase_same =
-            phase_then status.Hold (Stays (at held.rows (Holding reason))) (told_then (Some g) (Some g) status.Hold answer) (answers_at (Holding reason) status.Hold is)
+            phase_then it status.Hold (Stays (at held.rows (Holding reason))) (told_then it (Some g) (Some g) status.Hold answer) (answers_at (Holding reason) status.Hold is)
             ∙ ap (at held.rows) (sym is) ∙ sym stands
 
-        machines_same : (s : Segment) → machine_of (asked_machines v.world) s.0 s.1 ≡ machine_of (asked_machines w) s.0 s.1
+        machines_same : (s : Segment) → machine_of (asked_machines v) s.0 s.1 ≡ machine_of (asked_machines w) s.0 s.1
         machines_same s = by_segment (is_segment p q s) refl
           where
-            by_segment : (x : Bool) → is_segment p q s ≡ x → machine_of (asked_machines v.world) s.0 s.1 ≡ machine_of (asked_machines w) s.0 s.1
+            by_segment : (x : Bool) → is_segment p q s ≡ x → machine_of (asked_machines v) s.0 s.1 ≡ machine_of (asked_machines w) s.0 s.1
             by_segment false other = world.turned.others s.0 s.1 (apart_segments p q s other)
             by_segment true own =
-                subst (λ (y : Segment). machine_of (asked_machines v.world) y.0 y.1 ≡ machine_of (asked_machines w) y.0 y.1) (it_is (p, q) s own)
+                subst (λ (y : Segment). machine_of (asked_machines v) y.0 y.1 ≡ machine_of (asked_machines w) y.0 y.1) (it_is (p, q) s own)
                 (world.turned.behind ∙ sym world.turned.before)
 
         held_out : HasComeOut
         held_out =
             record {
               by_rows =
-                  by_rows_then (Some g) (Some g) status.Hold answer (λ j stage x apart e. e) (Stays (at held.rows (Holding reason))) (answers_at (Holding reason) status.Hold is)
-                  (holds_on (Some g) (Some g) status.Hold answer held reason reports consumes)
-                  (λ x e. subst (IsMachineByRows v.world (p, q)) (same_Some g x e)
-                  (machine_on w v.world i.0 n new p q r next (Some g) (Some g) world safe_then (p, q) g (λ own. absurd (another own)) k));
+                  by_rows_then it (Some g) (Some g) status.Hold answer (λ j stage x apart e. e) (Stays (at held.rows (Holding reason))) (answers_at (Holding reason) status.Hold is)
+                  (holds_on it (Some g) (Some g) status.Hold answer held reason reports consumes)
+                  (λ x e. subst (IsMachineByRows v (p, q)) (same_Some g x e)
+                  (machine_on w v i.0 n new p q r next (Some g) (Some g) world (safe_then it) (p, q) g (λ own. absurd (another own)) k));
               told = inl (record {
                 same = record {
                   phases =
-                      put_same w v.world i.0 n new p q r next
+                      put_same w v i.0 n new p q r next
                       (record { there = world.there; found = world.found; table = world.table; servers = world.servers; log = world.log }) phase_same;
                   machines = machines_same;
-                  written = unwritten (Some g) (Some g) status.Hold answer;
+                  written = unwritten it (Some g) (Some g) status.Hold answer;
                 };
                 machine = g;
                 is = of;
@@ -488,20 +296,21 @@ module _ (w u : State) (i : Instance) (p : Partition) (q : Sequence) (c : Contro
               });
             }
 
+      -- there is none: the segment is over, or the sender is picked
       module _ (none : machine_of (asked_machines w) p q ≡ None) where
-        over_out : IsOver u (length w.sent) c request going_then fin.its.there leads_then unplanned_then fetches_then b fin.answer fin.came → HasComeOut
+        over_out : IsOver u c request b it.fin.answer → HasComeOut
         over_out (s, finished, answer) =
             record {
               by_rows =
-                  by_rows_then None None s answer (λ j stage x apart e. e) (answered_at held.rows (Holding reason) s) (answers_at (Holding reason) s is)
-                  (finished_stands s finished (holds_on None None s answer held reason reports consumes)) (λ g e. absurd (none-some g e));
-              told = inr (λ hold. subst IsFinishedTold (sym (told_then None None s answer) ∙ hold) finished);
+                  by_rows_then it None None s answer (λ j stage x apart e. e) (answered_at held.rows (Holding reason) s) (answers_at (Holding reason) s is)
+                  (finished_stands s finished (holds_on it None None s answer held reason reports consumes)) (λ g e. absurd (none-some g e));
+              told = inr (λ hold. subst IsFinishedTold (sym (told_then it None None s answer) ∙ hold) finished);
             }
           where
-            finished_stands : (s : ReplyStatus) → IsFinishedTold s → IsByRowsAt v.world i.0 (p, q) r (at held.rows (Holding reason))
-                → IsByRowsAt v.world i.0 (p, q) r (phase_of (answered_at held.rows (Holding reason) s))
+            finished_stands : (s : ReplyStatus) → IsFinishedTold s → IsByRowsAt v i.0 (p, q) r (at held.rows (Holding reason))
+                → IsByRowsAt v i.0 (p, q) r (phase_of (answered_at held.rows (Holding reason) s))
             finished_stands (status.Keep seen) so stays =
-                by_test (λ (t : Turn). IsByRowsAt v.world i.0 (p, q) r (phase_of t)) (ends_at held.rows.end seen) _ _ (λ e. tt) (λ e. stays)
+                by_test (λ (t : Turn). IsByRowsAt v i.0 (p, q) r (phase_of t)) (ends_at held.rows.end seen) _ _ (λ e. tt) (λ e. stays)
             finished_stands status.Discard so stays = refl
             finished_stands (status.Failed cause) so stays = stays
             finished_stands status.Hold so stays = absurd so
@@ -513,16 +322,16 @@ module _ (w u : State) (i : Instance) (p : Partition) (q : Sequence) (c : Contro
             finished_stands (status.CommitSuccess seen) so stays = absurd so
             finished_stands status.Processed so stays = absurd so
 
-        picked_out : IsPicked u (length w.sent) c request going_then fin.its.there leads_then unplanned_then fetches_then b fin.answer fin.came → HasComeOut
+        picked_out : IsPicked u c request b it.fin.answer → HasComeOut
         picked_out k =
             record {
               by_rows =
-                  by_rows_then None (Some k.made) (status.Commit request.offset) k.answered (λ j stage x apart e. absurd (false≢true e)) (Goes (at held.rows (Building reason))) turn
-                  (commits_at None (Some k.made) (status.Commit request.offset) k.answered held reason k.made (Building reason) reports opened (consumes opened) refl awaited)
-                  (λ g e. subst (IsMachineByRows v.world (p, q)) (same_Some k.made g e)
-                  (committer_then None (Some k.made) (status.Commit request.offset) k.answered held.rows (Building reason) (Goes (at held.rows (Building reason))) k.made turn refl winner
+                  by_rows_then it None (Some k.made) (status.Commit request.offset) k.answered (λ j stage x apart e. absurd (false≢true e)) (Goes (at held.rows (Building reason))) turn
+                  (commits_at it None (Some k.made) (status.Commit request.offset) k.answered held reason k.made (Building reason) reports opened (consumes opened) refl awaited)
+                  (λ g e. subst (IsMachineByRows v (p, q)) (same_Some k.made g e)
+                  (committer_then it None (Some k.made) (status.Commit request.offset) k.answered held.rows (Building reason) (Goes (at held.rows (Building reason))) k.made turn refl winner
                   (ap (is_late k.made) (sym asked.moment) ∙ k.early) awaited));
-              told = inr (λ hold. not_hold request.offset (sym (told_then None (Some k.made) (status.Commit request.offset) k.answered) ∙ hold));
+              told = inr (λ hold. not_hold request.offset (sym (told_then it None (Some k.made) (status.Commit request.offset) k.answered) ∙ hold));
             }
           where
             not_hold : (x : Offset) → status.Commit x ≡ status.Hold → ⊥
@@ -535,7 +344,7 @@ module _ (w u : State) (i : Instance) (p : Partition) (q : Sequence) (c : Contro
                 (eq-eqb request.offset.0 held.rows.end.0 (ap (λ (x : Offset). x.0) end_is))
 
             winner : k.made.winner.0 ≡ i.0
-            winner = ap (λ (x : Instance). x.0) k.winner ∙ fin.its.instance
+            winner = ap (λ (x : Instance). x.0) k.winner ∙ it.fin.its.instance
 
             awaited : awaits (Some k.made) i.0 (Building reason) held.rows.end ≡ true
             awaited =
@@ -547,8 +356,8 @@ module _ (w u : State) (i : Instance) (p : Partition) (q : Sequence) (c : Contro
                 record {
                   write = k.write;
                   there =
-                      ap (λ (x : Partition). value_of w.store.writes (key.Meta x q)) (sym fin.its.segment.0)
-                      ∙ ap (λ (x : Sequence). value_of w.store.writes (key.Meta request.partition x)) (sym fin.its.segment.1)
+                      ap (λ (x : Partition). value_of w.store.writes (key.Meta x q)) (sym it.fin.its.segment.0)
+                      ∙ ap (λ (x : Sequence). value_of w.store.writes (key.Meta request.partition x)) (sym it.fin.its.segment.1)
                       ∙ ap (λ (t : Told). value_of t.writes (key.Meta request.partition request.sequence)) (sym asked.store) ∙ k.there;
                   meta = k.meta;
                   is = k.is;
@@ -557,10 +366,10 @@ module _ (w u : State) (i : Instance) (p : Partition) (q : Sequence) (c : Contro
 
         reported_out : HasComeOut
         reported_out =
-            by_way (is_reported u (length w.sent) c request going_then fin.its.there leads_then unplanned_then fetches_then b fin.answer fin.came (machine_then None none) kind_is)
+            by_way (is_reported u c request b it.fin.answer (handled it) (machine_then it None none) kind_is)
           where
-            by_way : IsPicked u (length w.sent) c request going_then fin.its.there leads_then unplanned_then fetches_then b fin.answer fin.came
-                ⊎ IsOver u (length w.sent) c request going_then fin.its.there leads_then unplanned_then fetches_then b fin.answer fin.came → HasComeOut
+            by_way : IsPicked u c request b it.fin.answer
+                ⊎ IsOver u c request b it.fin.answer → HasComeOut
             by_way (inl k) = picked_out k
             by_way (inr k) = over_out k
 
@@ -581,13 +390,13 @@ module _ (w u : State) (i : Instance) (p : Partition) (q : Sequence) (c : Contro
       parts = awaits_parts g i.0 held.stage held.rows.end awaited_by
 
       early : is_late g w.moment ≡ false
-      early = (before.machines (p, q) g of).early
+      early = (it.by_rows.machines (p, q) g of).early
 
       early_then : is_late g u.moment ≡ false
       early_then = ap (is_late g) asked.moment ∙ early
 
       own_winner : g.winner.0 ≡ request.number.instance.0
-      own_winner = parts.1 ∙ sym fin.its.instance
+      own_winner = parts.1 ∙ sym it.fin.its.instance
 
       own_level : g.offset.0 ≡ request.offset.0
       own_level = parts.2 ∙ ap (λ (x : Offset). x.0) (sym end_is)
@@ -600,13 +409,13 @@ module _ (w u : State) (i : Instance) (p : Partition) (q : Sequence) (c : Contro
       starting_out built is asks =
           record {
             by_rows =
-                by_rows_then (Some g) (Some next_machine) status.CommitContinue answer (waits_alone (Some next_machine)) (Goes (at held.rows (Uploading reason built)))
+                by_rows_then it (Some g) (Some next_machine) status.CommitContinue answer (waits_alone (Some next_machine)) (Goes (at held.rows (Uploading reason built)))
                 (answers_at (Starting reason built) status.CommitContinue is)
-                (commits_at (Some g) (Some next_machine) status.CommitContinue answer held reason next_machine (Uploading reason built) commits.reports commits.opened commits.consumes refl awaited)
-                (λ x e. subst (IsMachineByRows v.world (p, q)) (same_Some next_machine x e)
-                (committer_then (Some g) (Some next_machine) status.CommitContinue answer held.rows (Uploading reason built) (Goes (at held.rows (Uploading reason built))) next_machine
+                (commits_at it (Some g) (Some next_machine) status.CommitContinue answer held reason next_machine (Uploading reason built) commits.reports commits.opened commits.consumes refl awaited)
+                (λ x e. subst (IsMachineByRows v (p, q)) (same_Some next_machine x e)
+                (committer_then it (Some g) (Some next_machine) status.CommitContinue answer held.rows (Uploading reason built) (Goes (at held.rows (Uploading reason built))) next_machine
                 (answers_at (Starting reason built) status.CommitContinue is) refl parts.1 late awaited));
-            told = inr (λ hold. not_hold (sym (told_then (Some g) (Some next_machine) status.CommitContinue answer) ∙ hold));
+            told = inr (λ hold. not_hold (sym (told_then it (Some g) (Some next_machine) status.CommitContinue answer) ∙ hold));
           }
         where
           not_hold : status.CommitContinue ≡ status.Hold → ⊥
@@ -618,9 +427,9 @@ module _ (w u : State) (i : Instance) (p : Partition) (q : Sequence) (c : Contro
           notified : g.state ≡ machine.CommitterNotified
           notified = notified_is g.state (ap (λ (x : Stage). waits_at x g.state) (sym is) ∙ parts.0)
 
-          answer : IsAnsweredBy u (length w.sent) c request going_then fin.its.there leads_then unplanned_then fetches_then b fin.answer fin.came (Some g) (Some next_machine) status.CommitContinue
+          answer : Answered (Some g) (Some next_machine) status.CommitContinue
           answer =
-              is_continued u (length w.sent) c request going_then fin.its.there leads_then unplanned_then fetches_then b fin.answer fin.came g (machine_then (Some g) of) asks notified early_then
+              is_continued u c request b it.fin.answer (handled it) g (machine_then it (Some g) of) asks notified early_then
               own_winner own_level
 
           late : is_late next_machine w.moment ≡ false
@@ -631,7 +440,7 @@ module _ (w u : State) (i : Instance) (p : Partition) (q : Sequence) (c : Contro
 
       uploading_out : (built : SealedSegment) (path bytes : List ℕ) → held.stage ≡ Uploading reason built → request.kind ≡ kind.Upload path bytes → HasComeOut
       uploading_out built path bytes is asks =
-          by_answer (is_uploaded u (length w.sent) c request going_then fin.its.there leads_then unplanned_then fetches_then b fin.answer fin.came path bytes (Some g) (machine_then (Some g) of) asks)
+          by_answer (is_uploaded u c request b it.fin.answer (handled it) path bytes (Some g) (machine_then it (Some g) of) asks)
         where
           not_hold : (shown : List ℕ) → status.UploadSuccess shown ≡ status.Hold → ⊥
           not_hold shown e = cc
@@ -639,73 +448,73 @@ module _ (w u : State) (i : Instance) (p : Partition) (q : Sequence) (c : Contro
           awaited : awaits (Some g) i.0 (Uploading reason built) held.rows.end ≡ true
           awaited = ap (λ (x : Stage). awaits (Some g) i.0 x held.rows.end) (sym is) ∙ awaited_by
 
-          by_answer : (shown : List ℕ) × IsAnsweredBy u (length w.sent) c request going_then fin.its.there leads_then unplanned_then fetches_then b fin.answer fin.came (Some g) (Some g) (status.UploadSuccess shown)
+          by_answer : (shown : List ℕ) × Answered (Some g) (Some g) (status.UploadSuccess shown)
               → HasComeOut
           by_answer (shown, answer) =
               record {
                 by_rows =
-                    by_rows_then (Some g) (Some g) (status.UploadSuccess shown) answer (waits_alone (Some g)) (Goes (at held.rows (Ending reason built shown)))
+                    by_rows_then it (Some g) (Some g) (status.UploadSuccess shown) answer (waits_alone (Some g)) (Goes (at held.rows (Ending reason built shown)))
                     (answers_at (Uploading reason built) (status.UploadSuccess shown) is)
-                    (commits_at (Some g) (Some g) (status.UploadSuccess shown) answer held reason g (Ending reason built shown) commits.reports commits.opened commits.consumes refl awaited)
-                    (λ x e. subst (IsMachineByRows v.world (p, q)) (same_Some g x e)
-                    (committer_then (Some g) (Some g) (status.UploadSuccess shown) answer held.rows (Ending reason built shown) (Goes (at held.rows (Ending reason built shown))) g
+                    (commits_at it (Some g) (Some g) (status.UploadSuccess shown) answer held reason g (Ending reason built shown) commits.reports commits.opened commits.consumes refl awaited)
+                    (λ x e. subst (IsMachineByRows v (p, q)) (same_Some g x e)
+                    (committer_then it (Some g) (Some g) (status.UploadSuccess shown) answer held.rows (Ending reason built shown) (Goes (at held.rows (Ending reason built shown))) g
                     (answers_at (Uploading reason built) (status.UploadSuccess shown) is) refl parts.1 early awaited));
-                told = inr (λ hold. not_hold shown (sym (told_then (Some g) (Some g) (status.UploadSuccess shown) answer) ∙ hold));
+                told = inr (λ hold. not_hold shown (sym (told_then it (Some g) (Some g) (status.UploadSuccess shown) answer) ∙ hold));
               }
 
       -- the job has ended, whatever it has written
       module _ (built : SealedSegment) (path : List ℕ) (is : held.stage ≡ Ending reason built path) (asks : request.kind ≡ kind.CommitEnd path) where
-        ended : IsEndedBy u (length w.sent) c request going_then fin.its.there leads_then unplanned_then fetches_then b fin.answer fin.came (Some g) b.world
+        ended : IsEndedBy u c request b it.fin.answer (Some g) b.world
         ended =
-            is_ended u (length w.sent) c request going_then fin.its.there leads_then unplanned_then fetches_then b fin.answer fin.came g path (machine_then (Some g) of) asks
+            is_ended u c request b it.fin.answer (handled it) g path (machine_then it (Some g) of) asks
             (uploading_is g.state (ap (λ (x : Stage). waits_at x g.state) (sym is) ∙ parts.0)) early_then own_winner own_level
 
         ended_world : Turned (Some g) None
-        ended_world = turned_world (Some g) None ended.moment ended.turned
+        ended_world = turned_world it (Some g) None ended.moment ended.turned
 
-        committed : HasCommitted w.store.writes v.world.store.writes p q
+        committed : HasCommitted w.store.writes v.store.writes p q
         committed =
-            subst (λ (h : List Seen). HasCommitted h v.world.store.writes p q) (ap (λ (t : Told). t.writes) asked.store)
-            (subst (λ (h : List Seen). HasCommitted u.store.writes h p q) (sym (ap (λ (t : Told). t.writes) taken.store))
-            (subst (λ (x : Sequence). HasCommitted u.store.writes b.world.store.writes p x) fin.its.segment.1
-            (subst (λ (x : Partition). HasCommitted u.store.writes b.world.store.writes x request.sequence) fin.its.segment.0 ended.committed)))
+            subst (λ (h : List Seen). HasCommitted h v.store.writes p q) (ap (λ (t : Told). t.writes) asked.store)
+            (subst (λ (h : List Seen). HasCommitted u.store.writes h p q) (sym (ap (λ (t : Told). t.writes) it.fin.taken.taken.store))
+            (subst (λ (x : Sequence). HasCommitted u.store.writes b.world.store.writes p x) it.fin.its.segment.1
+            (subst (λ (x : Partition). HasCommitted u.store.writes b.world.store.writes x request.sequence) it.fin.its.segment.0 ended.committed)))
 
-        own_within : p.0 < v.world.setup.partitions
+        own_within : p.0 < v.setup.partitions
         own_within =
-            subst (λ (x : Setup). p.0 < x.partitions) (sym on.setup)
-            (subst (λ (x : Partition). x.0 < w.setup.partitions) fin.its.segment.0 fin.within)
+            subst (λ (x : Setup). p.0 < x.partitions) (sym (on it).setup)
+            (subst (λ (x : Partition). x.0 < w.setup.partitions) it.fin.its.segment.0 it.fin.within)
 
         -- a node in progress was so before, and who was to consume it still is
         consumes_then : (j : ℕ) (z : ServerNode) (x : Segment) (y : Consumer) → slice_get w.servers j ≡ Some z → Has z.server.table.entries (segment_at x (Replica y))
-            → (IsOpen w x → IsToConsume w j x) → IsOpen v.world x → IsToConsume v.world j x
+            → (IsOpen w x → IsToConsume w j x) → IsOpen v x → IsToConsume v j x
         consumes_then j z x y there held_there consumes opened = by_committed committed
           where
             over : (segment_of y ≡ x) × IsReplica w.setup (past_of w) z.server.numbers.instance z.server.numbers.incarnation y
-            over = (going.safe.safe.servers j z there).over.entries (segment_at x (Replica y)) held_there
+            over = (it.going.safe.safe.servers j z there).over.entries (segment_at x (Replica y)) held_there
 
-            within : x.0.0 < v.world.setup.partitions
-            within = subst (λ (k : Setup). x.0.0 < k.partitions) (sym on.setup) (subst (λ (k : Segment). k.0.0 < w.setup.partitions) over.0 over.1.partition)
+            within : x.0.0 < v.setup.partitions
+            within = subst (λ (k : Setup). x.0.0 < k.partitions) (sym (on it).setup) (subst (λ (k : Segment). k.0.0 < w.setup.partitions) over.0 over.1.partition)
 
             begun : IsBegun w.store.writes x.0 x.1 y.start
             begun = subst (λ (k : Segment). IsBegun w.store.writes k.0 k.1 y.start) over.0 over.1.begun
 
-            by_segment : LeavesOthers w.store.writes v.world.store.writes p q → IsEnded v.world.store.writes p q → (k : Bool) → is_segment p q x ≡ k
-                → IsToConsume v.world j x
+            by_segment : LeavesOthers w.store.writes v.store.writes p q → IsEnded v.store.writes p q → (k : Bool) → is_segment p q x ≡ k
+                → IsToConsume v j x
             by_segment leaves done true own =
-                absurd (not_ended v.world (p, q) safe_then own_within (subst (IsOpen v.world) (sym (it_is (p, q) x own)) opened) done)
+                absurd (not_ended v (p, q) (safe_then it) own_within (subst (IsOpen v) (sym (it_is (p, q) x own)) opened) done)
             by_segment leaves done false other =
                 leaves.consumes x.0 x.1 (record { 0 = j }) (apart_segments p q x other)
-                (consumes (open_before w v.world x y.start safe_then within on.grows begun opened))
+                (consumes (open_before w v x y.start (safe_then it) within (on it).grows begun opened))
 
-            by_committed : HasCommitted w.store.writes v.world.store.writes p q → IsToConsume v.world j x
-            by_committed (inl same) = consumes_same w v.world same j x (consumes (open_same v.world w (sym same) x opened))
+            by_committed : HasCommitted w.store.writes v.store.writes p q → IsToConsume v j x
+            by_committed (inl same) = consumes_same w v same j x (consumes (open_same v w (sym same) x opened))
             by_committed (inr (leaves, done)) = by_segment leaves done (is_segment p q x) refl
 
-        opens_then : (x : Segment) → is_segment p q x ≡ false → IsOpen w x → IsOpen v.world x
+        opens_then : (x : Segment) → is_segment p q x ≡ false → IsOpen w x → IsOpen v x
         opens_then x other opened = by_committed committed
           where
-            by_committed : HasCommitted w.store.writes v.world.store.writes p q → IsOpen v.world x
-            by_committed (inl same) = open_same w v.world same x opened
+            by_committed : HasCommitted w.store.writes v.store.writes p q → IsOpen v x
+            by_committed (inl same) = open_same w v same x opened
             by_committed (inr (leaves, done)) =
                 record {
                   write = opened.write;
@@ -716,11 +525,11 @@ module _ (w u : State) (i : Instance) (p : Partition) (q : Sequence) (c : Contro
                 }
 
         others_then : (j : ℕ) (z : ServerNode) → slice_get w.servers j ≡ Some z → (x : Segment) (y : Consumer) → Has z.server.table.entries (segment_at x (Replica y))
-            → (j ≡ i.0 → is_segment p q x ≡ false) → GoesOn w v.world j x
+            → (j ≡ i.0 → is_segment p q x ≡ false) → GoesOn w v j x
         others_then j z there x y held_there apart =
             record {
-              setup = on.setup;
-              log = on.log;
+              setup = (on it).setup;
+              log = (on it).log;
               moment = ended_world.moment;
               consumes = consumes_then j z x y there held_there;
               commits = λ stage end awaited opened consumes. by_segment stage end awaited opened consumes (is_segment p q x) refl;
@@ -728,7 +537,7 @@ module _ (w u : State) (i : Instance) (p : Partition) (q : Sequence) (c : Contro
           where
             by_segment : (stage : Stage) (end : Offset) → awaits (machine_of (asked_machines w) x.0 x.1) j stage end ≡ true → IsOpen w x → IsToConsume w j x
                 → (k : Bool) → is_segment p q x ≡ k
-                → (awaits (machine_of (asked_machines v.world) x.0 x.1) j stage end ≡ true) × IsOpen v.world x × IsToConsume v.world j x
+                → (awaits (machine_of (asked_machines v) x.0 x.1) j stage end ≡ true) × IsOpen v x × IsToConsume v j x
             by_segment stage end awaited opened consumes true own =
                 let same : (p, q) ≡ x = it_is (p, q) x own in
                 let its : awaits (Some g) j stage end ≡ true =
@@ -742,18 +551,18 @@ module _ (w u : State) (i : Instance) (p : Partition) (q : Sequence) (c : Contro
                   consumes_then j z x y there held_there (λ was. consumes) on_it,
                 )
 
-        ended_stays : IsByRowsAt v.world i.0 (p, q) r (at held.rows (Holding reason))
+        ended_stays : IsByRowsAt v i.0 (p, q) r (at held.rows (Holding reason))
         ended_stays = (
-          reports_on w v.world on.setup on.log r held.rows.end reason commits.reports,
-          consumes_then i.0 n (p, q) r asked.at has (λ was. commits.consumes),
+          reports_on w v (on it).setup (on it).log r held.rows.end reason commits.reports,
+          consumes_then i.0 n (p, q) r asked.at (has it) (λ was. commits.consumes),
         )
 
         abbrev Stands : ReplyStatus → Type 0
-        Stands s = IsByRowsAt v.world i.0 (p, q) r (phase_of (answered_at held.rows (Ending reason built path) s))
+        Stands s = IsByRowsAt v i.0 (p, q) r (phase_of (answered_at held.rows (Ending reason built path) s))
 
         success_stands : (s : ReplyStatus) → IsSuccess s → Stands s
         success_stands (status.CommitSuccess seen) success =
-            by_test (λ (t : Turn). IsByRowsAt v.world i.0 (p, q) r (phase_of t)) (ends_at held.rows.end seen) _ _ (λ e. tt) (λ e. ended_stays)
+            by_test (λ (t : Turn). IsByRowsAt v i.0 (p, q) r (phase_of t)) (ends_at held.rows.end seen) _ _ (λ e. tt) (λ e. ended_stays)
         success_stands status.Processed success = ended_stays
         success_stands status.Hold success = absurd success
         success_stands status.NotLeader success = absurd success
@@ -777,14 +586,14 @@ module _ (w u : State) (i : Instance) (p : Partition) (q : Sequence) (c : Contro
         ended_not_held (inr success) hold = subst IsSuccess hold success
 
         its_status : FailedOrSuccess reply.status
-        its_status = subst FailedOrSuccess fin.answered.answer.status ended.status
+        its_status = subst FailedOrSuccess it.fin.answered.answer.status ended.status
 
         ending_out : HasComeOut
         ending_out =
             record {
               by_rows =
-                  turned_by_rows w v.world i.0 n new p q r next (Some g) None ended_world safe_then before others_then
-                  (stands_then reply.status (answered_at held.rows (Ending reason built path) reply.status) refl (answers_at (Ending reason built path) reply.status is)
+                  turned_by_rows w v i.0 n new p q r next (Some g) None ended_world (safe_then it) it.by_rows others_then
+                  (stands_then it reply.status (answered_at held.rows (Ending reason built path) reply.status) refl (answers_at (Ending reason built path) reply.status is)
                   (ended_stands reply.status its_status))
                   (λ x e. absurd (none-some x e));
               told = inr (ended_not_held its_status);
@@ -817,7 +626,7 @@ module _ (w u : State) (i : Instance) (p : Partition) (q : Sequence) (c : Contro
     stage_out (Retaining done) is asks h = absurd (none-some request.kind asks)
 
   comes_out : HasComeOut
-  comes_out = by_phase r.phase refl asked.kind stood
+  comes_out = by_phase r.phase refl asked.kind (stood it)
     where
       by_phase : (ph : Phase) → r.phase ≡ ph → kind_in r.name request.number ph ≡ Some request.kind → IsByRowsAt w i.0 (p, q) r ph → HasComeOut
       by_phase (phase.Unsealed held) is asks h = stage_out held is held.stage refl asks h
@@ -842,134 +651,97 @@ committing_asks (Building reason) commits = absurd commits
 committing_asks (ConsumingToOnline end done) commits = absurd commits
 committing_asks (Retaining done) commits = absurd commits
 
--- a request was sent and answered, up to this world
-record HasMade (w : State) (i : Instance) (p : Partition) (q : Sequence) (v : State) : Type 0 where
-  controller : ControllerId
-  led : leader_in w ≡ Some controller
-  sent : State
-  outcome : Outcome
-  steps : Steps w (event.Report i p q) sent (Ok outcome)
-  last : Reached
-  fin : HasFinished w sent i p q controller outcome last
-  world : v ≡ last.world
-
-module _ (w : State) (i : Instance) (s : SegmentAt) (busy : Bool) (v : Reached) (told : Bool) (going : IsGoing w) (before : IsByRows w) (leading : IsLeading w)
-    (h : ExchangeTurn i s busy w v (Ok told)) where
-  -- nothing happened, or a request was made
-  abbrev Ways : Type 0
-  Ways = ((v.world ≡ w) × (told ≡ busy) × (due_of w (event.Report i s.0 s.1) ≡ nothing)) ⊎ HasMade w i s.0 s.1 v.world
-
-  requested : (c : ControllerId) → leader_in w ≡ Some c → Requests i s c busy w v (Ok told) → Ways
-  requested c led t = by_told t.between t.told t.last t.came.by t.further t.whole
-    where
-      by_told : (x : Reached) (y : Result Outcome Refusal) (l : Reached) → HappensBy (event.Report i s.0 s.1) w x y → AfterRequest c busy y x.world l (Ok told)
-          → v ≡ after x.turns l → Ways
-      by_told x (Ok o) l by further whole =
-          let f = then_parts (AfterReport c o) (λ exchanged. Gives true) x.world l told further in
-          inr (record {
-            controller = c;
-            led = led;
-            sent = x.world;
-            outcome = o;
-            steps = by.0;
-            last = f.between;
-            fin = finishes w x.world i s.0 s.1 c o f.between f.told going led by.0 f.came;
-            world =
-                ap (λ (z : Reached). z.world) whole ∙ ap (λ (z : Reached). z.world) f.whole ∙ ap (λ (z : Reached). z.world) f.further.0;
-          })
-      by_told x (Err NothingToDo) l by further whole =
-          inl (
-            ap (λ (z : Reached). z.world) whole ∙ ap (λ (z : Reached). z.world) further.0 ∙ ap (λ (z : Reached). z.world) by.1,
-            told_same told busy further.1,
-            by.0,
-          )
-      by_told x (Err NoSuchMessage) l by further whole = absurd (told_not told NoSuchMessage further.1)
-      by_told x (Err NoSuchNode) l by further whole = absurd (told_not told NoSuchNode further.1)
-      by_told x (Err NodeDown) l by further whole = absurd (told_not told NodeDown further.1)
-      by_told x (Err (Limit which)) l by further whole = absurd (told_not told (Limit which) further.1)
-      by_told x (Err Memory) l by further whole = absurd (told_not told Memory further.1)
-
-  ways : Ways
-  ways = by_leader (leader_in w) refl h
-    where
-      by_leader : (o : Option ControllerId) → leader_in w ≡ o → WithLeader i s o busy w v (Ok told) → Ways
-      by_leader None none g = let there = leader_there w leading going.safe in absurd (none-some there.0 (sym none ∙ there.1))
-      by_leader (Some c) led g = requested c led g
-
+module _ (w : State) (i : Instance) (s : SegmentAt) (v : Reached) (going : IsGoing w) (before : IsByRows w) (leading : IsLeading w) (m : HasMade w i s.0 s.1 v) where
   module _ (unplanned : w.store.faults.plan ≡ []) (fetches : w.deep.faults.plan ≡ []) where
-    out : (m : HasMade w i s.0 s.1 v.world)
-        → HasComeOut w m.sent i s.0 s.1 m.controller m.outcome m.last m.fin going before leading m.led unplanned fetches m.steps
-    out m = comes_out w m.sent i s.0 s.1 m.controller m.outcome m.last m.fin going before leading m.led unplanned fetches m.steps
+    abbrev exchange : Exchange
+    exchange =
+        record {
+          from = w;
+          sent = m.sent;
+          instance = i;
+          partition = s.0;
+          sequence = s.1;
+          controller = m.controller;
+          outcome = m.outcome;
+          to = m.last;
+          led = m.led;
+          steps = m.steps;
+          fin = m.fin;
+          going = going;
+          by_rows = before;
+          leading = leading;
+          unplanned = unplanned;
+          fetches = fetches;
+        }
 
-    by_rows_behind : IsByRows v.world
-    by_rows_behind = by_way ways
+    made_by_rows : IsByRows v.world
+    made_by_rows = subst IsByRows (sym m.world) (comes_out exchange).by_rows
+
+  -- where it wrote nothing, the answer was HOLD or leaves less ahead
+  module _ (settling : IsSettling w) (same : v.world.store.writes ≡ w.store.writes) where
+    abbrev IsHeld : Type 0
+    IsHeld = IsHeldSo (exchange settling.steady.unplanned settling.fetches)
+
+    made_still : (ahead_still v.world < ahead_still w) ⊎ IsHeld
+    made_still =
+        by_still (m.fin.taken.still settling (ap (λ (x : State). x.store.writes) (sym m.world) ∙ same))
+        (comes_out (exchange settling.steady.unplanned settling.fetches)).told
       where
-        by_way : Ways → IsByRows v.world
-        by_way (inl (same, e, due)) = subst IsByRows (sym same) before
-        by_way (inr m) = subst IsByRows (sym m.world) (out m).by_rows
+        by_still : MakesWait w m.fin.answered.answer.reply.status ⊎ (ahead_still m.last.world < ahead_still w)
+            → IsHeld ⊎ (m.fin.answered.answer.reply.status ≡ status.Hold → ⊥) → (ahead_still v.world < ahead_still w) ⊎ IsHeld
+        by_still (inr less) told = inl (subst (λ (x : State). ahead_still x < ahead_still w) (sym m.world) less)
+        by_still (inl (inr (away, none))) told = absurd (none leading)
+        by_still (inl (inl hold)) (inl held) = inr held
+        by_still (inl (inl hold)) (inr never) = absurd (never hold)
 
-    -- where it wrote nothing, the answer was HOLD or leaves less ahead
-    module _ (settling : IsSettling w) (same : v.world.store.writes ≡ w.store.writes) (m : HasMade w i s.0 s.1 v.world) where
-      abbrev Held : Type 0
-      Held = IsHeldSo w m.sent i s.0 s.1 m.controller m.outcome m.last m.fin going before leading m.led unplanned fetches m.steps
+module _ (i : Instance) (s : SegmentAt) (busy : Bool) (w : State) (v : Reached) (told : Bool) (going : IsGoing w) (before : IsByRows w) (leading : IsLeading w) where
+  pub exchange_by_rows : w.store.faults.plan ≡ [] → w.deep.faults.plan ≡ [] → ExchangeTurn i s busy w v (Ok told) → IsByRows v.world
+  exchange_by_rows unplanned fetches h = by_way (exchange_requests i s busy w v told going leading h)
+    where
+      by_way : HasRequested w i s busy v told → IsByRows v.world
+      by_way (inl (same, e, due)) = subst IsByRows (sym same) before
+      by_way (inr m) = made_by_rows w i s v going before leading m unplanned fetches
 
-      made_still : (ahead_still v.world < ahead_still w) ⊎ Held
-      made_still =
-          by_still (m.fin.taken.still settling (ap (λ (x : State). x.store.writes) (sym m.world) ∙ same)) (out m).told
-        where
-          by_still : MakesWait w m.fin.answered.answer.reply.status ⊎ (ahead_still m.last.world < ahead_still w)
-              → Held ⊎ (m.fin.answered.answer.reply.status ≡ status.Hold → ⊥) → (ahead_still v.world < ahead_still w) ⊎ Held
-          by_still (inr less) told_so = inl (subst (λ (x : State). ahead_still x < ahead_still w) (sym m.world) less)
-          by_still (inl (inr (away, none))) told_so = absurd (none leading)
-          by_still (inl (inl hold)) (inl held) = inr held
-          by_still (inl (inl hold)) (inr never) = absurd (never hold)
-
-pub exchange_by_rows : (i : Instance) (s : SegmentAt) (busy : Bool) (w : State) (v : Reached) (told : Bool) → IsGoing w → IsByRows w → IsLeading w
-    → w.store.faults.plan ≡ [] → w.deep.faults.plan ≡ [] → ExchangeTurn i s busy w v (Ok told) → IsByRows v.world
-exchange_by_rows i s busy w v told going before leading unplanned fetches h = by_rows_behind w i s busy v told going before leading h unplanned fetches
-
-pub exchange_still : (i : Instance) (s : SegmentAt) (busy : Bool) (w : State) (v : Reached) (told : Bool) → IsGoing w → IsByRows w → IsLeading w → IsSettling w
-    → ExchangeTurn i s busy w v (Ok told) → v.world.store.writes ≡ w.store.writes
-    → (ahead_still v.world < ahead_still w) ⊎ ((told ≡ busy) × (v.world ≡ w))
-    ⊎ (IsSame w v.world × ((m : Completion) × (machine_of (asked_machines w) s.0 s.1 ≡ Some m)))
-exchange_still i s busy w v told going before leading settling h same = by_way (ways w i s busy v told going before leading h)
-  where
-    Comes : Type 0
-    Comes = (ahead_still v.world < ahead_still w) ⊎ ((told ≡ busy) × (v.world ≡ w))
+  module _ (settling : IsSettling w) (h : ExchangeTurn i s busy w v (Ok told)) where
+    pub exchange_still : v.world.store.writes ≡ w.store.writes
+        → (ahead_still v.world < ahead_still w) ⊎ ((told ≡ busy) × (v.world ≡ w))
         ⊎ (IsSame w v.world × ((m : Completion) × (machine_of (asked_machines w) s.0 s.1 ≡ Some m)))
+    exchange_still same = by_way (exchange_requests i s busy w v told going leading h)
+      where
+        Comes : Type 0
+        Comes = (ahead_still v.world < ahead_still w) ⊎ ((told ≡ busy) × (v.world ≡ w))
+            ⊎ (IsSame w v.world × ((m : Completion) × (machine_of (asked_machines w) s.0 s.1 ≡ Some m)))
 
-    by_made : (m : HasMade w i s.0 s.1 v.world) → (ahead_still v.world < ahead_still w) ⊎ IsHeldSo w m.sent i s.0 s.1 m.controller m.outcome m.last m.fin going before leading m.led settling.steady.unplanned settling.fetches m.steps
-        → Comes
-    by_made m (inl less) = inl less
-    by_made m (inr held) = inr (inr (subst (IsSame w) (sym m.world) held.same, (held.machine, held.is)))
+        by_made : (m : HasMade w i s.0 s.1 v) → (ahead_still v.world < ahead_still w) ⊎ IsHeld w i s v going before leading m settling same → Comes
+        by_made m (inl less) = inl less
+        by_made m (inr held) = inr (inr (subst (IsSame w) (sym m.world) held.same, (held.machine, held.is)))
 
-    by_way : ((v.world ≡ w) × (told ≡ busy) × (due_of w (event.Report i s.0 s.1) ≡ nothing)) ⊎ HasMade w i s.0 s.1 v.world → Comes
-    by_way (inl (is, e, due)) = inr (inl (e, is))
-    by_way (inr m) = by_made m (made_still w i s busy v told going before leading h settling.steady.unplanned settling.fetches settling same m)
+        by_way : HasRequested w i s busy v told → Comes
+        by_way (inl (is, e, due)) = inr (inl (e, is))
+        by_way (inr m) = by_made m (made_still w i s v going before leading m settling same)
 
--- a committer that asks leaves less ahead
-pub exchange_commits : (i : Instance) (s : SegmentAt) (busy : Bool) (w : State) (v : Reached) (told : Bool) → IsGoing w → IsByRows w → IsLeading w → IsSettling w
-    → ExchangeTurn i s busy w v (Ok told) → (n : ServerNode) → slice_get w.servers i.0 ≡ Some n → (r : Consumer) → Has n.server.table.entries (s, Replica r)
-    → (o : Unsealed) → r.phase ≡ phase.Unsealed o → IsCommitting o.stage → v.world.store.writes ≡ w.store.writes → ahead_still v.world < ahead_still w
-exchange_commits i s busy w v told going before leading settling h n there r has_it o unsealed commits same = by_way (ways w i s busy v told going before leading h)
-  where
-    found : replica_of n.server.table s.0 s.1 ≡ Some r
-    found = ap replica_at (entry_found n.server.table.entries s (Replica r) (going.safe.safe.servers i.0 n there).over.kept.ascending has_it)
+    -- a committer that asks leaves less ahead
+    pub exchange_commits : (n : ServerNode) → slice_get w.servers i.0 ≡ Some n → (r : Consumer) → Has n.server.table.entries (s, Replica r) → (o : Unsealed)
+        → r.phase ≡ phase.Unsealed o → IsCommitting o.stage → v.world.store.writes ≡ w.store.writes → ahead_still v.world < ahead_still w
+    exchange_commits n there r has_it o unsealed commits same = by_way (exchange_requests i s busy w v told going leading h)
+      where
+        found : replica_of n.server.table s.0 s.1 ≡ Some r
+        found = ap replica_at (entry_found n.server.table.entries s (Replica r) (going.safe.safe.servers i.0 n there).over.kept.ascending has_it)
 
-    by_made : (m : HasMade w i s.0 s.1 v.world) → (ahead_still v.world < ahead_still w) ⊎ IsHeldSo w m.sent i s.0 s.1 m.controller m.outcome m.last m.fin going before leading m.led settling.steady.unplanned settling.fetches m.steps
-        → ahead_still v.world < ahead_still w
-    by_made m (inl less) = less
-    by_made m (inr held) =
-        let node : n ≡ m.fin.asked.old = same_Some n m.fin.asked.old (sym there ∙ m.fin.asked.at) in
-        let own : r ≡ m.fin.asked.replica =
-        same_Some r m.fin.asked.replica (sym found ∙ ap (λ (x : ServerNode). replica_of x.server.table s.0 s.1) node ∙ m.fin.asked.found) in
-        absurd (held.asks o (ap (λ (x : Consumer). x.phase) (sym own) ∙ unsealed) commits)
+        by_made : (m : HasMade w i s.0 s.1 v) → (ahead_still v.world < ahead_still w) ⊎ IsHeld w i s v going before leading m settling same
+            → ahead_still v.world < ahead_still w
+        by_made m (inl less) = less
+        by_made m (inr held) =
+            let node : n ≡ m.fin.asked.old = same_Some n m.fin.asked.old (sym there ∙ m.fin.asked.at) in
+            let own : r ≡ m.fin.asked.replica =
+            same_Some r m.fin.asked.replica (sym found ∙ ap (λ (x : ServerNode). replica_of x.server.table s.0 s.1) node ∙ m.fin.asked.found) in
+            absurd (held.asks o (ap (λ (x : Consumer). x.phase) (sym own) ∙ unsealed) commits)
 
-    by_way : ((v.world ≡ w) × (told ≡ busy) × (due_of w (event.Report i s.0 s.1) ≡ nothing)) ⊎ HasMade w i s.0 s.1 v.world → ahead_still v.world < ahead_still w
-    by_way (inr m) = by_made m (made_still w i s busy v told going before leading h settling.steady.unplanned settling.fetches settling same m)
-    by_way (inl (is, e, due)) =
-        let at_server : replica_there w i s.0 s.1 ≡ Some r = ap (λ (x : Option ServerNode). replica_in x s.0 s.1) there ∙ found in
-        let none : asks_due r ≡ false =
-        fails_test w i s.0 (asks_due r) (upload_cost (size_in r.phase))
-        (sym (ap (λ (x : Option Consumer). dropped (then_due (find_server w i s.0) (report_by w x))) at_server) ∙ due) in
-        absurd (true≢false (sym (ap asks_now unsealed ∙ committing_asks o.stage commits) ∙ none))
+        by_way : HasRequested w i s busy v told → ahead_still v.world < ahead_still w
+        by_way (inr m) = by_made m (made_still w i s v going before leading m settling same)
+        by_way (inl (is, e, due)) =
+            let at_server : replica_there w i s.0 s.1 ≡ Some r = ap (λ (x : Option ServerNode). replica_in x s.0 s.1) there ∙ found in
+            let none : asks_due r ≡ false =
+            fails_test w i s.0 (asks_due r) (upload_cost (size_in r.phase))
+            (sym (ap (λ (x : Option Consumer). dropped (then_due (find_server w i s.0) (report_by w x))) at_server) ∙ due) in
+            absurd (true≢false (sym (ap asks_now unsealed ∙ committing_asks o.stage commits) ∙ none))

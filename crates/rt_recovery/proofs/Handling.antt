@@ -30,7 +30,6 @@ use Rattle.rt_deep.specs.declared.refused.DeepRefused.{DeepRefused}
 use Rattle.rt_deep.specs.declared.refused.DeepRefused.TheVariants as deep
 use Rattle.rt_fsm.proofs.Table.{by_test}
 use Rattle.rt_model.specs.Completion.{first, react, Completion}
-use Rattle.rt_model.specs.Finished.{committed_row}
 use Rattle.rt_model.specs.History.{value_of}
 use Rattle.rt_model.specs.declared.completion.Ask.{Ask}
 use Rattle.rt_model.specs.declared.completion.Ask.TheVariants as ask
@@ -217,8 +216,8 @@ module _ (t : Told) (d : ToldDeep) (c : Controlling) (r : Request) (now : Moment
       Begun = HasBegun h c.machines x.controller.machines r (replicas_in c.assigned p) now what x.handled
           ⊎ ((x.controller.machines ≡ c.machines) × FinishedSo x.handled)
 
-      finished : (s : ReplyStatus) (y : Handling) → y.controller.machines ≡ c.machines → FinishedSo y.handled → Some y ≡ Some x → Begun
-      finished s y machines so e =
+      finished : (y : Handling) → y.controller.machines ≡ c.machines → FinishedSo y.handled → Some y ≡ Some x → Begun
+      finished y machines so e =
           inr (subst (λ (z : Handling). (z.controller.machines ≡ c.machines) × FinishedSo z.handled) (same_Some y x e) (machines, so))
 
       node_begins : machine_place c.machines p q ≡ None → (w : Seen) (n : Node) → value_of h (key.Meta p q) ≡ Some w → w.node ≡ n
@@ -243,15 +242,15 @@ module _ (t : Told) (d : ToldDeep) (c : Controlling) (r : Request) (now : Moment
                     (added_turned c.machines (record { partition = p; sequence = q; machine = y.1 }) free) f;
               })
           by_state (Done commit) opened f =
-              finished (committed_row seen commit.end what) _ refl
+              finished _ refl
               (cond_both (r.offset.0 == commit.end.0) (status.Keep seen) status.Discard IsFinishedTold (λ e. tt) (λ e. tt)) f
-          by_state Abandoned opened f = finished status.Discard _ refl tt f
-      node_begins free w (node.Ideal ideal) there is e = finished status.Discard _ refl tt e
-      node_begins free w node.Boot there is e = finished status.Discard _ refl tt e
-      node_begins free w node.Gone there is e = finished status.Discard _ refl tt e
+          by_state Abandoned opened f = finished _ refl tt f
+      node_begins free w (node.Ideal ideal) there is e = finished _ refl tt e
+      node_begins free w node.Boot there is e = finished _ refl tt e
+      node_begins free w node.Gone there is e = finished _ refl tt e
 
       value_begins : machine_place c.machines p q ≡ None → (o : Option Seen) → value_of h (key.Meta p q) ≡ o → after_read c r now what (found_in o) ≡ Some x → Begun
-      value_begins free None there e = finished status.Discard _ refl tt e
+      value_begins free None there e = finished _ refl tt e
       value_begins free (Some w) there e = node_begins free w w.node there refl e
 
       none_rule : (rule : Rule) → turn_of c r ≡ rule → Tells c r rule → made_by rule ≡ Some x → Begun

@@ -5,6 +5,7 @@ pub mod Continuing
 pub mod Delivering
 pub mod Entered
 pub mod Entries
+pub mod Exchanged
 pub mod Exchanging
 pub mod Forgetting
 pub mod Full

@@ -1,16 +1,16 @@
 -- How a machine reacts where segments end by the row limit alone: the first report picks its sender, each other one is told HOLD, and the
 -- committer goes on.
-use Rattle.std.proofs.Common.{◌≡◌, ℕ, ◌+◌, ◌<◌, ◌≤◌, ◌==◌, ◌||◌, nat_le, nat_lt, max, Bool, true, false, cond, List, [], ◌∷◌, map, Some, None, refl, sym, ◌∙◌, ap, subst, arith}
-use Rattle.std.specs.List.{list_all, Contains}
+use Rattle.std.proofs.Common.{◌≡◌, ℕ, ◌+◌, ◌<◌, ◌≤◌, ◌==◌, ◌||◌, nat_le, nat_lt, max, true, false, cond, List, [], ◌∷◌, map, Some, refl, sym, ◌∙◌, ap, subst, arith}
+use Rattle.std.specs.List.{Contains}
 use Rattle.std.specs.Prelude.{◌&&◌, is_none}
 use Rattle.std.proofs.lemmas.Bool.{and_from, cond-false, cond-true, eq-eqb, le-ltb, lt-leb, or_left, or_right}
 use Rattle.rt_base.specs.declared.numbers.Instance.{Instance}
 use Rattle.rt_base.specs.declared.numbers.Moment.{Moment}
 use Rattle.rt_base.specs.declared.numbers.Offset.{Offset}
-use Rattle.rt_fsm.proofs.Notes.{instances, largest_above, noted_some}
+use Rattle.rt_fsm.proofs.Notes.{largest_above, noted_some}
 use Rattle.rt_fsm.proofs.Pick.{fresh_instances}
 use Rattle.rt_fsm.proofs.Table.{by_test, offset_of}
-use Rattle.rt_model.specs.Completion.{aborts, asked_offset, by_table, catches_up, commit_end_in, commit_start_in, commit_time, consumed_in, decided, first, fresh, gathers, goes, is_late, is_only_note, largest_note, noted, offset_or_zero, past_start, picks, react, winner_of, with_note, with_pick, wrong_offset, Completion}
+use Rattle.rt_model.specs.Completion.{aborts, asked_offset, by_table, catches_up, commit_end_in, commit_start_in, commit_time, consumed_in, decided, first, fresh, goes, is_late, is_only_note, largest_note, noted, offset_or_zero, past_start, picks, react, with_note, with_pick, wrong_offset, Completion}
 use Rattle.rt_model.specs.Moments.{later}
 use Rattle.rt_model.specs.declared.completion.Ask.{Ask}
 use Rattle.rt_model.specs.declared.completion.Ask.TheVariants as ask

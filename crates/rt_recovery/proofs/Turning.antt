@@ -4,7 +4,6 @@ use Rattle.std.specs.Map.{keys_of}
 use Rattle.std.specs.Prelude.{slice_set}
 use Rattle.std.proofs.lemmas.Bool.{cases_eq, true≢false}
 use Rattle.std.proofs.lemmas.Option.{same_Some}
-use Rattle.rt_base.specs.declared.numbers.Moment.{Moment}
 use Rattle.rt_base.specs.declared.numbers.Offset.{Offset}
 use Rattle.rt_base.specs.declared.numbers.Partition.{Partition}
 use Rattle.rt_base.specs.declared.numbers.Sequence.{Sequence}
@@ -35,7 +34,7 @@ use Rattle.rt_unrefused.proofs.Requested.{replica_put}
 use Rattle.rt_calm.specs.Again.{asked_machines, awaits, machine_of}
 use Rattle.rt_calm.proofs.Machines.{IsTurned}
 use Rattle.rt_calm.proofs.Sharing.{same_segment}
-use Rattle.rt_recovery.specs.ByRows.{rows_to, CommitsFor, IsByRows, IsByRowsAt, IsFull, IsMachineByRows, IsOpen, IsToConsume, Reports, StandsByRows}
+use Rattle.rt_recovery.specs.ByRows.{rows_to, CommitsFor, IsByRows, IsByRowsAt, IsMachineByRows, IsOpen, IsToConsume, Reports, StandsByRows}
 use Rattle.rt_recovery.proofs.Entries.{entry_found, put_stays}
 use Rattle.rt_recovery.proofs.Still.{IsEntryByRows}
 
