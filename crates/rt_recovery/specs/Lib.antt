@@ -7,3 +7,4 @@ pub mod Often
 pub mod Restarting
 pub mod Retiring
 pub mod Same
+pub mod Whole

@@ -24,6 +24,7 @@ ghost use Rattle.rt_recovery.specs.Mending.{HasMended, Mends};
 ghost use Rattle.rt_recovery.specs.Often.{SettlesOften};
 ghost use Rattle.rt_recovery.specs.Restarting.{IsStartedAnew, StartsAnew};
 ghost use Rattle.rt_recovery.specs.Retiring.{HasRetired, LeavesOldOnes, Retires};
+ghost use Rattle.rt_recovery.specs.Whole.{ComesToRest};
 
 /// From any world of a run on that was started anew, `settle` answers `settled` as soon as it has more rounds than `rounds_in_all`. Every
 /// server is up without a replica and no controller has a machine, one that is up believes that it leads, no fault of a store is planned,
@@ -50,25 +51,21 @@ pub fn what_is_started_anew_is_fresh()
         → IsStartedAnew w v.world × ((more : List Turn) × Leads w more v.world) }
 {}
 
-/// From any world of a run on that was started anew, in which each partition goes on and has no committed segment between the two steps of
-/// its retirement, each query is answered whole once `settle` has answered, where it has more rounds than `rounds_in_all`: all servers rest,
-/// and the answer misses nothing, and names all offsets of each partition from its mark up to the stream's end. For each exchange leaves all
-/// partitions going on: what it writes is a commit, which runs up to its end, so that the next segment is in progress and is consumed.
+/// From any world of a run on that was started anew a `settle` with more rounds than `rounds_in_all`, or several with more in all, leave all
+/// servers at rest. And where each partition went on, with no committed segment between the two steps of its retirement, each still does,
+/// and each query is answered whole: it misses nothing, and names all offsets of each partition from its mark up to the stream's end. For
+/// each exchange leaves all partitions going on: what it writes is a commit up to its end, behind which the next segment is consumed.
 pub fn what_was_started_anew_is_answered_whole()
     ensures exchanges { (setup : Setup) (turns : List Turn) (i : Instance) (s : SegmentAt) (busy : Bool) (w : State) (v : Reached) (told : Bool)
         → IsSetup setup → Runs setup turns w → IsByRows w → w.store.faults.plan ≡ [] → AllGoOn w → ExchangeTurn i s busy w v (Ok told)
         → AllGoOn v.world }
-    ensures goes_on { (setup : Setup) (turns : List Turn) (rounds : ℕ) (w : State) (u : Reached) (settled : Bool) → IsSetup setup
+    ensures once { (setup : Setup) (turns : List Turn) (rounds : ℕ) (w : State) (u : Reached) (settled : Bool) → IsSetup setup
         → Runs setup turns w → IsFresh w → w.store.faults.plan ≡ [] → w.deep.faults.plan ≡ [] → IsLeading w → 1 ≤ setup.table.millis
-        → rounds_in_all w.setup w.log w.store.writes < rounds → Settles false rounds w u (Ok settled) → AllGoOn w → AllGoOn u.world }
-    ensures rests { (setup : Setup) (turns : List Turn) (rounds : ℕ) (w : State) (u : Reached) (settled : Bool) → IsSetup setup
+        → rounds_in_all w.setup w.log w.store.writes < rounds → Settles false rounds w u (Ok settled) → ComesToRest w u.world }
+    ensures often { (setup : Setup) (turns : List Turn) (rounds times : ℕ) (w : State) (u : Reached) (settled : Bool) → IsSetup setup
         → Runs setup turns w → IsFresh w → w.store.faults.plan ≡ [] → w.deep.faults.plan ≡ [] → IsLeading w → 1 ≤ setup.table.millis
-        → rounds_in_all w.setup w.log w.store.writes < rounds → Settles false rounds w u (Ok settled) → IsAtRest u.world }
-    ensures whole { (setup : Setup) (turns : List Turn) (rounds : ℕ) (w : State) (u : Reached) (settled : Bool) → IsSetup setup
-        → Runs setup turns w → IsFresh w → w.store.faults.plan ≡ [] → w.deep.faults.plan ≡ [] → IsLeading w → 1 ≤ setup.table.millis
-        → rounds_in_all w.setup w.log w.store.writes < rounds → Settles false rounds w u (Ok settled) → AllGoOn w
-        → (query : Query) (v : Reached) (answer : Answer) → IsQuery u.world.setup.schema query → Queries query u.world v (Ok answer)
-        → IsAnsweredWhole u.world query answer }
+        → rounds_in_all w.setup w.log w.store.writes < times * rounds → SettlesOften false rounds times w u (Ok settled)
+        → ComesToRest w u.world }
 {}
 
 /// What comes of a script that mends all partitions, one after the other, at a controller that is up: for each of them the grace passes
