@@ -239,12 +239,12 @@ set_entered : (s : Starting) (h : List Seen) (from : Seen) (n : Node) → IsLawf
     → Entered (entries_of h) (entries_of (h ++ written_by h (set from n) ∷ []))
 set_entered s h from n lawful k free =
     by_ideal from.key (Entered (entries_of h) (entries_of (h ++ w ∷ []))) (λ is.
-        let both = k is in
-        let last = Stands-last h from (versions_count_writes s h lawful) both.0 (effect_of h (set from n) free) in
-        let own : entries_of h ≡ entries_by from.node = ap entries_in (ap (last_write h) (sym is) ∙ last.0) in
-        let new : entries_of (h ++ w ∷ []) ≡ entries_by n = entries_written h w is in
-        subst (λ (es : List IdealEntry). Entered es (entries_of (h ++ w ∷ []))) (sym own)
-        (subst (Entered (entries_by from.node)) (sym new) both.1))
+    let both = k is in
+    let last = Stands-last h from (versions_count_writes s h lawful) both.0 (effect_of h (set from n) free) in
+    let own : entries_of h ≡ entries_by from.node = ap entries_in (ap (last_write h) (sym is) ∙ last.0) in
+    let new : entries_of (h ++ w ∷ []) ≡ entries_by n = entries_written h w is in
+    subst (λ (es : List IdealEntry). Entered es (entries_of (h ++ w ∷ []))) (sym own)
+    (subst (Entered (entries_by from.node)) (sym new) both.1))
     (λ other. same_entries h (h ++ w ∷ []) (entries_other h w other))
   where
     w : Seen
