@@ -26,14 +26,8 @@ use Rattle.rt_calm.specs.Ahead.{ahead_entry, ahead_in, ahead_in_world, ahead_ser
 use Rattle.rt_calm.proofs.Sums.{HasPut}
 use Rattle.rt_recovery.specs.Same.{phase_in, phases_by, phases_in, phases_of, IsCommitter, IsSame}
 
-pub same_self : (w : State) → IsSame w w
-same_self w = record { phases = refl; machines = λ s. refl; written = refl }
-
 pub same_at : (w v : State) → v ≡ w → IsSame w v
-same_at w v is = subst (IsSame w) (sym is) (same_self w)
-
-pub same_back : (w v : State) → IsSame w v → IsSame v w
-same_back w v x = record { phases = sym x.phases; machines = λ s. sym (x.machines s); written = sym x.written }
+same_at w v is = subst (IsSame w) (sym is) (record { phases = refl; machines = λ s. refl; written = refl })
 
 pub same_then : (w m v : State) → IsSame w m → IsSame m v → IsSame w v
 same_then w m v x y =

@@ -38,7 +38,7 @@ record GoesByRows (w : State) : Type 0 where
   millis : 1 ≤ w.setup.table.millis
 
 -- the last round to this world was quiet
-record IsQuietly (paused : Bool) (u : State) : Type 0 where
+record EndsQuietly (paused : Bool) (u : State) : Type 0 where
   before : State
   stands : IsRecovering before
   last : Reached
@@ -130,7 +130,7 @@ module _ (setup : Setup) (is : IsSetup setup) where
       ready : IsReady setup is u
       by : GoesByRows u
       goes_on : AllGoOn w → AllGoOn u
-      quietly : settled ≡ true → IsQuietly paused u
+      quietly : settled ≡ true → EndsQuietly paused u
 
     none_leave : (w : State) (u : Reached) (settled : Bool) → IsReady setup is w → GoesByRows w → Gives false w u (Ok settled) → RoundsLeave w u.world settled
     none_leave w u settled k by h =
