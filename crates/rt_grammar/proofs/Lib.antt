@@ -1,4 +1,3 @@
-pub mod Places
 pub mod Nots
 pub mod Completing
 pub mod Sound
