@@ -76,7 +76,6 @@ use Rattle.rt_model.proofs.Histories.{same_partition, same_sequence, Has-writes_
 use Rattle.rt_model.proofs.Lawful.{nodes_are_in_order, versions_count_writes}
 use Rattle.rt_nodes.specs.declared.controller_node.ControllerNode.{ControllerNode}
 use Rattle.rt_past.specs.Requests.{IsRequest}
-use Rattle.rt_safety.specs.CommitRun.{open_job}
 use Rattle.rt_safety.proofs.JobsOn.{handed_same, own_slot}
 use Rattle.rt_state.specs.Applying.{Next}
 use Rattle.rt_state.specs.Finding.{request_at}
