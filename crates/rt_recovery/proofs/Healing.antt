@@ -1,5 +1,5 @@
 -- Every cluster heals: a fresh start, repairs and retirements lead to a world from which `settle` comes to rest, and a query is answered whole.
-use Rattle.std.proofs.Common.{◌≡◌, ◌++◌, ◌*◌, ◌<◌, ◌≤◌, ℕ, Bool, false, true, List, [], Ok, ap, subst, sym, ◌∙◌}
+use Rattle.std.proofs.Common.{◌≡◌, ◌++◌, ◌*◌, ◌<◌, ◌≤◌, ℕ, Bool, false, true, List, [], Ok, ap, subst, ◌∙◌}
 use Rattle.rt_macros.specs.Doing.{Reached}
 use Rattle.rt_macros.specs.Querying.{Queries}
 use Rattle.rt_model.specs.Checked.{IsQuery}
@@ -39,7 +39,7 @@ module _ (setup : Setup) (turns : List Turn) (retirements lines rounds : ℕ) (w
   anew : IsStartedAnew w b × ((more : List Turn) × Leads w more b)
   anew = started_anew setup turns w h.anew is run unplanned h.starts
 
-  b_turns : List Turn
+  abbrev b_turns : List Turn
   b_turns = turns ++ anew.1.0
 
   b_run : Runs setup b_turns b
@@ -53,7 +53,7 @@ module _ (setup : Setup) (turns : List Turn) (retirements lines rounds : ℕ) (w
   mend : HasMended b m × ((more : List Turn) × Leads b more m)
   mend = mended setup b_turns b h.mended first_controller is b_run anew.0.unplanned h.mends
 
-  m_turns : List Turn
+  abbrev m_turns : List Turn
   m_turns = b_turns ++ mend.1.0
 
   m_run : Runs setup m_turns m
@@ -67,7 +67,7 @@ module _ (setup : Setup) (turns : List Turn) (retirements lines rounds : ℕ) (w
   retire : HasRetired m r × ((more : List Turn) × Leads m more r)
   retire = retired setup m_turns m h.retired first_controller retirements is m_run mend.0.unplanned h.retires
 
-  r_turns : List Turn
+  abbrev r_turns : List Turn
   r_turns = m_turns ++ retire.1.0
 
   r_run : Runs setup r_turns r

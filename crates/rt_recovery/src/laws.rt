@@ -100,7 +100,6 @@ pub fn retirements_up_to_nothing_leave_none_half_done()
 /// more rounds in all than `rounds_in_all`, a number made of the messages, the commits and the ideal state. The last of them answers
 /// `settled`; all servers rest then, and each query is answered whole: it misses nothing, and aggregates the rows of all messages from each
 /// partition's mark up to the stream's end. Segments don't end by a time of 0 ms.
-#[tactic(auto, using(crate::proofs::Healing::heals_settled, crate::proofs::Healing::heals_rests, crate::proofs::Healing::heals_whole))]
 pub fn every_cluster_heals()
     ensures settles { (setup : Setup) (turns : List Turn) (retirements lines rounds : ℕ) (w : State) (u : Reached) (settled : Bool) → IsSetup setup
         → Runs setup turns w → w.store.faults.plan ≡ [] → w.deep.faults.plan ≡ [] → 1 ≤ setup.table.millis
