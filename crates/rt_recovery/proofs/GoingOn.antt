@@ -1,5 +1,5 @@
 -- Each exchange of `settle` leaves all partitions going on, where no replica stops: what it writes is a commit, step by step up to its end.
-use Rattle.std.proofs.Common.{◌≡◌, ℕ, zero, suc, ◌<◌, ◌≤◌, Bool, true, List, [], length, Option, Some, None, Result, Ok, Err, refl, sym, ◌∙◌, ap, subst, slice_get, cond}
+use Rattle.std.proofs.Common.{◌≡◌, inl, inr, ℕ, zero, suc, ◌<◌, ◌≤◌, Bool, true, List, [], length, Option, Some, None, Ok, refl, sym, ◌∙◌, ap, subst, slice_get, cond}
 use Rattle.std.proofs.lemmas.Option.{none-some, same_Some}
 use Rattle.rt_base.specs.declared.numbers.ControllerId.{ControllerId}
 use Rattle.rt_base.specs.declared.numbers.Instance.{Instance}
@@ -33,14 +33,13 @@ use Rattle.rt_entry.specs.declared.entry.Entry.TheVariants.{Replica}
 use Rattle.rt_events.specs.declared.event.Event.TheVariants as event
 use Rattle.rt_events.specs.declared.event.Event.TheVariants.{Report}
 use Rattle.rt_events.specs.declared.outcome.Outcome.{Outcome}
-use Rattle.rt_events.specs.declared.refusal.Refusal.{Refusal}
-use Rattle.rt_events.specs.declared.refusal.Refusal.TheVariants.{Limit, Memory, NoSuchMessage, NoSuchNode, NodeDown, NothingToDo}
+use Rattle.rt_events.specs.declared.refusal.Refusal.TheVariants.{Limit, NothingToDo}
 use Rattle.rt_lists.specs.Members.{Has}
 use Rattle.rt_lists.proofs.Lists.{All-found}
-use Rattle.rt_macros.specs.Doing.{after, Gives, Happens, HappensBy, Reached}
-use Rattle.rt_macros.specs.Exchanging.{AfterDelivery, AfterReport, AfterStep, EndsJob, Handles, MakesStep}
+use Rattle.rt_macros.specs.Doing.{after, Gives, Happens, Reached}
+use Rattle.rt_macros.specs.Exchanging.{AfterDelivery, AfterStep, EndsJob, Handles, MakesStep}
 use Rattle.rt_macros.specs.Outcomes.{delivered_in, ended_in, ending, replied}
-use Rattle.rt_macros.specs.Settling.{AfterRequest, ExchangeTurn, SegmentAt, WithLeader}
+use Rattle.rt_macros.specs.Settling.{ExchangeTurn, SegmentAt}
 use Rattle.rt_macros.specs.declared.outcomes.Delivered.{Delivered}
 use Rattle.rt_macros.specs.declared.outcomes.Delivered.TheVariants as delivered
 use Rattle.rt_macros.specs.declared.outcomes.Replied.{Replied}
@@ -73,17 +72,19 @@ use Rattle.rt_store.specs.Meaning.{Told}
 use Rattle.rt_store.specs.Memory.{means}
 use Rattle.rt_unrefused.proofs.Answered.{delivery_leaves, job_leaves}
 use Rattle.rt_unrefused.proofs.JobSteps.{is_open_job, over, own_step, there_then, OwnStep, SendsIts}
-use Rattle.rt_world.specs.Reading.{events_left_in, leader_in}
+use Rattle.rt_world.specs.Reading.{events_left_in}
 use Rattle.rt_world.specs.Step.{Steps}
 use Rattle.rt_heal.specs.Mended.{NeedsNoRepair}
 use Rattle.rt_heal.specs.Turned.{NoneHalfRetired}
 use Rattle.rt_heal.proofs.Quiet.{then_parts, told_not, told_same, IsThen}
 use Rattle.rt_heal.proofs.Wholes.{unneeding_goes_on}
+use Rattle.rt_calm.specs.Again.{IsLeading}
 use Rattle.rt_calm.proofs.Controlled.{asking_on, delivery_fetches, delivery_leads, delivery_log, delivery_plan, delivery_writes, job_fetches, job_keeps_leads, job_log, job_plan, IsAsking}
 use Rattle.rt_calm.proofs.Ending.{does_commit, no_ending}
-use Rattle.rt_calm.proofs.Exchanged.{delivery_so, finishes, DeliversSo, HasFinished}
+use Rattle.rt_calm.proofs.Exchanged.{delivery_so, DeliversSo, HasFinished}
 use Rattle.rt_calm.proofs.Fitting.{Starts}
 use Rattle.rt_calm.proofs.Keeping.{goes_on, keeps_still, IsGoing}
+use Rattle.rt_calm.proofs.Rounds.{exchange_requests, HasRequested}
 use Rattle.rt_recovery.specs.ByRows.{IsByRows, IsByRowsAt}
 use Rattle.rt_recovery.specs.GoingOn.{AllGoOn}
 use Rattle.rt_recovery.proofs.Continuing.{first_goes, stage_goes, AllOn, GoesAt, StepGoes}
@@ -323,27 +324,11 @@ finished_on w u i p q c o v going by_rows none on steps f =
         phase_asks w i.0 p q f.asked.replica f.asked.replica.name f.its.request.number f.asked.replica.phase f.its.request.kind
         (by_rows.replicas i.0 f.asked.old f.asked.at (p, q) f.asked.replica has) f.asked.kind
 
-pub exchange_goes_on : (i : Instance) (s : SegmentAt) (busy : Bool) (w : State) (v : Reached) (told : Bool) → IsGoing w → IsByRows w → w.store.faults.plan ≡ []
-    → AllGoOn w → ExchangeTurn i s busy w v (Ok told) → AllGoOn v.world
-exchange_goes_on i s busy w v told going by_rows none on h = by_leader (leader_in w) refl h
+pub exchange_goes_on : (i : Instance) (s : SegmentAt) (busy : Bool) (w : State) (v : Reached) (told : Bool) → IsGoing w → IsByRows w → IsLeading w
+    → w.store.faults.plan ≡ [] → AllGoOn w → ExchangeTurn i s busy w v (Ok told) → AllGoOn v.world
+exchange_goes_on i s busy w v told going by_rows leading none on h = by_way (exchange_requests i s busy w v told going leading h)
   where
-    by_told : (c : ControllerId) → leader_in w ≡ Some c → (b : Reached) (r : Result Outcome Refusal) (l : Reached) → HappensBy (Report i s.0 s.1) w b r
-        → AfterRequest c busy r b.world l (Ok told) → v ≡ after b.turns l → AllGoOn v.world
-    by_told c led b (Ok o) l by further whole =
-        let f = then_parts (AfterReport c o) (λ exchanged. Gives true) b.world l told further in
-        subst AllGoOn
-        (sym (ap (λ (z : Reached). z.world) whole ∙ ap (λ (z : Reached). z.world) f.whole ∙ ap (λ (z : Reached). z.world) f.further.0))
-        (finished_on w b.world i s.0 s.1 c o f.between going by_rows none on by.0
-        (finishes w b.world i s.0 s.1 c o f.between f.told going led by.0 f.came))
-    by_told c led b (Err NothingToDo) l by further whole =
-        subst AllGoOn
-        (sym (ap (λ (z : Reached). z.world) whole ∙ ap (λ (z : Reached). z.world) further.0 ∙ ap (λ (z : Reached). z.world) by.1)) on
-    by_told c led b (Err NoSuchMessage) l by further whole = absurd (told_not told NoSuchMessage further.1)
-    by_told c led b (Err NoSuchNode) l by further whole = absurd (told_not told NoSuchNode further.1)
-    by_told c led b (Err NodeDown) l by further whole = absurd (told_not told NodeDown further.1)
-    by_told c led b (Err (Limit which)) l by further whole = absurd (told_not told (Limit which) further.1)
-    by_told c led b (Err Memory) l by further whole = absurd (told_not told Memory further.1)
-
-    by_leader : (o : Option ControllerId) → leader_in w ≡ o → WithLeader i s o busy w v (Ok told) → AllGoOn v.world
-    by_leader None led g = subst AllGoOn (sym (ap (λ (z : Reached). z.world) g.0)) on
-    by_leader (Some c) led t = by_told c led t.between t.told t.last t.came.by t.further t.whole
+    by_way : HasRequested w i s busy v told → AllGoOn v.world
+    by_way (inl same) = subst AllGoOn (sym same.0) on
+    by_way (inr m) =
+        subst AllGoOn (sym m.world) (finished_on w m.sent i s.0 s.1 m.controller m.outcome m.last going by_rows none on m.steps m.fin)

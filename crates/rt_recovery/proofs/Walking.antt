@@ -247,7 +247,7 @@ exchange_walks i s busy w v told k h =
     record {
       on = on;
       by_rows = exchange_by_rows i s busy w v told k.going k.by_rows k.leading k.unplanned k.fetches h;
-      goes_on = λ all. exchange_goes_on i s busy w v told k.going k.by_rows k.unplanned all h;
+      goes_on = λ all. exchange_goes_on i s busy w v told k.going k.by_rows k.leading k.unplanned all h;
       still = λ settling same. by_way settling same (exchange_still i s busy w v told k.going k.by_rows k.leading settling h same);
     }
   where

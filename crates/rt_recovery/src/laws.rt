@@ -57,8 +57,8 @@ pub fn what_is_started_anew_is_fresh()
 /// each exchange leaves all partitions going on: what it writes is a commit up to its end, behind which the next segment is consumed.
 pub fn what_was_started_anew_is_answered_whole()
     ensures exchanges { (setup : Setup) (turns : List Turn) (i : Instance) (s : SegmentAt) (busy : Bool) (w : State) (v : Reached) (told : Bool)
-        → IsSetup setup → Runs setup turns w → IsByRows w → w.store.faults.plan ≡ [] → AllGoOn w → ExchangeTurn i s busy w v (Ok told)
-        → AllGoOn v.world }
+        → IsSetup setup → Runs setup turns w → IsByRows w → IsLeading w → w.store.faults.plan ≡ [] → AllGoOn w
+        → ExchangeTurn i s busy w v (Ok told) → AllGoOn v.world }
     ensures once { (setup : Setup) (turns : List Turn) (rounds : ℕ) (w : State) (u : Reached) (settled : Bool) → IsSetup setup
         → Runs setup turns w → IsFresh w → w.store.faults.plan ≡ [] → w.deep.faults.plan ≡ [] → IsLeading w → 1 ≤ setup.table.millis
         → rounds_in_all w.setup w.log w.store.writes < rounds → Settles false rounds w u (Ok settled) → ComesToRest w u.world }

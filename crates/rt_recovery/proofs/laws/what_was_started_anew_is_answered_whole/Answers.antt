@@ -6,8 +6,8 @@ use Rattle.rt_recovery.proofs.laws.what_was_started_anew_is_answered_whole.Goals
 
 pub returns-clause-exchanges : goal.returns-clause-exchanges
 returns-clause-exchanges c =
-    λ setup turns i s busy w v told is run by_rows none on h.
-    exchange_goes_on i s busy w v told (record { safe = runs_are_safe setup turns w is run; told = runs_told setup turns w is run }) by_rows none on h
+    λ setup turns i s busy w v told is run by_rows leading none on h.
+    exchange_goes_on i s busy w v told (record { safe = runs_are_safe setup turns w is run; told = runs_told setup turns w is run }) by_rows leading none on h
 
 pub returns-clause-once : goal.returns-clause-once
 returns-clause-once c =
