@@ -15,7 +15,7 @@ use Rattle.rt_entry.specs.Entry.{is_replica}
 use Rattle.rt_entry.specs.declared.entry.Entry.{Entry}
 use Rattle.rt_entry.specs.declared.entry.Entry.TheVariants.{Committed, Replica}
 use Rattle.rt_lists.specs.Members.{Has}
-use Rattle.rt_macros.specs.Doing.{after, stays, Act, Choose, Each, EachFrom, Gives, Reached}
+use Rattle.rt_macros.specs.Doing.{stays, Act, Choose, Each, EachFrom, Gives, Reached}
 use Rattle.rt_macros.specs.Settling.{BuildAndExchange, BuildTurn, ConsumeTurn, ExchangeTurn, ReplicasHeld, ReplicasOfAll, ReplicasTurn, ReplicaTurn, SegmentAt}
 use Rattle.rt_model.specs.Completion.{Completion}
 use Rattle.rt_model.specs.declared.setup.Setup.{Setup}
