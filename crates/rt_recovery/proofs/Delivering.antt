@@ -162,9 +162,6 @@ waiting_goes machine.CommitterDecided waits = absurd waits
 waiting_goes machine.Committed waits = absurd waits
 waiting_goes machine.Aborted waits = absurd waits
 
-waiting_left : (m : Completion) → WaitsFor m.state → unless_ended m ≡ Some m
-waiting_left m waits = ap (λ (b : Bool). cond b None (Some m)) (waiting_goes m.state waits)
-
 -- ---- a request's delivery and its answer
 
 -- a request of a replica has a number below the last

@@ -127,11 +127,6 @@ never_both InProgress done going = done
 never_both (Done commit) done going = going
 never_both Abandoned done going = done
 
-done_final : (st : Status) → IsDoneStatus st → IsFinalStatus st
-done_final InProgress done = absurd done
-done_final (Done commit) done = tt
-done_final Abandoned done = absurd done
-
 -- two that are listed of one segment are one
 pub same_listed : (p : Partition) (a b : Listed) → a.sequence.0 ≡ b.sequence.0 → listed_write p a ≡ listed_write p b → a ≡ b
 same_listed p a b place writes =

@@ -103,9 +103,6 @@ same_meta a b e = cc
 own_before : (now : Moment) (a : SegMeta) → a.written ≡ now → IsBefore now (node.Meta a)
 own_before now a is m e = omega (arith, ap (λ (x : SegMeta). x.written.0) (same_meta a m e), ap (λ (x : Moment). x.0) is)
 
-ideal_before : (now : Moment) (n : Node) → ((m : SegMeta) → n ≡ node.Meta m → ⊥) → IsBefore now n
-ideal_before now n none m e = absurd (none m e)
-
 abbrev WriteIsBefore : Moment → Write → Type 0
 WriteIsBefore now (create k n) = IsBefore now n
 WriteIsBefore now (set from n) = IsBefore now n
