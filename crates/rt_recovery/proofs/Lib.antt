@@ -1,8 +1,10 @@
 pub mod Apart
+pub mod Coming
 pub mod Committing
 pub mod Continued
 pub mod Continuing
 pub mod Delivering
+pub mod Emptying
 pub mod Entered
 pub mod Entries
 pub mod Exchanged

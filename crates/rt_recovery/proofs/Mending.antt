@@ -674,7 +674,7 @@ module _ (c : ControllerId) (p : Partition) where
       (record { on = on_then p w y t.last.world x.on rest.on; needs = rest.needs })
 
   -- a partition has far fewer segments than there are numbers
-  few_sequences : (w : State) → IsSafeWorld w → p.0 < w.setup.partitions → sequences_of w.store.writes p ≤ 4294967290
+  pub few_sequences : (w : State) → IsSafeWorld w → p.0 < w.setup.partitions → sequences_of w.store.writes p ≤ 4294967290
   few_sequences w s within =
       omega (
         arith,

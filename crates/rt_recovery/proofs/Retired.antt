@@ -6,6 +6,7 @@ use Rattle.std.proofs.lemmas.Bool.{cases_lt, false≢true}
 use Rattle.std.proofs.lemmas.List.{length-map}
 use Rattle.std.proofs.lemmas.List.FromFn.{get_or-range_with_len, length-range_with_len}
 use Rattle.std.proofs.lemmas.Option.{none-some, same_Some}
+use Rattle.rt_base.specs.Faults.{fault_of, left_under}
 use Rattle.rt_base.specs.declared.numbers.Moment.{Moment}
 use Rattle.rt_base.specs.declared.numbers.Partition.{Partition}
 use Rattle.rt_base.specs.declared.numbers.Sequence.{Sequence}
@@ -47,7 +48,7 @@ use Rattle.rt_repair.specs.declared.retiring.Retiring.{Retiring}
 use Rattle.rt_repair.specs.declared.retiring.Retiring.TheVariants as decision
 use Rattle.rt_store.proofs.Seeing.{effect_of}
 use Rattle.rt_store.proofs.Told.{leaves_on, read_same}
-use Rattle.rt_store.specs.Answers.{after_call, answer_of, found_in, listing, reading, refusal_of, Leaves}
+use Rattle.rt_store.specs.Answers.{after_by, after_call, answer_of, found_in, listing, reading, refusal_of, Leaves}
 use Rattle.rt_store.specs.Calls.{answer_on, told_on}
 use Rattle.rt_store.specs.Meaning.{Told}
 use Rattle.rt_store.specs.declared.refused.StoreRefused.{StoreRefused}
@@ -86,13 +87,13 @@ deletes_by true false true true q s e = absurd (cc)
 deletes_by true false true false q s e = absurd (cc)
 
 module _ (es : List IdealEntry) (p : Partition) (now : Moment) (keep : ℕ) (s : Sequence) where
-  removes_its : (l : Listed) → retire_node p l.sequence l.seen.meta es now keep ≡ decision.Remove s → Decides es p now keep l s true
+  pub removes_its : (l : Listed) → retire_node p l.sequence l.seen.meta es now keep ≡ decision.Remove s → Decides es p now keep l s true
   removes_its l e =
       let k = removes_by (is_ended l.seen.meta.status) (nat_lt now.0 (later l.seen.meta.written keep).0) (has_entry es p l.sequence)
       (has_entry es p (next_sequence l.sequence)) l.sequence s e in
       record { same = k.0; ended = k.1; old = k.2; has = k.3 }
 
-  deletes_its : (l : Listed) → retire_node p l.sequence l.seen.meta es now keep ≡ decision.Delete s → Decides es p now keep l s false
+  pub deletes_its : (l : Listed) → retire_node p l.sequence l.seen.meta es now keep ≡ decision.Delete s → Decides es p now keep l s false
   deletes_its l e =
       let k = deletes_by (is_ended l.seen.meta.status) (nat_lt now.0 (later l.seen.meta.written keep).0) (has_entry es p l.sequence)
       (has_entry es p (next_sequence l.sequence)) l.sequence s e in
@@ -189,6 +190,20 @@ called t p now keep (Some call) k = by_leaving (leaves_on t call)
     by_leaving (inl same) = inl same
     by_leaving (inr (free, more)) = inr (written_by t.writes call, more, k free)
 
+-- a call that isn't refused writes its own
+abbrev pub Wrote : List Seen → List Seen → Option Write → Type 0
+Wrote h g None = g ≡ h
+Wrote h g (Some call) = refusal_of h call ≡ None → g ≡ h ++ written_by h call ∷ []
+
+wrote_so : (t : Told) (call : Option Write) → t.faults.plan ≡ [] → Wrote t.writes (writes_after t call) call
+wrote_so t None none = refl
+wrote_so t (Some call) none = λ free.
+    ap (λ (ps : List Bool). left_under (fault_of ps) t.writes (after_call call t.writes)) none ∙ ap (λ o. after_by o t.writes (written_by t.writes call)) free
+
+pub retire_wrote : (t : Told) (r : Retirement) (now : Moment) → t.faults.plan ≡ [] → Wrote t.writes (retire_stepped t r now).told.writes (retire_write r now)
+retire_wrote t r now none =
+    subst (λ (g : List Seen). Wrote t.writes g (retire_write r now)) (sym (retire_leaves t r now)) (wrote_so t (retire_write r now) none)
+
 module _ (s : Starting) (h : List Seen) (lawful : IsLawfulHistory s h) (r : Retirement) (now : Moment) (within : r.partition.0 < s.partitions) where
   abbrev p : Partition
   p = r.partition
@@ -270,11 +285,12 @@ listing_writes t r now at = ap (λ (s : RetireStage). (retire_at t r now s).told
 pub reading_writes : (t : Told) (r : Retirement) (now : Moment) (lowest : Option ReadNode) → r.stage ≡ stage.Reading lowest → (retire_stepped t r now).told.writes ≡ t.writes
 reading_writes t r now lowest at = ap (λ (s : RetireStage). (retire_at t r now s).told.writes) at ∙ read_same t
 
--- it has ended, and tells no step behind which there is another; it tells `nothing` only where that was decided
+-- it has ended, and tells no step behind which there is another; it tells `nothing` where that was decided
 pub record HasEnded (t : Told) (r : Retirement) (x : Stepped) (left : Told) (d : Retiring) : Type 0 where
   pub ended : x.retire ≡ goes r stage.Ended
   pub tells : goes_further x.step ≡ false
   pub nothing : is_nothing x.step ≡ true → (d ≡ decision.Nothing) × (left.writes ≡ t.writes)
+  pub quiet : d ≡ decision.Nothing → is_nothing x.step ≡ true
 
 abbrev Ends : Option RetireStep → Type 0
 Ends o = (did : RetireStep) → o ≡ Some did → (goes_further did ≡ false) × (is_nothing did ≡ false)
@@ -285,16 +301,17 @@ ends_so own e f did same = (ap goes_further (sym (same_Some own did same)) ∙ e
 ends_none : Ends None
 ends_none did e = absurd (none-some did e)
 
-ended_by : (t : Told) (r : Retirement) (x : Stepped) (left : Told) (d : Retiring) (o : Option RetireStep) → Ends o → retire_ended r o ≡ Some x
-    → HasEnded t r x left d
-ended_by t r x left d None ends e = absurd (none-some x e)
-ended_by t r x left d (Some did) ends e =
+ended_by : (t : Told) (r : Retirement) (x : Stepped) (left : Told) (d : Retiring) (o : Option RetireStep) → (d ≡ decision.Nothing → ⊥) → Ends o
+    → retire_ended r o ≡ Some x → HasEnded t r x left d
+ended_by t r x left d None busy ends e = absurd (none-some x e)
+ended_by t r x left d (Some did) busy ends e =
     let same = same_Some (stepped_to r stage.Ended did) x e in
     let k = ends did refl in
     record {
       ended = ap (λ (y : Stepped). y.retire) (sym same);
       tells = ap (λ (y : Stepped). goes_further y.step) (sym same) ∙ k.0;
       nothing = λ says. absurd (false≢true (sym k.1 ∙ ap (λ (y : Stepped). is_nothing y.step) same ∙ says));
+      quiet = λ is. absurd (busy is);
     }
 
 removed_ends : (s : Sequence) (answer : Result ℕ StoreRefused) → Ends (removed s answer)
@@ -321,6 +338,7 @@ nothing_ends t r x d is e =
       ended = ap (λ (y : Stepped). y.retire) (sym same);
       tells = ap (λ (y : Stepped). goes_further y.step) (sym same);
       nothing = λ says. (is, refl);
+      quiet = λ same_decision. ap (λ (y : Stepped). is_nothing y.step) (sym same);
     }
 
 -- there is a node to delete where that is decided
@@ -334,7 +352,7 @@ done_ends : (t : Told) (r : Retirement) (now : Moment) (lowest : Option ReadNode
 done_ends t r now lowest ideal x decision.Nothing is e = nothing_ends t r x decision.Nothing refl e
 done_ends t r now lowest ideal x (decision.Remove s) is e =
     let answer = answer_on t (answer_of (λ w. w.version) (remove_write r s ideal)) in
-    ended_by t r x (retire_done t r lowest ideal (decision.Remove s)).told (decision.Remove s) (removed s answer) (removed_ends s answer) e
+    ended_by t r x (retire_done t r lowest ideal (decision.Remove s)).told (decision.Remove s) (removed s answer) (λ other. cc) (removed_ends s answer) e
 done_ends t r now lowest ideal x (decision.Delete s) is e = by_call (delete_write lowest) refl e
   where
     by_call : (o : Option Write) → delete_write lowest ≡ o → (retire_deleted t r (deleted s) o).stepped ≡ Some x
@@ -342,7 +360,7 @@ done_ends t r now lowest ideal x (decision.Delete s) is e = by_call (delete_writ
     by_call None none e = absurd (none_decided r.partition (entries_by ideal.node) now r.keep s lowest none is)
     by_call (Some call) there e =
         let answer = answer_on t (answer_of (λ w. tt) call) in
-        ended_by t r x (retire_deleted t r (deleted s) (Some call)).told (decision.Delete s) (deleted s answer) (deleted_ends s answer) e
+        ended_by t r x (retire_deleted t r (deleted s) (Some call)).told (decision.Delete s) (deleted s answer) (λ other. cc) (deleted_ends s answer) e
 
 pub writing_ends : (t : Told) (r : Retirement) (now : Moment) (lowest : Option ReadNode) (ideal : Seen) (x : Stepped) → r.stage ≡ stage.Writing lowest ideal
     → (retire_stepped t r now).stepped ≡ Some x → HasEnded t r x (retire_stepped t r now).told (retiring_at r now lowest ideal)

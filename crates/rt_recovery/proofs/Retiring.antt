@@ -1,5 +1,5 @@
 -- Retirements of each partition, one after the other, leave no segment between the two steps of one.
-use Rattle.std.proofs.Common.{◌≡◌, ◌⊎◌, inl, inr, ℕ, zero, suc, ◌+◌, ◌<◌, ◌≤◌, Bool, true, false, cond, not, nat_lt, eqb, List, [], ◌∷◌, ◌++◌, Option, Some, None, Ok, refl, sym, ◌∙◌, ap, subst, arith, slice_get}
+use Rattle.std.proofs.Common.{◌≡◌, ◌⊎◌, inl, inr, ℕ, zero, suc, ◌+◌, ◌<◌, ◌≤◌, Bool, true, false, cond, not, nat_lt, eqb, List, [], ◌∷◌, ◌++◌, Option, Some, None, Ok, refl, sym, ◌∙◌, ap, subst, arith, length, slice_get}
 use Rattle.std.specs.Prelude.{◌&&◌, ◌||◌, is_some, slice_set, unwrap_or, IfSome, IsNone, IsSome}
 use Rattle.std.proofs.lemmas.Bool.{and_parts, cases_lt, false≢true, le-ltb, ne_eqb}
 use Rattle.std.proofs.lemmas.Option.{same_Some}
@@ -27,8 +27,10 @@ use Rattle.rt_model.specs.Repair.{are_offline, is_offline, last_listed}
 use Rattle.rt_model.specs.Setup.{IsSetup}
 use Rattle.rt_model.specs.Starting.{Starting}
 use Rattle.rt_model.specs.declared.ideal_state.IdealEntry.{IdealEntry}
+use Rattle.rt_model.specs.declared.ideal_state.IdealState.{IdealState}
 use Rattle.rt_model.specs.declared.node.Key.TheVariants as key
 use Rattle.rt_model.specs.declared.node.Listed.{Listed}
+use Rattle.rt_model.specs.declared.node.Node.TheVariants as node
 use Rattle.rt_model.specs.declared.node.Seen.{Seen}
 use Rattle.rt_model.specs.declared.setup.Setup.{Setup}
 use Rattle.rt_model.specs.declared.status.Status.{Status}
@@ -50,11 +52,13 @@ use Rattle.rt_repair.specs.ReadNode.{listed_again, lowest_listed, lowest_node}
 use Rattle.rt_repair.specs.RetireSteps.{Stepped}
 use Rattle.rt_repair.specs.Retired.{is_ended, retire_by, retire_node}
 use Rattle.rt_repair.specs.Retirement.{beginning, goes, retiring_at, IsUnended, Retirement}
+use Rattle.rt_repair.specs.Setting.{retire_write, retire_write_at, retire_write_by}
 use Rattle.rt_repair.specs.Told.{retire_stepped, IsLeft as HasLeftSo}
 use Rattle.rt_repair.specs.declared.read_node.ReadNode.{ReadNode}
 use Rattle.rt_repair.specs.declared.retirement.RetireStage.{RetireStage}
 use Rattle.rt_repair.specs.declared.retirement.RetireStage.TheVariants as stage
 use Rattle.rt_repair.specs.declared.retiring.RetireStep.TheVariants as step
+use Rattle.rt_repair.specs.declared.retiring.Retiring.{Retiring}
 use Rattle.rt_repair.specs.declared.retiring.Retiring.TheVariants as decision
 use Rattle.rt_safety.proofs.JobsOn.{own_slot}
 use Rattle.rt_safety.proofs.Later.{runs_are_safe}
@@ -80,7 +84,8 @@ use Rattle.rt_recovery.specs.Retiring.{goes_further, goes_on_by, nothing_by, Goe
 use Rattle.rt_recovery.proofs.Apart.{SameAt}
 use Rattle.rt_recovery.proofs.Leaving.{leads_leave, left_decided, runs_leave, same_listed}
 use Rattle.rt_recovery.proofs.Mending.{mending_still, mending_then, needs_kept, put_none, same_last, same_of, same_of_then, GoesMending, IsSameLast, IsSameOf}
-use Rattle.rt_recovery.proofs.Retired.{by_tests, listing_writes, lists, reading_writes, reads, retire_writes_for, stepped_to, unplanned_at, writing_ends, HasRetired}
+use Rattle.rt_recovery.proofs.Emptying.{no_more_listed}
+use Rattle.rt_recovery.proofs.Retired.{by_tests, listing_writes, lists, reading_writes, reads, retire_wrote, retire_writes_for, stepped_to, unplanned_at, writing_ends, HasRetired, Wrote}
 use Rattle.rt_recovery.proofs.Turns.{from_notes}
 use Rattle.rt_recovery.proofs.Written.{leads_before}
 
@@ -200,10 +205,11 @@ retired_last s p now keep h g lawful after within (inr (w, more, inr d)) =
 -- ---- a step
 
 -- the events of a partition leave the others, and the last segment of their own
-record RetiresOn (p : Partition) (w v : State) : Type 0 where
-  goes : GoesMending w v
-  others : (o : Partition) → (o.0 ≡ p.0 → ⊥) → IsSameOf o w.store.writes v.store.writes
-  own : IsSameLast p w.store.writes v.store.writes
+pub record RetiresOn (p : Partition) (w v : State) : Type 0 where
+  pub goes : GoesMending w v
+  pub others : (o : Partition) → (o.0 ≡ p.0 → ⊥) → IsSameOf o w.store.writes v.store.writes
+  pub own : IsSameLast p w.store.writes v.store.writes
+  pub fewer : length (metadata_of v.store.writes p) ≤ length (metadata_of w.store.writes p)
 
 last_then : (p : Partition) (h g f : List Seen) → IsSameLast p h g → IsSameLast p g f → IsSameLast p h f
 last_then p h g f a b =
@@ -221,6 +227,7 @@ on_then p w m v x y =
       goes = mending_then w m v x.goes y.goes;
       others = λ o other. same_of_then o w.store.writes m.store.writes v.store.writes (x.others o other) (y.others o other);
       own = last_then p w.store.writes m.store.writes v.store.writes x.own y.own;
+      fewer = omega (arith, x.fewer, y.fewer);
     }
 
 on_still : (p : Partition) (w : State) → IsSafeWorld w → RetiresOn p w w
@@ -229,18 +236,19 @@ on_still p w safe =
       goes = mending_still w safe;
       others = λ o other. same_of o w.store.writes w.store.writes refl;
       own = same_last p w.store.writes w.store.writes (same_of p w.store.writes w.store.writes refl);
+      fewer = omega arith;
     }
 
 -- this retirement steps next
-record IsUnder (c : ControllerId) (p : Partition) (w : State) (r : Retirement) : Type 0 where
-  up : Upkeep
-  at : upkeep_at w c p ≡ Some up
-  is : retiring w.setup p up.retirement ≡ r
+pub record IsUnder (c : ControllerId) (p : Partition) (w : State) (r : Retirement) : Type 0 where
+  pub up : Upkeep
+  pub at : upkeep_at w c p ≡ Some up
+  pub is : retiring w.setup p up.retirement ≡ r
 
-record IsReady (setup : Setup) (past : Past) (p : Partition) (r : Retirement) : Type 0 where
-  its : r.partition ≡ p
-  over : IsRetireOver setup past r
-  unended : IsUnended r.stage
+pub record IsReady (setup : Setup) (past : Past) (p : Partition) (r : Retirement) : Type 0 where
+  pub its : r.partition ≡ p
+  pub over : IsRetireOver setup past r
+  pub unended : IsUnended r.stage
 
 begins_ready : (setup : Setup) (past : Past) (p : Partition) (o : Option Retirement) → p.0 < setup.partitions → (IsNone o → IsSome setup.retention)
     → IfSome o (IsRetireOver setup past) → IfSome o (λ r. r.partition.0 ≡ p.0) → IfSome o (λ r. IsUnended r.stage) → IsReady setup past p (retiring setup p o)
@@ -261,12 +269,12 @@ record HasStepped (c : ControllerId) (p : Partition) (w y : State) (o : Outcome)
 
 module _ (c : ControllerId) (p : Partition) where
   -- that there is a retirement that steps next
-  record IsSteppable (w : State) : Type 0 where
-    retirement : Retirement
-    under : IsUnder c p w retirement
-    ready : IsReady w.setup (past_of w) p retirement
+  pub record IsSteppable (w : State) : Type 0 where
+    pub retirement : Retirement
+    pub under : IsUnder c p w retirement
+    pub ready : IsReady w.setup (past_of w) p retirement
 
-  steppable : (w y : State) (o : Outcome) → IsSafeWorld w → Steps w (event.Retain c p) y (Ok o) → IsSteppable w
+  pub steppable : (w y : State) (o : Outcome) → IsSafeWorld w → Steps w (event.Retain c p) y (Ok o) → IsSteppable w
   steppable w y o safe (cost, due, h) = by_found (slice_get w.controllers c.0) refl (upkeep_at w c p) refl h
     where
       by_found : (n : Option ControllerNode) → slice_get w.controllers c.0 ≡ n → (u : Option Upkeep) → upkeep_at w c p ≡ u
@@ -335,6 +343,9 @@ module _ (c : ControllerId) (p : Partition) where
             own =
                 retired_last (starting_of w.setup) p w.moment r.keep w.store.writes y.store.writes safe.safe.past.lawful
                 (subst (λ (z : Setup). IsLawfulHistory (starting_of z) y.store.writes) setup after.safe.past.lawful) within written;
+            fewer =
+                no_more_listed (starting_of w.setup) p w.moment r.keep w.store.writes y.store.writes safe.safe.past.lawful
+                (subst (λ (z : Setup). IsLawfulHistory (starting_of z) y.store.writes) setup after.safe.past.lawful) within written;
           };
           moment = moment;
         }
@@ -359,17 +370,18 @@ module _ (c : ControllerId) (p : Partition) where
   -- ---- a retirement up to its end
 
   -- nothing is under way
-  record IsFree (w : State) : Type 0 where
-    up : Upkeep
-    at : upkeep_at w c p ≡ Some up
-    none : up.retirement ≡ None
+  pub record IsFree (w : State) : Type 0 where
+    pub up : Upkeep
+    pub at : upkeep_at w c p ≡ Some up
+    pub none : up.retirement ≡ None
 
-  -- it has come to its end; and this is so where it tells `nothing`
-  record HasRun (w v : State) (told : Bool) (Fact : Type 0) : Type 0 where
-    on : RetiresOn p w v
-    moment : v.moment ≡ w.moment
-    free : IsFree v
-    fact : told ≡ true → Fact
+  -- it has come to its end; and this is so where it tells `nothing`, and that where it tells something else
+  pub record HasRun (w v : State) (told : Bool) (Fact Made : Type 0) : Type 0 where
+    pub on : RetiresOn p w v
+    pub moment : v.moment ≡ w.moment
+    pub free : IsFree v
+    pub fact : told ≡ true → Fact
+    pub made : told ≡ false → Made
 
   same_under : (w : State) (a b : Retirement) → IsUnder c p w a → IsUnder c p w b → a ≡ b
   same_under w a b x y = sym x.is ∙ ap (λ (u : Upkeep). retiring w.setup p u.retirement) (same_Some x.up y.up (sym x.at ∙ y.at)) ∙ y.is
@@ -381,13 +393,32 @@ module _ (c : ControllerId) (p : Partition) where
       steps_so w y o r safe k (subst (IsReady w.setup (past_of w) p) (same_under w q.retirement r q.under k) q.ready) steps
 
   -- nothing was decided of this, and nothing is written
-  abbrev Quiet : State → State → Retirement → Option Listed → Type 0
+  abbrev pub Quiet : State → State → Retirement → Option Listed → Type 0
   Quiet w v r o =
       (retire_by r.partition (entries_of w.store.writes) w.moment r.keep o ≡ decision.Nothing) × (v.store.writes ≡ w.store.writes)
+
+  -- something was decided of this, and written, if the store didn't refuse it
+  abbrev pub Busy : Moment → List Seen → List Seen → Retirement → Option ReadNode → Seen → Type 0
+  Busy now h g r lowest ideal =
+      (retiring_at r now lowest ideal ≡ decision.Nothing → ⊥) × Wrote h g (retire_write_by r lowest ideal (retiring_at r now lowest ideal))
+
+  same_write : (r : Retirement) (at : RetireStage) (lowest : Option ReadNode) (ideal : Seen) (d : Retiring)
+      → retire_write_by (goes r at) lowest ideal d ≡ retire_write_by r lowest ideal d
+  same_write r at lowest ideal decision.Nothing = refl
+  same_write r at lowest ideal (decision.Remove s) = refl
+  same_write r at lowest ideal (decision.Delete s) = refl
+
+  busy_back : (m now : Moment) (f h g : List Seen) (r : Retirement) (at : RetireStage) (lowest : Option ReadNode) (ideal : Seen) → m ≡ now → f ≡ h
+      → Busy m f g (goes r at) lowest ideal → Busy now h g r lowest ideal
+  busy_back m now f h g r at lowest ideal same_moment same_history k =
+      subst (λ (x : Moment). Busy x h g r lowest ideal) same_moment
+      (subst (λ (x : List Seen). Busy m x g r lowest ideal) same_history
+      (k.0, subst (Wrote f g) (same_write r at lowest ideal (retiring_at r m lowest ideal)) k.1))
 
   module _ (w : State) (v : Reached) (told : Bool) (r : Retirement) (safe : IsSafeWorld w) (none : w.store.faults.plan ≡ []) (k : IsUnder c p w r) where
     writing_runs : (n : ℕ) (lowest : Option ReadNode) (ideal : Seen) → r.stage ≡ stage.Writing lowest ideal → RetiresIn c p (suc n) w v (Ok told)
         → HasRun w v.world told ((retiring_at r w.moment lowest ideal ≡ decision.Nothing) × (v.world.store.writes ≡ w.store.writes))
+        (Busy w.moment w.store.writes v.world.store.writes r lowest ideal)
     writing_runs n lowest ideal at h =
         let t = then_parts (Happens (event.Retain c p)) (λ outcome. Goes (goes_on_by outcome) (nothing_by outcome) (RetiresIn c p n)) w v told h in
         let y = t.between.world in
@@ -396,7 +427,8 @@ module _ (c : ControllerId) (p : Partition) where
         let off : goes_on_by t.told ≡ false = ap goes_on_by s.tells ∙ e.tells in
         let stays = subst (λ (b : Bool). Goes b (nothing_by t.told) (RetiresIn c p n) y t.last (Ok told)) off t.further in
         let same = told_same told (nothing_by t.told) stays.1 in
-        subst (λ (x : State). HasRun w x told ((retiring_at r w.moment lowest ideal ≡ decision.Nothing) × (x.store.writes ≡ w.store.writes)))
+        subst (λ (x : State). HasRun w x told ((retiring_at r w.moment lowest ideal ≡ decision.Nothing) × (x.store.writes ≡ w.store.writes))
+        (Busy w.moment w.store.writes x.store.writes r lowest ideal))
         (sym (ap (λ (z : Reached). z.world) t.whole ∙ ap (λ (z : Reached). z.world) stays.0))
         (record {
           on = s.on;
@@ -405,27 +437,32 @@ module _ (c : ControllerId) (p : Partition) where
           fact = λ says.
               let k = e.nothing (sym (ap nothing_by s.tells) ∙ sym same ∙ says) in
               (k.0, ap (λ (x : Told). x.writes) s.left ∙ k.1);
+          made = λ says. (
+            λ quiet. false≢true (sym says ∙ same ∙ ap nothing_by s.tells ∙ e.quiet quiet),
+            subst (Wrote w.store.writes y.store.writes) (ap (retire_write_at r w.moment) at)
+                (subst (λ (u : Told). Wrote w.store.writes u.writes (retire_write r w.moment)) (sym s.left) (retire_wrote w.store r w.moment none)),
+          );
         })
 
   module _ (w : State) (v : Reached) (told : Bool) (r : Retirement) (safe : IsSafeWorld w) (none : w.store.faults.plan ≡ []) (k : IsUnder c p w r) where
-    reading_runs : (n : ℕ) (lowest : Option ReadNode) → r.stage ≡ stage.Reading lowest → RetiresIn c p (suc (suc n)) w v (Ok told)
-        → HasRun w v.world told (Quiet w v.world r (listed_again lowest))
-    reading_runs n lowest at h =
+    reading_runs : (n : ℕ) (lowest : Option ReadNode) (ideal : Seen) → value_of w.store.writes key.Ideal ≡ Some ideal → r.stage ≡ stage.Reading lowest
+        → RetiresIn c p (suc (suc n)) w v (Ok told)
+        → HasRun w v.world told (Quiet w v.world r (listed_again lowest)) (Busy w.moment w.store.writes v.world.store.writes r lowest ideal)
+    reading_runs n lowest ideal value at h =
         let t = then_parts (Happens (event.Retain c p)) (λ outcome. Goes (goes_on_by outcome) (nothing_by outcome) (RetiresIn c p (suc n))) w v told h in
         let y = t.between.world in
         let s = step_next w y t.told r safe k t.came.by.0 in
-        let ideal = has_ideal_state (starting_of w.setup) w.store.writes safe.safe.past.lawful in
-        let entries : entries_of w.store.writes ≡ entries_by ideal.0.node = ap entries_in (value_of-last w.store.writes key.Ideal ideal.0 ideal.2).0 in
-        let next = goes r (stage.Writing lowest ideal.0) in
-        let e = reads w.store r w.moment lowest ideal.0 at none ideal.2 in
-        let is : s.stepped ≡ stepped_to r (stage.Writing lowest ideal.0) step.IdealRead = same_Some _ _ (sym s.gave ∙ e) in
+        let entries : entries_of w.store.writes ≡ entries_by ideal.node = ap entries_in (value_of-last w.store.writes key.Ideal ideal value).0 in
+        let next = goes r (stage.Writing lowest ideal) in
+        let e = reads w.store r w.moment lowest ideal at none value in
+        let is : s.stepped ≡ stepped_to r (stage.Writing lowest ideal) step.IdealRead = same_Some _ _ (sym s.gave ∙ e) in
         let on : goes_on_by t.told ≡ true = ap goes_on_by s.tells ∙ ap (λ (x : Stepped). goes_further x.step) is in
         let further = subst (λ (b : Bool). Goes b (nothing_by t.told) (RetiresIn c p (suc n)) y t.last (Ok told)) on t.further in
         let under : IsUnder c p y next =
         record { up = s.up; at = s.at; is = ap (retiring y.setup p) (s.goes_on ∙ ap (λ (x : Stepped). retiring_on x.retire) is) } in
-        let rest = writing_runs y t.last told next s.on.goes.safe (s.on.goes.unplanned none) under n lowest ideal.0 refl further in
+        let rest = writing_runs y t.last told next s.on.goes.safe (s.on.goes.unplanned none) under n lowest ideal refl further in
         let unwritten : y.store.writes ≡ w.store.writes = ap (λ (x : Told). x.writes) s.left ∙ reading_writes w.store r w.moment lowest at in
-        subst (λ (x : State). HasRun w x told (Quiet w x r (listed_again lowest))) (sym (ap (λ (z : Reached). z.world) t.whole))
+        subst (λ (x : State). HasRun w x told (Quiet w x r (listed_again lowest)) (Busy w.moment w.store.writes x.store.writes r lowest ideal)) (sym (ap (λ (z : Reached). z.world) t.whole))
         (record {
           on = on_then p w y t.last.world s.on rest.on;
           moment = rest.moment ∙ s.moment;
@@ -433,15 +470,19 @@ module _ (c : ControllerId) (p : Partition) where
           fact = λ says.
               let f = rest.fact says in (
                 ap (λ (es : List IdealEntry). retire_by r.partition es w.moment r.keep (listed_again lowest)) entries
-                    ∙ ap (λ (now : Moment). retire_by r.partition (entries_by ideal.0.node) now r.keep (listed_again lowest)) (sym s.moment) ∙ f.0,
+                    ∙ ap (λ (now : Moment). retire_by r.partition (entries_by ideal.node) now r.keep (listed_again lowest)) (sym s.moment) ∙ f.0,
                 f.1 ∙ unwritten,
               );
+          made = λ says.
+              busy_back y.moment w.moment y.store.writes w.store.writes t.last.world.store.writes r (stage.Writing lowest ideal) lowest ideal s.moment unwritten
+              (rest.made says);
         })
 
   module _ (w : State) (v : Reached) (told : Bool) (r : Retirement) (safe : IsSafeWorld w) (none : w.store.faults.plan ≡ []) (k : IsUnder c p w r) where
-    listing_runs : (n : ℕ) → r.stage ≡ stage.Listing → RetiresIn c p (suc (suc (suc n))) w v (Ok told)
+    pub listing_runs : (n : ℕ) (ideal : Seen) → value_of w.store.writes key.Ideal ≡ Some ideal → r.stage ≡ stage.Listing → RetiresIn c p (suc (suc (suc n))) w v (Ok told)
         → HasRun w v.world told (Quiet w v.world r (lowest_listed (metadata_of w.store.writes r.partition)))
-    listing_runs n at h =
+        (Busy w.moment w.store.writes v.world.store.writes r (lowest_node r.partition (metadata_of w.store.writes r.partition)) ideal)
+    listing_runs n ideal value at h =
         let t = then_parts (Happens (event.Retain c p)) (λ outcome. Goes (goes_on_by outcome) (nothing_by outcome) (RetiresIn c p (suc (suc n)))) w v told h in
         let y = t.between.world in
         let s = step_next w y t.told r safe k t.came.by.0 in
@@ -454,9 +495,10 @@ module _ (c : ControllerId) (p : Partition) where
         let further = subst (λ (b : Bool). Goes b (nothing_by t.told) (RetiresIn c p (suc (suc n))) y t.last (Ok told)) on t.further in
         let under : IsUnder c p y next =
         record { up = s.up; at = s.at; is = ap (retiring y.setup p) (s.goes_on ∙ ap (λ (x : Stepped). retiring_on x.retire) is) } in
-        let rest = reading_runs y t.last told next s.on.goes.safe (s.on.goes.unplanned none) under n lowest refl further in
         let unwritten : y.store.writes ≡ w.store.writes = ap (λ (x : Told). x.writes) s.left ∙ listing_writes w.store r w.moment at in
-        subst (λ (x : State). HasRun w x told (Quiet w x r (lowest_listed nodes))) (sym (ap (λ (z : Reached). z.world) t.whole))
+        let rest = reading_runs y t.last told next s.on.goes.safe (s.on.goes.unplanned none) under n lowest ideal
+        (ap (λ (h : List Seen). value_of h key.Ideal) unwritten ∙ value) refl further in
+        subst (λ (x : State). HasRun w x told (Quiet w x r (lowest_listed nodes)) (Busy w.moment w.store.writes x.store.writes r lowest ideal)) (sym (ap (λ (z : Reached). z.world) t.whole))
         (record {
           on = on_then p w y t.last.world s.on rest.on;
           moment = rest.moment ∙ s.moment;
@@ -468,26 +510,32 @@ module _ (c : ControllerId) (p : Partition) where
                     ∙ ap (retire_by r.partition (entries_of y.store.writes) y.moment r.keep) (sym (lowest_again r.partition nodes)) ∙ f.0,
                 f.1 ∙ unwritten,
               );
+          made = λ says.
+              busy_back y.moment w.moment y.store.writes w.store.writes t.last.world.store.writes r (stage.Reading lowest) lowest ideal s.moment unwritten
+              (rest.made says);
         })
 
   -- wherever it stands
-  record HasCome (w v : State) : Type 0 where
-    on : RetiresOn p w v
-    free : IsFree v
+  pub record HasCome (w v : State) : Type 0 where
+    pub on : RetiresOn p w v
+    pub free : IsFree v
 
-  any_runs : (w : State) (v : Reached) (told : Bool) → IsSafeWorld w → w.store.faults.plan ≡ [] → RetiresIn c p 3 w v (Ok told) → HasCome w v.world
+  pub any_runs : (w : State) (v : Reached) (told : Bool) → IsSafeWorld w → w.store.faults.plan ≡ [] → RetiresIn c p 3 w v (Ok told) → HasCome w v.world
   any_runs w v told safe none h =
       let t = then_parts (Happens (event.Retain c p)) (λ outcome. Goes (goes_on_by outcome) (nothing_by outcome) (RetiresIn c p 2)) w v told h in
       let k = steppable w t.between.world t.told safe t.came.by.0 in
       by_stage k.retirement k.under k.retirement.stage refl k.ready.unended
     where
-      come : {F : Type 0} → HasRun w v.world told F → HasCome w v.world
+      ideal : (x : Seen) × (i : IdealState) × (value_of w.store.writes key.Ideal ≡ Some x) × (x.node ≡ node.Ideal i)
+      ideal = has_ideal_state (starting_of w.setup) w.store.writes safe.safe.past.lawful
+
+      come : {F G : Type 0} → HasRun w v.world told F G → HasCome w v.world
       come x = record { on = x.on; free = x.free }
 
       by_stage : (r : Retirement) → IsUnder c p w r → (at : RetireStage) → r.stage ≡ at → IsUnended at → HasCome w v.world
-      by_stage r k stage.Listing at unended = come (listing_runs w v told r safe none k 0 at h)
-      by_stage r k (stage.Reading lowest) at unended = come (reading_runs w v told r safe none k 1 lowest at h)
-      by_stage r k (stage.Writing lowest ideal) at unended = come (writing_runs w v told r safe none k 2 lowest ideal at h)
+      by_stage r k stage.Listing at unended = come (listing_runs w v told r safe none k 0 ideal.0 ideal.2 at h)
+      by_stage r k (stage.Reading lowest) at unended = come (reading_runs w v told r safe none k 1 lowest ideal.0 ideal.2 at h)
+      by_stage r k (stage.Writing lowest read) at unended = come (writing_runs w v told r safe none k 2 lowest read at h)
       by_stage r k stage.Ended at unended = absurd unended
 
   -- ---- up to `nothing`
@@ -527,9 +575,9 @@ module _ (c : ControllerId) (p : Partition) where
           (le-ltb w.moment.0 (later l.seen.meta.written old.keep).0 old.old) e own)
 
   -- where it is told that nothing is left to do, no segment is left without entries
-  record HasEmptied (w v : State) (told : Bool) : Type 0 where
-    come : RetiresOn p w v
-    none : told ≡ true → p.0 < w.setup.partitions → NoneHalfRetired v.store.writes p
+  pub record HasEmptied (w v : State) (told : Bool) : Type 0 where
+    pub come : RetiresOn p w v
+    pub none : told ≡ true → p.0 < w.setup.partitions → NoneHalfRetired v.store.writes p
 
   until_runs : (times : ℕ) (w : State) (v : Reached) (told : Bool) → IsSafeWorld w → w.store.faults.plan ≡ [] → LeavesOldOnes w → IsFree w
       → RetiresUntil c p times w v (Ok told) → HasEmptied w v.world told
@@ -540,7 +588,8 @@ module _ (c : ControllerId) (p : Partition) where
       let t = then_parts (RetiresIn c p 3) (Until (RetiresUntil c p times)) w v told h in
       let r = beginning p (unwrap_or w.setup.retention 0) in
       let under : IsUnder c p w r = record { up = free.up; at = free.at; is = ap (retiring w.setup p) free.none } in
-      let x = listing_runs w t.between t.told r safe none under 0 refl t.came in
+      let ideal = has_ideal_state (starting_of w.setup) w.store.writes safe.safe.past.lawful in
+      let x = listing_runs w t.between t.told r safe none under 0 ideal.0 ideal.2 refl t.came in
       let g = x.on.goes in
       let later_old = leads_leave w g.led.0 t.between.world safe all g.led.1 in
       subst (λ (z : State). HasEmptied w z told) (sym (ap (λ (z : Reached). z.world) t.whole))
@@ -565,7 +614,7 @@ module _ (c : ControllerId) (p : Partition) where
             none = λ says within. k.none says (subst (λ (s : Setup). p.0 < s.partitions) (sym on.goes.setup) within);
           }
 
-  of_runs : (times : ℕ) (w : State) (v : Reached) (told : Bool) → IsSafeWorld w → w.store.faults.plan ≡ [] → LeavesOldOnes w
+  pub of_runs : (times : ℕ) (w : State) (v : Reached) (told : Bool) → IsSafeWorld w → w.store.faults.plan ≡ [] → LeavesOldOnes w
       → RetiresOf c times p w v (Ok told) → HasEmptied w v.world told
   of_runs times w v told safe none all h = by_retention (is_some w.setup.retention) refl h
     where

@@ -1,11 +1,13 @@
 //! How a cluster that was started anew comes to rest. Each law stands on a function that does nothing: its clause is the law.
-ghost use Rattle.std.specs.Prelude.{◌≡◌, ◌*◌, ◌<◌, ◌≤◌, ℕ, Bool, List, [], Ok, true, false};
+ghost use Rattle.std.specs.Prelude.{◌≡◌, ◌+◌, ◌*◌, ◌<◌, ◌≤◌, ℕ, Bool, List, [], Ok, true, false, length};
 ghost use Rattle.rt_base.specs.declared.numbers.ControllerId.{ControllerId};
 ghost use Rattle.rt_base.specs.declared.numbers.Instance.{Instance};
+ghost use Rattle.rt_base.specs.declared.numbers.Partition.{Partition};
 ghost use Rattle.rt_macros.specs.Doing.{Reached};
 ghost use Rattle.rt_macros.specs.Querying.{Queries};
 ghost use Rattle.rt_macros.specs.Settling.{ExchangeTurn, SegmentAt, Settles};
 ghost use Rattle.rt_model.specs.Checked.{IsQuery};
+ghost use Rattle.rt_model.specs.Metadata.{metadata_of};
 ghost use Rattle.rt_model.specs.Setup.{IsSetup};
 ghost use Rattle.rt_model.specs.declared.answer.Answer.{Answer};
 ghost use Rattle.rt_model.specs.declared.query.Query.{Query};
@@ -87,11 +89,18 @@ pub fn segments_without_entries_are_old()
 /// What comes of a script that retires old segments of all partitions, one after the other, at a controller that is up: for each of them
 /// what is under way ends, and then retirements come up to the first that tells `nothing`. Where each partition came to that, from any
 /// world of a run on in which no fault of the store is planned, no segment is between the two steps of its retirement then, and partitions
-/// that needed no repair need none. The nodes, the log and the deep store are as they were.
+/// that needed no repair need none. The nodes, the log and the deep store are as they were. Each partition comes to `nothing` where there
+/// are enough retirements: more than two for each listed segment, and one; and so with more than 8_589_934_581, whatever is listed.
 pub fn retirements_up_to_nothing_leave_none_half_done()
-    ensures { (setup : Setup) (turns : List Turn) (w : State) (v : Reached) (c : ControllerId) (times : ℕ) → IsSetup setup
+    ensures leaves { (setup : Setup) (turns : List Turn) (w : State) (v : Reached) (c : ControllerId) (times : ℕ) → IsSetup setup
         → Runs setup turns w → w.store.faults.plan ≡ [] → Retires c times w v (Ok true)
         → HasRetired w v.world × ((more : List Turn) × Leads w more v.world) }
+    ensures comes { (setup : Setup) (turns : List Turn) (w : State) (v : Reached) (c : ControllerId) (times : ℕ) (told : Bool) → IsSetup setup
+        → Runs setup turns w → w.store.faults.plan ≡ []
+        → ((p : Partition) → p.0 < w.setup.partitions → 2 * length (metadata_of w.store.writes p) + 1 < times)
+        → Retires c times w v (Ok told) → told ≡ true }
+    ensures always { (setup : Setup) (turns : List Turn) (w : State) (v : Reached) (c : ControllerId) (times : ℕ) (told : Bool) → IsSetup setup
+        → Runs setup turns w → w.store.faults.plan ≡ [] → 8589934581 < times → Retires c times w v (Ok told) → told ≡ true }
 {}
 
 /// Every cluster heals. From any world of a run on in which no fault of a store is planned, a script that is made of the setup alone
