@@ -21,7 +21,8 @@ use Rattle.rt_recovery.specs.Healing.{first_controller, rounds_after, Heals}
 use Rattle.rt_recovery.specs.Mending.{HasMended}
 use Rattle.rt_recovery.specs.Often.{SettlesOften}
 use Rattle.rt_recovery.specs.Restarting.{IsStartedAnew}
-use Rattle.rt_recovery.specs.Retiring.{HasRetired}
+use Rattle.rt_recovery.specs.Retiring.{HasRetired, Retires}
+use Rattle.rt_recovery.proofs.Coming.{retirements_always_come}
 use Rattle.rt_recovery.proofs.GoingOn.{mended_goes_on}
 use Rattle.rt_recovery.proofs.Mending.{mended}
 use Rattle.rt_recovery.proofs.Restarting.{started_anew}
@@ -30,7 +31,8 @@ use Rattle.rt_recovery.proofs.Settled.{often_leaves, settles_often, HasSettled}
 use Rattle.rt_recovery.proofs.Whole.{settled_rests, settled_whole}
 
 module _ (setup : Setup) (turns : List Turn) (retirements lines rounds : ℕ) (w : State) (u : Reached) (settled : Bool) (is : IsSetup setup) (run : Runs setup turns w)
-    (unplanned : w.store.faults.plan ≡ []) (fetches : w.deep.faults.plan ≡ []) (millis : 1 ≤ setup.table.millis) (h : Heals retirements lines rounds w u settled) where
+    (unplanned : w.store.faults.plan ≡ []) (fetches : w.deep.faults.plan ≡ []) (millis : 1 ≤ setup.table.millis) (many : 8589934581 < retirements)
+    (h : Heals retirements lines rounds w u settled) where
   -- ---- a fresh start
 
   abbrev b : State
@@ -64,8 +66,13 @@ module _ (setup : Setup) (turns : List Turn) (retirements lines rounds : ℕ) (w
   abbrev r : State
   r = h.retired.world
 
+  all_retired : h.nothing ≡ true
+  all_retired = retirements_always_come setup m_turns m h.retired first_controller retirements h.nothing is m_run mend.0.unplanned many h.retires
+
   retire : HasRetired m r × ((more : List Turn) × Leads m more r)
-  retire = retired setup m_turns m h.retired first_controller retirements is m_run mend.0.unplanned h.retires
+  retire =
+      retired setup m_turns m h.retired first_controller retirements is m_run mend.0.unplanned
+      (subst (λ (b : Bool). Retires first_controller retirements m h.retired (Ok b)) all_retired h.retires)
 
   abbrev r_turns : List Turn
   r_turns = m_turns ++ retire.1.0

@@ -105,19 +105,19 @@ pub fn retirements_up_to_nothing_leave_none_half_done()
 
 /// Every cluster heals. From any world of a run on in which no fault of a store is planned, a script that is made of the setup alone
 /// leads to rest: each node crashes, where it is up, and restarts, and the first controller leads; the grace passes five times for each
-/// partition, with a repair behind it; old segments are retired, up to a retirement that finds nothing to do; and then come `settle`s, of
-/// more rounds in all than `rounds_in_all`, a number made of the messages, the commits and the ideal state. The last of them answers
-/// `settled`; all servers rest then, and each query is answered whole: it misses nothing, and aggregates the rows of all messages from each
-/// partition's mark up to the stream's end. Segments don't end by a time of 0 ms.
+/// partition, with a repair behind it; old segments are retired, up to a retirement that finds nothing to do, which comes before there were
+/// 8_589_934_582 of a partition; and then come `settle`s, of more rounds in all than `rounds_in_all`, a number made of the messages, the
+/// commits and the ideal state. The last of them answers `settled`; all servers rest then, and each query is answered whole: it misses
+/// nothing, and aggregates the rows of all messages from each partition's mark up to the stream's end. Segments don't end by a time of 0 ms.
 pub fn every_cluster_heals()
     ensures settles { (setup : Setup) (turns : List Turn) (retirements lines rounds : ℕ) (w : State) (u : Reached) (settled : Bool) → IsSetup setup
         → Runs setup turns w → w.store.faults.plan ≡ [] → w.deep.faults.plan ≡ [] → 1 ≤ setup.table.millis
-        → (h : Heals retirements lines rounds w u settled) → rounds_after h < lines * rounds → settled ≡ true }
+        → 8589934581 < retirements → (h : Heals retirements lines rounds w u settled) → rounds_after h < lines * rounds → settled ≡ true }
     ensures rests { (setup : Setup) (turns : List Turn) (retirements lines rounds : ℕ) (w : State) (u : Reached) (settled : Bool) → IsSetup setup
         → Runs setup turns w → w.store.faults.plan ≡ [] → w.deep.faults.plan ≡ [] → 1 ≤ setup.table.millis
-        → (h : Heals retirements lines rounds w u settled) → rounds_after h < lines * rounds → IsAtRest u.world }
+        → 8589934581 < retirements → (h : Heals retirements lines rounds w u settled) → rounds_after h < lines * rounds → IsAtRest u.world }
     ensures whole { (setup : Setup) (turns : List Turn) (retirements lines rounds : ℕ) (w : State) (u : Reached) (settled : Bool) → IsSetup setup
         → Runs setup turns w → w.store.faults.plan ≡ [] → w.deep.faults.plan ≡ [] → 1 ≤ setup.table.millis
-        → (h : Heals retirements lines rounds w u settled) → rounds_after h < lines * rounds → (query : Query) (v : Reached) (answer : Answer)
-        → IsQuery u.world.setup.schema query → Queries query u.world v (Ok answer) → IsAnsweredWhole u.world query answer }
+        → 8589934581 < retirements → (h : Heals retirements lines rounds w u settled) → rounds_after h < lines * rounds
+        → (query : Query) (v : Reached) (answer : Answer) → IsQuery u.world.setup.schema query → Queries query u.world v (Ok answer) → IsAnsweredWhole u.world query answer }
 {}
