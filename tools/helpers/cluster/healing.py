@@ -1,44 +1,58 @@
 """The lines that heal a cluster: every node starts anew, one controller leads, and once each partition is mended one `settle` brings it to rest."""
 import answers
-import peace
 
-# A repair that writes begins the grace of its segment anew, and at most three write.
-MENDINGS, ROUNDS = 4, 1_000_000
+# One repair ends what is under way, and of those behind it at most three write, each of which begins the grace of its segment anew.
+REPAIRS, ROUNDS = 5, 1_000_000
 
 
 def heal(schedule):
     """Adds these lines. Whether the cluster rests then, and each partition is served from its mark to its end."""
     start_anew(schedule)
-    for _ in range(MENDINGS):
-        schedule.add(f"tick {max(schedule.world.setup.grace, 1)}")
-        for partition in range(schedule.world.setup.partitions):
-            mend(schedule, partition)
+    for partition in range(schedule.world.setup.partitions):
+        mend(schedule, partition)
+    for partition in range(schedule.world.setup.partitions):
+        retire(schedule, partition)
     schedule.add(f"settle {ROUNDS}")
     return schedule.report[-1] == "settled" and is_whole(schedule.world)
 
 
 def start_anew(schedule):
-    """Every node crashes and comes up again, and the first controller alone believes that it leads."""
-    for name, nodes in (("s", schedule.world.servers), ("c", schedule.world.controllers)):
+    """Each node crashes, where it is up, and comes up again; a pause ends, and the first controller leads. Planned faults are met before."""
+    world = schedule.world
+    for name, nodes in (("s", world.servers), ("c", world.controllers)):
         for node in nodes:
             if node.up:
                 schedule.add(f"crash {name}{node.number}")
-    peace.revive(schedule)
+            while not node.up:
+                schedule.add(f"restart {name}{node.number}")
+    if world.paused:
+        schedule.add("resume")
+    schedule.add("lead c0 on")
+    while world.store.planned:
+        schedule.add("repair c0 0")
 
 
 def mend(schedule, partition):
-    """A repair that finds nothing to do, and a retirement that does, where there is one."""
-    until_nothing(schedule, f"repair c0 {partition}")
+    """The grace passes before each repair."""
+    for _ in range(REPAIRS):
+        if schedule.world.setup.grace:
+            schedule.add(f"tick {schedule.world.setup.grace}")
+        go_to_end(schedule, f"repair c0 {partition}")
+
+
+def retire(schedule, partition):
+    """What is under way ends, and then retirements go on up to one that finds nothing to do."""
     if schedule.world.setup.retention is not None:
-        until_nothing(schedule, f"retain c0 {partition}")
+        go_to_end(schedule, f"retain c0 {partition}")
+        while not schedule.report[-1].endswith(" nothing"):
+            go_to_end(schedule, f"retain c0 {partition}")
 
 
-def until_nothing(schedule, line):
-    """Adds a line as often as there is anything to do, or a planned fault is met."""
-    while True:
+def go_to_end(schedule, line):
+    """Adds a line up to the step that ends what it begins."""
+    schedule.add(line)
+    while schedule.report[-1].endswith((" listed", " idealRead")):
         schedule.add(line)
-        if schedule.report[-1].endswith(" nothing"):
-            return
 
 
 def is_whole(world):
