@@ -44,15 +44,16 @@ def retire(schedule, partition):
     """What is under way ends, and then retirements go on up to one that finds nothing to do."""
     if schedule.world.setup.retention is not None:
         go_to_end(schedule, f"retain c0 {partition}")
-        while not schedule.report[-1].endswith(" nothing"):
-            go_to_end(schedule, f"retain c0 {partition}")
+        while go_to_end(schedule, f"retain c0 {partition}") != "nothing":
+            pass
 
 
 def go_to_end(schedule, line):
-    """Adds a line up to the step that ends what it begins."""
+    """Adds a line up to the step that ends what it begins, which it gives."""
     schedule.add(line)
     while schedule.report[-1].endswith((" listed", " idealRead")):
         schedule.add(line)
+    return schedule.report[-1].rsplit(" ", 1)[-1]
 
 
 def is_whole(world):
