@@ -4,17 +4,12 @@ ghost use Rattle.rt_base.specs.declared.numbers.ControllerId.{ControllerId};
 ghost use Rattle.rt_base.specs.declared.numbers.Instance.{Instance};
 ghost use Rattle.rt_base.specs.declared.numbers.Partition.{Partition};
 ghost use Rattle.rt_macros.specs.Doing.{Reached};
-ghost use Rattle.rt_macros.specs.Querying.{Queries};
 ghost use Rattle.rt_macros.specs.Settling.{ExchangeTurn, SegmentAt, Settles};
-ghost use Rattle.rt_model.specs.Checked.{IsQuery};
 ghost use Rattle.rt_model.specs.Metadata.{metadata_of};
 ghost use Rattle.rt_model.specs.Setup.{IsSetup};
-ghost use Rattle.rt_model.specs.declared.answer.Answer.{Answer};
-ghost use Rattle.rt_model.specs.declared.query.Query.{Query};
 ghost use Rattle.rt_model.specs.declared.setup.Setup.{Setup};
 ghost use Rattle.rt_safety.specs.Runs.{Leads, Runs, Turn};
 ghost use Rattle.rt_state.specs.declared.state.State.{State};
-ghost use Rattle.rt_heal.specs.Answered.{IsAnsweredWhole};
 ghost use Rattle.rt_heal.specs.AtRest.{IsAtRest};
 ghost use Rattle.rt_calm.specs.Again.{IsLeading};
 ghost use Rattle.rt_calm.specs.Spent.{rounds_in_all};
@@ -26,7 +21,7 @@ ghost use Rattle.rt_recovery.specs.Mending.{HasMended, Mends};
 ghost use Rattle.rt_recovery.specs.Often.{SettlesOften};
 ghost use Rattle.rt_recovery.specs.Restarting.{IsStartedAnew, StartsAnew};
 ghost use Rattle.rt_recovery.specs.Retiring.{HasRetired, LeavesOldOnes, Retires};
-ghost use Rattle.rt_recovery.specs.Whole.{ComesToRest};
+ghost use Rattle.rt_recovery.specs.Whole.{AnswersWhole, ComesToRest};
 
 /// From any world of a run on that was started anew, `settle` answers `settled` as soon as it has more rounds than `rounds_in_all`. Every
 /// server is up without a replica and no controller has a machine, one that is up believes that it leads, no fault of a store is planned,
@@ -119,5 +114,5 @@ pub fn every_cluster_heals()
     ensures whole { (setup : Setup) (turns : List Turn) (retirements lines rounds : ℕ) (w : State) (u : Reached) (settled : Bool) → IsSetup setup
         → Runs setup turns w → w.store.faults.plan ≡ [] → w.deep.faults.plan ≡ [] → 1 ≤ setup.table.millis
         → 8589934581 < retirements → (h : Heals retirements lines rounds w u settled) → rounds_after h < lines * rounds
-        → (query : Query) (v : Reached) (answer : Answer) → IsQuery u.world.setup.schema query → Queries query u.world v (Ok answer) → IsAnsweredWhole u.world query answer }
+        → AnswersWhole u.world }
 {}
