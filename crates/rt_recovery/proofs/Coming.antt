@@ -27,7 +27,7 @@ use Rattle.rt_state.specs.declared.state.State.{State}
 use Rattle.rt_store.proofs.Listing.{value_has}
 use Rattle.rt_store.specs.Contents.{starting_of}
 use Rattle.rt_heal.proofs.Quiet.{then_parts, told_same}
-use Rattle.rt_recovery.specs.Retiring.{goes_on_by, nothing_by, Goes, LeavesOldOnes, Retires, RetiresIn, RetiresOf, RetiresUntil, RetireTurn, Until}
+use Rattle.rt_recovery.specs.Retiring.{goes_on_by, nothing_by, retirements_enough, Goes, LeavesOldOnes, RetireTurn, Retires, RetiresIn, RetiresOf, RetiresUntil, Until}
 use Rattle.rt_recovery.proofs.Emptying.{counted, decided_lessens, left_most, left_to_retire}
 use Rattle.rt_recovery.proofs.Leaving.{leads_leave, runs_leave}
 use Rattle.rt_recovery.proofs.Mending.{few_sequences, mending_still, mending_then, GoesMending}
@@ -133,7 +133,7 @@ retirements_come setup turns w v c times told is run none enough h =
 
 -- a partition has far fewer segments than there are numbers
 pub retirements_always_come : (setup : Setup) (turns : List Turn) (w : State) (v : Reached) (c : ControllerId) (times : ℕ) (told : Bool) → IsSetup setup
-    → Runs setup turns w → w.store.faults.plan ≡ [] → 8589934581 < times → Retires c times w v (Ok told) → told ≡ true
+    → Runs setup turns w → w.store.faults.plan ≡ [] → retirements_enough < times → Retires c times w v (Ok told) → told ≡ true
 retirements_always_come setup turns w v c times told is run none many h =
     let safe = runs_are_safe setup turns w is run in
     comes_all c times w safe none (runs_leave setup turns w is run)

@@ -21,7 +21,7 @@ use Rattle.rt_recovery.specs.Healing.{first_controller, rounds_after, Heals}
 use Rattle.rt_recovery.specs.Mending.{HasMended}
 use Rattle.rt_recovery.specs.Often.{SettlesOften}
 use Rattle.rt_recovery.specs.Restarting.{IsStartedAnew}
-use Rattle.rt_recovery.specs.Retiring.{HasRetired, Retires}
+use Rattle.rt_recovery.specs.Retiring.{retirements_enough, HasRetired, Retires}
 use Rattle.rt_recovery.proofs.Coming.{retirements_always_come}
 use Rattle.rt_recovery.proofs.GoingOn.{mended_goes_on}
 use Rattle.rt_recovery.proofs.Mending.{mended}
@@ -31,7 +31,7 @@ use Rattle.rt_recovery.proofs.Settled.{often_leaves, settles_often, HasSettled}
 use Rattle.rt_recovery.proofs.Whole.{settled_rests, settled_whole}
 
 module _ (setup : Setup) (turns : List Turn) (retirements lines rounds : ℕ) (w : State) (u : Reached) (settled : Bool) (is : IsSetup setup) (run : Runs setup turns w)
-    (unplanned : w.store.faults.plan ≡ []) (fetches : w.deep.faults.plan ≡ []) (millis : 1 ≤ setup.table.millis) (many : 8589934581 < retirements)
+    (unplanned : w.store.faults.plan ≡ []) (fetches : w.deep.faults.plan ≡ []) (millis : 1 ≤ setup.table.millis) (many : retirements_enough < retirements)
     (h : Heals retirements lines rounds w u settled) where
   -- ---- a fresh start
 

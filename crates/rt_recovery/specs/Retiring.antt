@@ -74,6 +74,10 @@ RetiresOf c times p w =
 abbrev pub RetireTurn : ControllerId → ℕ → ℕ → Bool → Act Bool
 RetireTurn c times at noted w = Then (RetiresOf c times (record { 0 = at })) (λ nothing. Gives (noted && nothing)) w
 
+-- twice as many as a partition has segments at most, and one: so many are enough for each
+abbrev pub retirements_enough : ℕ
+retirements_enough = 8589934581
+
 -- all partitions
 abbrev pub Retires : ControllerId → ℕ → Act Bool
 Retires c times w = EachFrom (RetireTurn c times) 0 w.setup.partitions true w

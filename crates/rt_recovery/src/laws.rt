@@ -20,7 +20,7 @@ ghost use Rattle.rt_recovery.specs.Healing.{rounds_after, Heals};
 ghost use Rattle.rt_recovery.specs.Mending.{HasMended, Mends};
 ghost use Rattle.rt_recovery.specs.Often.{SettlesOften};
 ghost use Rattle.rt_recovery.specs.Restarting.{IsStartedAnew, StartsAnew};
-ghost use Rattle.rt_recovery.specs.Retiring.{HasRetired, LeavesOldOnes, Retires};
+ghost use Rattle.rt_recovery.specs.Retiring.{retirements_enough, HasRetired, LeavesOldOnes, Retires};
 ghost use Rattle.rt_recovery.specs.Whole.{AnswersWhole, ComesToRest};
 
 /// From any world of a run on that was started anew, `settle` answers `settled` as soon as it has more rounds than `rounds_in_all`. Every
@@ -85,7 +85,7 @@ pub fn segments_without_entries_are_old()
 /// what is under way ends, and then retirements come up to the first that tells `nothing`. Where each partition came to that, from any
 /// world of a run on in which no fault of the store is planned, no segment is between the two steps of its retirement then, and partitions
 /// that needed no repair need none. The nodes, the log and the deep store are as they were. Each partition comes to `nothing` where there
-/// are enough retirements: more than two for each listed segment, and one; and so with more than 8_589_934_581, whatever is listed.
+/// are enough retirements: more than two for each listed segment, and one; and so with more than `retirements_enough`, whatever is listed.
 pub fn retirements_up_to_nothing_leave_none_half_done()
     ensures leaves { (setup : Setup) (turns : List Turn) (w : State) (v : Reached) (c : ControllerId) (times : ℕ) → IsSetup setup
         → Runs setup turns w → w.store.faults.plan ≡ [] → Retires c times w v (Ok true)
@@ -95,24 +95,24 @@ pub fn retirements_up_to_nothing_leave_none_half_done()
         → ((p : Partition) → p.0 < w.setup.partitions → 2 * length (metadata_of w.store.writes p) + 1 < times)
         → Retires c times w v (Ok told) → told ≡ true }
     ensures always { (setup : Setup) (turns : List Turn) (w : State) (v : Reached) (c : ControllerId) (times : ℕ) (told : Bool) → IsSetup setup
-        → Runs setup turns w → w.store.faults.plan ≡ [] → 8589934581 < times → Retires c times w v (Ok told) → told ≡ true }
+        → Runs setup turns w → w.store.faults.plan ≡ [] → retirements_enough < times → Retires c times w v (Ok told) → told ≡ true }
 {}
 
 /// Every cluster heals. From any world of a run on in which no fault of a store is planned, a script that is made of the setup alone
 /// leads to rest: each node crashes, where it is up, and restarts, and the first controller leads; the grace passes five times for each
 /// partition, with a repair behind it; old segments are retired, up to a retirement that finds nothing to do, which comes before there were
-/// 8_589_934_582 of a partition; and then come `settle`s, of more rounds in all than `rounds_in_all`, a number made of the messages, the
+/// more than `retirements_enough` of a partition; and then come `settle`s, of more rounds in all than `rounds_in_all`, a number made of the messages, the
 /// commits and the ideal state. The last of them answers `settled`; all servers rest then, and each query is answered whole: it misses
 /// nothing, and aggregates the rows of all messages from each partition's mark up to the stream's end. Segments don't end by a time of 0 ms.
 pub fn every_cluster_heals()
     ensures settles { (setup : Setup) (turns : List Turn) (retirements lines rounds : ℕ) (w : State) (u : Reached) (settled : Bool) → IsSetup setup
         → Runs setup turns w → w.store.faults.plan ≡ [] → w.deep.faults.plan ≡ [] → 1 ≤ setup.table.millis
-        → 8589934581 < retirements → (h : Heals retirements lines rounds w u settled) → rounds_after h < lines * rounds → settled ≡ true }
+        → retirements_enough < retirements → (h : Heals retirements lines rounds w u settled) → rounds_after h < lines * rounds → settled ≡ true }
     ensures rests { (setup : Setup) (turns : List Turn) (retirements lines rounds : ℕ) (w : State) (u : Reached) (settled : Bool) → IsSetup setup
         → Runs setup turns w → w.store.faults.plan ≡ [] → w.deep.faults.plan ≡ [] → 1 ≤ setup.table.millis
-        → 8589934581 < retirements → (h : Heals retirements lines rounds w u settled) → rounds_after h < lines * rounds → IsAtRest u.world }
+        → retirements_enough < retirements → (h : Heals retirements lines rounds w u settled) → rounds_after h < lines * rounds → IsAtRest u.world }
     ensures whole { (setup : Setup) (turns : List Turn) (retirements lines rounds : ℕ) (w : State) (u : Reached) (settled : Bool) → IsSetup setup
         → Runs setup turns w → w.store.faults.plan ≡ [] → w.deep.faults.plan ≡ [] → 1 ≤ setup.table.millis
-        → 8589934581 < retirements → (h : Heals retirements lines rounds w u settled) → rounds_after h < lines * rounds
+        → retirements_enough < retirements → (h : Heals retirements lines rounds w u settled) → rounds_after h < lines * rounds
         → AnswersWhole u.world }
 {}
