@@ -78,8 +78,7 @@ class Further(macros.Macros):
         return f"offline {len(pushed)}"
 
     def pushed(self, text):
-        found = rows.object_of(f'{{"a":{text}}}')
-        found = found["a"] if found else None
+        found = rows.value_of(text)
         if not isinstance(found, list) or not 1 <= len(found) <= 10_000:
             return None
         listed = [rows.row_in(self.setup.columns, value) if isinstance(value, dict) else None for value in found]
@@ -149,7 +148,11 @@ class Further(macros.Macros):
     def on_consume(self, rest):
         at, where, most = rest.split(" ")
         _, replica = self.replica_at(at, where, lambda replica: replica.consume_due() and 1 <= int(most) < 2**32)
-        return f"paused {at} {where}" if self.is_paused(replica) else super().on_consume(rest)
+        if not self.is_paused(replica):
+            return super().on_consume(rest)
+        # It counts as no event, and is refused where its event would be.
+        self.asks_room(0, 0, 0, 0, 0)
+        return f"paused {at} {where}"
 
     def on_peer(self, rest):
         at, where = rest.split(" ")

@@ -52,15 +52,20 @@ def with_texts(pairs):
     return dict(pairs)
 
 
-def object_of(message):
-    """The object that a message is, or none."""
-    if is_too_deep(message):
+def value_of(text):
+    """What a text is as serde_json reads it, or none."""
+    if is_too_deep(text):
         return None
     try:
-        message.encode()
-        value = json.loads(message, parse_int=whole, parse_float=fraction, parse_constant=refused, object_pairs_hook=with_texts)
+        text.encode()
+        return json.loads(text, parse_int=whole, parse_float=fraction, parse_constant=refused, object_pairs_hook=with_texts)
     except (ValueError, NoRow, RecursionError):
         return None
+
+
+def object_of(message):
+    """The object that a message is, or none."""
+    value = value_of(message)
     return value if isinstance(value, dict) else None
 
 
