@@ -45,4 +45,7 @@ pub mod ScriptRuns
 pub mod ShownStays
 pub mod Tellings
 pub mod TextLines
+pub mod ToldItems
+pub mod ToldNumbers
+pub mod ToldStrings
 pub mod Turned

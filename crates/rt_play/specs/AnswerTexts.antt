@@ -1,26 +1,51 @@
--- Answers whose numbers a text can tell.
-use Rattle.std.specs.Prelude.{◌<◌, ◌^◌, ℕ, List, [], ◌∷◌, Option, None, Some}
+-- What the text of an answer tells.
+use Rattle.std.specs.Prelude.{◌<◌, ◌^◌, ℕ, Bool, List, map, Option, None, Some}
+use Rattle.std.specs.Fmt.{signed_decimal}
 use Rattle.rt_base.specs.declared.numbers.Partition.{Partition}
 use Rattle.rt_base.specs.declared.numbers.Sequence.{Sequence}
 use Rattle.rt_base.specs.declared.range.Range.{Range}
+use Rattle.rt_lists.specs.Members.{Has}
 use Rattle.rt_model.specs.declared.answer.Answer.{Answer}
+use Rattle.rt_model.specs.declared.answer.Cell.{Cell}
+use Rattle.rt_model.specs.declared.answer.Cell.TheVariants as cell
+use Rattle.rt_model.specs.declared.answer.ResultRow.{ResultRow}
+use Rattle.rt_schema.specs.declared.value.Value.{Value}
+use Rattle.rt_schema.specs.declared.value.Value.TheVariants as value
+
+-- ---- numbers
 
 abbrev pub IsWord : ℕ → Type 0
 IsWord n = n < 2 ^ 64
-
-abbrev pub AreRangeWords : List (Partition × Range) → Type 0
-AreRangeWords [] = Unit {0}
-AreRangeWords (r ∷ rest) = (IsWord r.0.0 × IsWord r.1.start.0 × IsWord r.1.end.0) × AreRangeWords rest
 
 abbrev pub IsSequenceWord : Option Sequence → Type 0
 IsSequenceWord None = Unit {0}
 IsSequenceWord (Some s) = IsWord s.0
 
-abbrev pub AreMissingWords : List (Partition × Option Sequence) → Type 0
-AreMissingWords [] = Unit {0}
-AreMissingWords (m ∷ rest) = (IsWord m.0.0 × IsSequenceWord m.1) × AreMissingWords rest
-
--- each number of it fits a word of 64 bits
+-- each number of its ranges, and of what it misses, fits a word of 64 bits
 pub record AreWords (answer : Answer) : Type 0 where
-  pub ranges : AreRangeWords answer.ranges
-  pub missing : AreMissingWords answer.missing
+  pub ranges : (r : Partition × Range) → Has answer.ranges r → IsWord r.0.0 × IsWord r.1.start.0 × IsWord r.1.end.0
+  pub missing : (p : Partition) (s : Option Sequence) → Has answer.missing (p, s) → IsWord p.0 × IsSequenceWord s
+
+-- ---- cells
+
+-- what the text of a cell tells: the digits of a number, whatever its type is; a string; a truth; or nothing
+pub data CellTold : Type 0 where
+  number : List ℕ → CellTold
+  string : List ℕ → CellTold
+  truth : Bool → CellTold
+  nothing : CellTold
+
+abbrev pub value_told : Value → CellTold
+value_told (value.Int n) = number (signed_decimal n)
+value_told (value.Long n) = number (signed_decimal n)
+value_told (value.Text s) = string s
+value_told (value.Bool b) = truth b
+value_told (value.Time millis) = number (signed_decimal millis)
+
+abbrev pub cell_told : Cell → CellTold
+cell_told (cell.Value v) = value_told v
+cell_told (cell.Whole n) = number (signed_decimal n)
+cell_told cell.Null = nothing
+
+abbrev pub row_told : ResultRow → List CellTold
+row_told row = map cell_told row.cells

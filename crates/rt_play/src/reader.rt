@@ -1,11 +1,11 @@
 //! What the reader of a report may take from it, by the script and the report alone. It stands on a function that does nothing: its
 //! clauses are the law.
-ghost use Rattle.std.specs.Prelude.{◌≡◌, ℕ, List, Ok};
+ghost use Rattle.std.specs.Prelude.{◌≡◌, ℕ, List, map, Ok};
 ghost use Rattle.rt_lines.specs.Header.{NumberedLine, header_of};
 ghost use Rattle.rt_lines.specs.Lines.{script_lines};
 ghost use Rattle.rt_model.specs.declared.answer.Answer.{Answer};
 ghost use Rattle.rt_model.specs.declared.setup.Setup.{Setup};
-ghost use Rattle.rt_play.specs.AnswerTexts.{AreWords};
+ghost use Rattle.rt_play.specs.AnswerTexts.{AreWords, row_told};
 ghost use Rattle.rt_play.specs.Ledger.{CommitsStay};
 ghost use Rattle.rt_play.specs.Reader.{AnswersCount};
 ghost use Rattle.rt_play.specs.Report.{IsFrontOfReport, IsReport, Report};
@@ -50,4 +50,10 @@ pub fn what_was_committed_stays()
 /// the same ranges and miss the same.
 pub fn the_text_of_an_answer_tells_its_ranges()
     ensures { (a b : Answer) → AreWords a → AreWords b → answer_line a ≡ answer_line b → (a.ranges ≡ b.ranges) × (a.missing ≡ b.missing) }
+{}
+
+/// And it tells its rows, cell by cell: two answers have one text only if their rows tell the same. What a cell tells is a string, a truth, nothing,
+/// or the digits of a number, whatever the type of the number is.
+pub fn the_text_of_an_answer_tells_its_rows()
+    ensures { (a b : Answer) → answer_line a ≡ answer_line b → map row_told a.rows ≡ map row_told b.rows }
 {}
