@@ -171,6 +171,7 @@ module _ (ranges : Ranges) (w : State) (notes : Notes) (safe : IsSafeWorld w) (k
       λ later f. record {
         answer = a.answer;
         told = a.told;
+        words = a.found.words;
         so = names_so ranges w b.between.world notes a.answer safe k a.found;
         behind = f notes (stays_with_jobs ranges w v.world notes goes (λ x has at. job_kept w v.world x goes same at) k);
       }

@@ -1,4 +1,5 @@
 pub mod AnswerTexts
+pub mod AnswerWords
 pub mod Beginnings
 pub mod BesideKept
 pub mod Coming
@@ -33,6 +34,7 @@ pub mod NamedRanges
 pub mod Noted
 pub mod NotedAnswers
 pub mod OneGenerated
+pub mod OneReading
 pub mod OneReport
 pub mod Plans
 pub mod Playing

@@ -26,8 +26,8 @@ use Rattle.rt_macros.specs.Querying.{AfterAsking, AnswersNow, AsksAll, AsksAndAn
 use Rattle.rt_model.specs.declared.answer.Answer.{Answer}
 use Rattle.rt_model.specs.declared.query.Query.{Query}
 use Rattle.rt_model.specs.declared.setup.Setup.{Setup}
-use Rattle.rt_play.proofs.NamedRanges.{named_produced}
-use Rattle.rt_play.specs.Reader.{AnswersSo, AreProduced, CountsProduced, asked_behind, filled, produced_behind}
+use Rattle.rt_play.proofs.AnswerWords.{answer_produced, answer_words}
+use Rattle.rt_play.specs.Reader.{AnswersSo, CountsProduced, asked_behind, filled, produced_behind}
 use Rattle.rt_report.specs.BrokerTexts.{answer_line}
 use Rattle.rt_report.specs.MacroTexts.{filled_text}
 use Rattle.rt_report.specs.Outcome.{outcome_text}
@@ -169,14 +169,16 @@ record IsTold (schema_of : Setup) (log : Log) (queries : List Query) (number : �
   asked : slice_get queries number ≡ Some query
   counts : (text : List ℕ) → text ≡ answer_line answer → CountsProduced schema_of.schema log query text
 
-answered : (w : State) (number : ℕ) (answer : Answer) (queries : List Query) → IsAnswered w number answer → AreAsked w queries → IsTold w.setup w.log queries number answer
-answered w number answer queries is k = record {
+answered : (w : State) (number : ℕ) (answer : Answer) (queries : List Query) → IsSafeWorld w → IsAnswered w number answer → AreAsked w queries
+    → IsTold w.setup w.log queries number answer
+answered w number answer queries safe is k = record {
   query = is.asked.query;
   asked = k.same number is.asked (query_there w number is.asked is.there);
   counts = λ text same. record {
     answer = answer;
     told = same;
-    ranges = subst (λ rs. AreProduced w.log 0 0 rs) (sym is.right.ranges) (named_produced w.log _ (length w.log) is.right.partitions is.right.served);
+    words = answer_words w number answer is safe;
+    ranges = answer_produced w number answer is;
     rows = is.right.rows;
   };
 }
@@ -188,7 +190,7 @@ answer_told w number v o queries safe k steps =
     let found = by_query (query_at w number) steps.2 in (
       found.0,
       found.1,
-      answered w number found.0 queries
+      answered w number found.0 queries safe
           (answers_right w v number found.0 safe (subst (λ (x : Outcome). Steps w (event.Answer number) v (Ok x)) found.1 steps)) k,
     )
   where

@@ -37,10 +37,12 @@ use Rattle.rt_model.specs.declared.answer.Answer.{Answer}
 use Rattle.rt_model.specs.declared.piece.Piece.{Piece}
 use Rattle.rt_model.specs.declared.query.Query.{Query}
 use Rattle.rt_model.specs.declared.setup.Setup.{Setup}
+use Rattle.rt_play.proofs.AnswerWords.{answer_words}
 use Rattle.rt_play.proofs.Covered.{AllServed, AreFit}
 use Rattle.rt_play.proofs.Gathered.{Gathers, IsRouteOf, ask_gathers, piece_gathers, route_gathers}
 use Rattle.rt_play.proofs.Keeping.{Keeps, each_from_keeps, each_keeps, happens_keeps, passed_keeps, stay_keeps, then_keeps}
 use Rattle.rt_play.proofs.LineReads.{asked_number, given, same_told, was_then}
+use Rattle.rt_play.specs.AnswerTexts.{AreWords}
 use Rattle.rt_play.specs.Named.{ranges_at}
 use Rattle.rt_report.specs.BrokerTexts.{answer_line}
 use Rattle.rt_safety.proofs.Answering.{answers_right}
@@ -118,6 +120,7 @@ pub record IsFound (w v : State) (answer : Answer) : Type 0 where
   pub setup : world.setup ≡ w.setup
   pub gathers : Gathers w number world
   pub answered : IsAnswered world number answer
+  pub words : AreWords answer
   pub kept : v.controllers ≡ w.controllers
 
 -- the answer itself changes no controller
@@ -132,12 +135,14 @@ answers_now : (w : State) (number : ℕ) (u : State) (v : Reached) (answer : Ans
 answers_now w number u v answer k h =
     let t = was_then (Happens (event.Answer number)) (λ outcome. GivesAnswer (answer_in outcome)) u v answer h in
     let g = given number u t.between t.last answer t.told t.came t.further in
+    let right = answers_right u t.between.world number answer k.safe g.0 in
     record {
       number = number;
       world = u;
       setup = k.setup;
       gathers = k.gathers;
-      answered = answers_right u t.between.world number answer k.safe g.0;
+      answered = right;
+      words = answer_words u number answer right k.safe;
       kept =
           ap (λ (x : Reached). x.world.controllers) t.whole ∙ ap (λ (x : State). x.controllers) g.1
           ∙ answer_keeps u t.between.world number (came.Answered answer) g.0 ∙ k.gathers.controllers;

@@ -33,6 +33,7 @@ use Rattle.rt_model.specs.declared.seg_meta.SegMeta.{SegMeta}
 use Rattle.rt_model.specs.declared.setup.Setup.{Setup}
 use Rattle.rt_model.specs.declared.status.Status.{Status}
 use Rattle.rt_model.specs.declared.status.Status.TheVariants.{Abandoned, Done, InProgress}
+use Rattle.rt_play.specs.AnswerTexts.{AreWords}
 use Rattle.rt_play.specs.Named.{Each, Spares, ranges_at, span}
 use Rattle.rt_repair.specs.declared.retiring.RetireStep.TheVariants.{Deleted}
 use Rattle.rt_report.specs.BrokerTexts.{answer_line}
@@ -301,6 +302,7 @@ pub record EventTells (ranges : Ranges) (marks : Marks) (notes : Notes) (event :
 pub record QueryTells (setup : Setup) (ranges : Ranges) (marks : Marks) (notes : Notes) (text : List ℕ) (later : Notes → Type 0) : Type 0 where
   pub answer : Answer
   pub told : text ≡ answer_line answer
+  pub words : AreWords answer
   pub so : NamesSo setup ranges marks notes answer
   pub behind : later notes
 

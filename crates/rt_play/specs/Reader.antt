@@ -10,6 +10,7 @@ use Rattle.rt_model.specs.RightAnswer.{rows_of}
 use Rattle.rt_model.specs.declared.answer.Answer.{Answer as AnswerGiven}
 use Rattle.rt_model.specs.declared.query.Query.{Query}
 use Rattle.rt_model.specs.declared.setup.Setup.{Setup}
+use Rattle.rt_play.specs.AnswerTexts.{AreWords}
 use Rattle.rt_report.specs.BrokerTexts.{answer_line}
 use Rattle.rt_schema.specs.declared.schema.Schema.{Schema}
 use Rattle.rt_script.specs.Line.{line_in}
@@ -50,11 +51,12 @@ AreProduced log partition from (r ∷ rest) =
     × (r.1.end.0 ≤ length (messages_of log r.0))
     × AreProduced log r.0.0 r.1.end.0 rest
 
--- a text is the line of an answer to a query: it names ranges of what was produced, none of them twice, and its rows are those of the query
--- over exactly the messages that were produced at these offsets
+-- a text is the line of an answer to a query, whose numbers fit words of 64 bits: it names ranges of what was produced, none of them twice, and
+-- its rows are those of the query over exactly the messages that were produced at these offsets
 pub record CountsProduced (schema : Schema) (log : Log) (query : Query) (text : List ℕ) : Type 0 where
   pub answer : AnswerGiven
   pub told : text ≡ answer_line answer
+  pub words : AreWords answer
   pub ranges : AreProduced log 0 0 answer.ranges
   pub rows : answer.rows ≡ aggregate query (rows_of schema log answer.ranges)
 

@@ -27,9 +27,9 @@ pub use one_report::a_script_has_one_report;
 pub use play_end::PlayEnd;
 pub use player::play;
 pub use reader::{
-    each_answer_counts_what_was_produced, the_text_of_an_answer_tells_its_ranges,
-    the_text_of_an_answer_tells_its_rows, what_is_shown_to_have_ended_stays,
-    what_was_committed_stays,
+    each_answer_counts_what_was_produced, the_text_of_an_answer_has_one_reading,
+    the_text_of_an_answer_tells_its_ranges, the_text_of_an_answer_tells_its_rows,
+    what_is_shown_to_have_ended_stays, what_was_committed_stays,
 };
 pub use settled::a_settle_leaves_no_server_out;
 pub use some_report::{a_generated_run_is_never_refused, a_script_has_a_report};

@@ -4,13 +4,16 @@ ghost use Rattle.std.specs.Prelude.{◌≡◌, ℕ, List, map, Ok};
 ghost use Rattle.rt_lines.specs.Header.{NumberedLine, header_of};
 ghost use Rattle.rt_lines.specs.Lines.{script_lines};
 ghost use Rattle.rt_model.specs.declared.answer.Answer.{Answer};
+ghost use Rattle.rt_model.specs.declared.query.Query.{Query};
 ghost use Rattle.rt_model.specs.declared.setup.Setup.{Setup};
 ghost use Rattle.rt_play.specs.AnswerTexts.{AreWords, row_told};
 ghost use Rattle.rt_play.specs.Ledger.{CommitsStay};
-ghost use Rattle.rt_play.specs.Reader.{AnswersCount};
+ghost use Rattle.rt_play.specs.Reader.{AnswersCount, CountsProduced};
 ghost use Rattle.rt_play.specs.Report.{IsFrontOfReport, IsReport, Report};
 ghost use Rattle.rt_play.specs.Shown.{EndedStays};
 ghost use Rattle.rt_report.specs.BrokerTexts.{answer_line};
+ghost use Rattle.rt_schema.specs.declared.schema.Schema.{Schema};
+ghost use Rattle.rt_stream.specs.Log.{Log};
 
 /// Each answer counts what was produced: the ranges that it names come in order, each once, within what the `produce` and `fill` lines above it
 /// gave, and its rows are those of its query over exactly the messages that these lines gave at these offsets. So it is of a `query` line, and
@@ -46,8 +49,8 @@ pub fn what_was_committed_stays()
         → header_of (script_lines input) ≡ Ok (setup, lines) → CommitsStay setup lines texts }
 {}
 
-/// The text of an answer tells which ranges it names, and what it misses: two answers whose numbers fit 64 bits have one text only if they name
-/// the same ranges and miss the same.
+/// The text of an answer tells which ranges it names, and what it misses: two answers whose numbers fit 64 bits, as those of a report do, have one
+/// text only if they name the same ranges and miss the same.
 pub fn the_text_of_an_answer_tells_its_ranges()
     ensures { (a b : Answer) → AreWords a → AreWords b → answer_line a ≡ answer_line b → (a.ranges ≡ b.ranges) × (a.missing ≡ b.missing) }
 {}
@@ -56,4 +59,10 @@ pub fn the_text_of_an_answer_tells_its_ranges()
 /// or the digits of a number, whatever the type of the number is.
 pub fn the_text_of_an_answer_tells_its_rows()
     ensures { (a b : Answer) → answer_line a ≡ answer_line b → map row_told a.rows ≡ map row_told b.rows }
+{}
+
+/// So the text of an answer has one reading: what a report tells of an answer to a query, over what was produced, it tells of one answer alone.
+pub fn the_text_of_an_answer_has_one_reading()
+    ensures { (schema : Schema) (log : Log) (query : Query) (text : List ℕ) (one other : CountsProduced schema log query text)
+        → one.answer ≡ other.answer }
 {}
