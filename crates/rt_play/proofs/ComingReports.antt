@@ -7,7 +7,7 @@ use Rattle.rt_desk.specs.Forcing.{ForceCommitTold, PauseTold, ResumeTold}
 use Rattle.rt_desk.specs.Hybrid.{PushLine, PushTold, PushesRows}
 use Rattle.rt_desk.specs.Rehearsing.{LoadedTold, RehearseTold, StepTold}
 use Rattle.rt_desk.specs.Saying.{FurtherTold, LineTold, OfflineTold, with_plan}
-use Rattle.rt_desk.specs.Telling.{Beside, Changed, Puts, Told, changed, told}
+use Rattle.rt_desk.specs.Telling.{Changed, Told, changed, told}
 use Rattle.rt_desk.specs.declared.desk.Desk.{Desk}
 use Rattle.rt_events.specs.declared.refusal.Refusal.{Refusal}
 use Rattle.rt_events.specs.declared.refusal.Refusal.TheVariants.{Limit, NothingToDo}
@@ -19,7 +19,7 @@ use Rattle.rt_lines.specs.declared.line_reason.LineReason.TheVariants as reason
 use Rattle.rt_lines.specs.declared.play_fault.PlayFault.{PlayFault}
 use Rattle.rt_lines.specs.declared.play_fault.PlayFault.TheVariants as fault
 use Rattle.rt_events.specs.declared.event.Event.TheVariants.{Produce}
-use Rattle.rt_macros.specs.Doing.{Act, Choose, Gives, Passed, PassesOver, Reached, Refuses, Then, stays}
+use Rattle.rt_macros.specs.Doing.{Choose, Gives, Passed, PassesOver, Reached, Refuses, Then, stays}
 use Rattle.rt_macros.specs.Settling.{Settles}
 use Rattle.rt_macros.specs.declared.settling.TheConstants.{MOST_ROUNDS}
 use Rattle.rt_made.proofs.Headers.{header_named}
@@ -32,6 +32,7 @@ use Rattle.rt_play.proofs.Beginnings.{beginning_taken, cluster_schema}
 use Rattle.rt_play.proofs.Coming.{Comes, IsReached, each_from_comes, first_reached, gives_comes, passed_comes, refuses_comes, then_comes, turns_reached}
 use Rattle.rt_play.proofs.ComingLines.{line_told_comes}
 use Rattle.rt_play.proofs.ComingMacros.{query_comes, settles_comes}
+use Rattle.rt_play.proofs.Desks.{beside_desk, puts_desk}
 use Rattle.rt_play.proofs.HybridTables.{start_is}
 use Rattle.rt_play.proofs.LineReads.{same_told, told_or, was_then}
 use Rattle.rt_play.proofs.OneGenerated.{said_fits, setup_has, setup_named}
@@ -61,23 +62,6 @@ use Rattle.rt_upconf.specs.declared.upsert_refused.UpsertRefused.{UpsertRefused}
 -- it is of this schema, if there is one
 abbrev IsOfSchema : Schema → Desk → Type 0
 IsOfSchema schema desk = IfSome desk.hybrid (λ table. table.schema ≡ schema)
-
-beside_desk : (desk after : Desk) (act : Act (List ℕ)) (w : State) (v : Reached) (text : List ℕ) → Beside desk act w v (Ok (told after text)) → after ≡ desk
-beside_desk desk after act w v text h =
-    let t = was_then act (λ x. Gives (told desk x)) w v (told after text) h in ap (λ (x : Told). x.part) (same_told (told after text) (told desk t.told) t.further.1)
-
--- what was put on the desk
-record IsPut {Part : Type 0} (put : Part → Desk) (act : Act (Changed Part)) (w : State) (after : Desk) : Type 0 where
-  between : Reached
-  part : Changed Part
-  came : act w between (Ok part)
-  same : after ≡ put part.part
-
-puts_desk : {Part : Type 0} (put : Part → Desk) (after : Desk) (act : Act (Changed Part)) (w : State) (v : Reached) (text : List ℕ)
-    → Puts put act w v (Ok (told after text)) → IsPut put act w after
-puts_desk put after act w v text h =
-    let t = was_then act (λ x. Gives (told (put x.part) x.text)) w v (told after text) h in
-    record { between = t.between; part = t.told; came = t.came; same = ap (λ (x : Told). x.part) (same_told (told after text) (told (put t.told.part) t.told.text) t.further.1) }
 
 -- rows that are pushed come into a table of the same schema
 rows_schema : (rows : List ℕ) (old new : OfflineTable) (count : Option ℕ) → PushesRows rows old new count → new.schema ≡ old.schema

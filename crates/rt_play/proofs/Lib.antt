@@ -10,6 +10,7 @@ pub mod Commits
 pub mod Completes
 pub mod Covered
 pub mod Deleted
+pub mod Desks
 pub mod EventNotes
 pub mod ExchangeLines
 pub mod Gathered
@@ -36,6 +37,7 @@ pub mod NotedAnswers
 pub mod OneGenerated
 pub mod OneReading
 pub mod OneReport
+pub mod PausedRuns
 pub mod Plans
 pub mod Playing
 pub mod QueryLines

@@ -11,6 +11,7 @@ mod generating;
 mod laws;
 mod missing;
 mod one_report;
+mod pausing;
 mod play_end;
 mod player;
 mod reader;
@@ -24,6 +25,7 @@ mod words;
 pub use laws::a_script_is_a_run;
 pub use missing::{a_query_line_misses_what_no_server_serves, a_view_misses_what_no_server_serves};
 pub use one_report::a_script_has_one_report;
+pub use pausing::a_script_is_paused_from_pause_to_resume;
 pub use play_end::PlayEnd;
 pub use player::play;
 pub use reader::{
