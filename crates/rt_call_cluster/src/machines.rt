@@ -19,7 +19,7 @@ pub fn machine(alloc: Global, words: &mut Words, answer: &mut Answer) -> Result<
     }
     for (place, ask) in asks.split("; ").enumerate() {
         answer.part(place, "; ");
-        call_machine(&mut machine, &mut Words::of(ask), answer)?;
+        call_machine(alloc, &mut machine, &mut Words::of(ask), answer)?;
         answer.add(" -> ");
         answer.add(state_name(machine.state()));
     }
@@ -65,7 +65,12 @@ fn seen_from(alloc: Global, start: Offset) -> SeenMeta {
 }
 
 // `NOW sK ASK`, or `ended TRUTH`.
-fn call_machine(machine: &mut Machine, words: &mut Words, answer: &mut Answer) -> Result<(), Stop> {
+fn call_machine(
+    alloc: Global,
+    machine: &mut Machine,
+    words: &mut Words,
+    answer: &mut Answer,
+) -> Result<(), Stop> {
     if words.begins_with('e') {
         return end(machine, words, answer);
     }
@@ -73,8 +78,7 @@ fn call_machine(machine: &mut Machine, words: &mut Words, answer: &mut Answer) -
     let sender = words.instance_until(' ');
     let ask = ask_in(words)?;
     words.ended()?;
-    write_reaction(machine.on(sender, ask, now), answer);
-    Ok(())
+    write_reaction(alloc, machine.on(sender, ask, now), answer)
 }
 
 fn end(machine: &mut Machine, words: &mut Words, answer: &mut Answer) -> Result<(), Stop> {

@@ -1,47 +1,33 @@
-use crate::cluster_words::state_name;
-use rt_call_words::Answer;
-use rt_model::{FailCause, Reaction, Said};
+use rt_call_words::{Answer, Stop};
+use rt_model::{Reaction, ReplyStatus, Said};
+use rt_msgs::status_text;
+use std::alloc::Global;
 
-/// Adds what a machine answers or starts.
-pub(crate) fn write_reaction(reaction: Reaction, answer: &mut Answer) {
+/// Adds what a machine answers, as reports name it, or what it starts.
+pub(crate) fn write_reaction(
+    alloc: Global,
+    reaction: Reaction,
+    answer: &mut Answer,
+) -> Result<(), Stop> {
     match reaction {
-        Reaction::Answer(said) => write_said(said, answer),
-        Reaction::StartCommit(offset) => write_at("commitJob ", offset.0, answer),
+        Reaction::Answer(said) => answer.add(status_text(alloc, &status_of(said))?.as_str()),
+        Reaction::StartCommit(offset) => {
+            answer.add("commitJob ");
+            answer.number(offset.0);
+        }
         Reaction::StartOffline => answer.add("offlineJob"),
     }
+    Ok(())
 }
 
-fn write_said(said: Said, answer: &mut Answer) {
+// What a machine says, as an answer.
+fn status_of(said: Said) -> ReplyStatus {
     match said {
-        Said::Hold => answer.add("HOLD"),
-        Said::CatchUp(offset) => write_at("CATCH_UP ", offset.0, answer),
-        Said::Commit(offset) => write_at("COMMIT ", offset.0, answer),
-        Said::CommitContinue => answer.add("COMMIT_CONTINUE"),
-        Said::Processed => answer.add("PROCESSED"),
-        Said::Failed(cause) => write_cause(cause, answer),
-    }
-}
-
-fn write_at(text: &str, number: u64, answer: &mut Answer) {
-    answer.add(text);
-    answer.number(number);
-}
-
-// A machine fails an ask for no other cause.
-fn write_cause(cause: FailCause, answer: &mut Answer) {
-    match cause {
-        FailCause::WrongState(state) => {
-            answer.add("FAILED 1 ");
-            answer.add(state_name(state));
-        }
-        FailCause::WrongOffset { asked, kept } => {
-            write_at("FAILED 2 asked=", asked.0, answer);
-            write_at(" kept=", kept.0, answer);
-        }
-        FailCause::NotCommitter(instance) => {
-            write_at("FAILED 3 committer=s", u64::from(instance.0), answer);
-        }
-        FailCause::NotReplica => answer.add("FAILED 9"),
-        _ => answer.add("FAILED"),
+        Said::Hold => ReplyStatus::Hold,
+        Said::CatchUp(offset) => ReplyStatus::CatchUp(offset),
+        Said::Commit(offset) => ReplyStatus::Commit(offset),
+        Said::CommitContinue => ReplyStatus::CommitContinue,
+        Said::Processed => ReplyStatus::Processed,
+        Said::Failed(cause) => ReplyStatus::Failed(cause),
     }
 }
