@@ -13,7 +13,7 @@ mod stores;
 
 pub use cluster_words::{meta_in, state_in};
 pub use ideals::{ideal, mode};
-pub use machines::machine;
+pub use machines::{machine, reason_in};
 pub use metas::{first_meta, meta, replica, replicas};
 pub use setups::{KnownSetup, KnownTable, TableTexts};
 pub use stores::store;

@@ -115,7 +115,8 @@ fn ask_in(words: &mut Words) -> Result<Ask, Stop> {
     }
 }
 
-fn reason_in(word: &str) -> Result<Reason, Stop> {
+/// `rowLimit`, `timeLimit` or `force`: why a replica stopped to consume.
+pub fn reason_in(word: &str) -> Result<Reason, Stop> {
     match word {
         "rowLimit" => Ok(Reason::RowLimit),
         "timeLimit" => Ok(Reason::TimeLimit),

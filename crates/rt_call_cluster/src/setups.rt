@@ -52,6 +52,12 @@ impl KnownTable {
 }
 
 impl KnownSetup {
+    /// `SERVERS CONTROLLERS PARTITIONS START`: a cluster of the table of these texts.
+    pub fn read(alloc: Global, texts: TableTexts, words: &mut Words) -> Result<KnownSetup, Stop> {
+        let numbers = Numbers::read(words)?;
+        numbers.setup(KnownTable::read(alloc, texts)?, 2)
+    }
+
     /// The least cluster of a table, whose replicas build in a format.
     pub fn of_table(known: KnownTable, format: u32) -> Result<KnownSetup, Stop> {
         let numbers = Numbers {
@@ -70,7 +76,7 @@ impl KnownSetup {
 
 /// The numbers of a cluster.
 #[derive(Clone, Copy)]
-pub(crate) struct Numbers {
+struct Numbers {
     servers: u32,
     controllers: u32,
     partitions: u32,
@@ -79,7 +85,7 @@ pub(crate) struct Numbers {
 
 impl Numbers {
     /// `SERVERS CONTROLLERS PARTITIONS START`
-    pub(crate) fn read(words: &mut Words) -> Result<Numbers, Stop> {
+    fn read(words: &mut Words) -> Result<Numbers, Stop> {
         let numbers = Numbers {
             servers: words.count(),
             controllers: words.count(),
@@ -91,7 +97,7 @@ impl Numbers {
     }
 
     /// A cluster of a table, whose replicas build in a format.
-    pub(crate) fn setup(self, known: KnownTable, format: u8) -> Result<KnownSetup, Stop>
+    fn setup(self, known: KnownTable, format: u8) -> Result<KnownSetup, Stop>
         requires first { 1 ≤ format }
         requires last { format ≤ 2 }
     {

@@ -1,5 +1,5 @@
 use crate::creations::{create, create_after, set};
-use crate::setups::{KnownTable, Numbers, TableTexts};
+use crate::setups::{KnownSetup, TableTexts};
 use crate::store_words::{key_in, seen_in, write_key, write_node};
 use rt_base::Partition;
 use rt_call_words::{Answer, Stop, Words};
@@ -33,8 +33,7 @@ fn make(
     words: &mut Words,
     answer: &mut Answer,
 ) -> Result<MemoryStore, Stop> {
-    let numbers = Numbers::read(words)?;
-    let known = numbers.setup(KnownTable::read(alloc, texts)?, 2)?;
+    let known = KnownSetup::read(alloc, texts, words)?;
     let store = MemoryStore::make(alloc, &known.setup)?;
     answer.number(store.history().len() as u64);
     Ok(store)

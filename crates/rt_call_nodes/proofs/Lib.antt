@@ -1,2 +1,2 @@
 mod Counts
-mod Streams
+pub mod Streams

@@ -54,8 +54,18 @@ fn commit_in(alloc: Global, words: &mut Words) -> Result<Commit, Stop> {
     })
 }
 
-/// Adds `P/Q START END DIGEST ROWS`.
-pub(crate) fn write_header(alloc: Global, header: Header, answer: &mut Answer) {
+/// Adds the header that was wanted, and the one that was found, with `-` in place of none.
+pub fn write_headers(alloc: Global, wanted: Header, found: Option<Header>, answer: &mut Answer) {
+    write_header(alloc, wanted, answer);
+    answer.add(", ");
+    match found {
+        Some(found) => write_header(alloc, found, answer),
+        None => answer.add("-"),
+    }
+}
+
+// `P/Q START END DIGEST ROWS`
+fn write_header(alloc: Global, header: Header, answer: &mut Answer) {
     write_segment(header.partition, header.sequence, answer);
     answer.add(" ");
     answer.number(header.range.start.0);

@@ -1,6 +1,6 @@
-use crate::committed::{Committed, write_header};
+use crate::committed::{Committed, write_headers};
+use crate::pieces::{piece_in, write_served};
 use crate::replicas::state_name;
-use rt_base::Header;
 use rt_call_schemas::Tables;
 use rt_call_words::{Answer, Segment, Stop, Words};
 use rt_deep::MemoryDeep;
@@ -50,7 +50,7 @@ fn call_entry(
             Ok(())
         }
         "file" => write_file(alloc, entry, answer),
-        _ => Err(Stop::BadLine),
+        _ => serve(alloc, entry, segment, &mut Words::of(call), answer),
     }
 }
 
@@ -77,21 +77,28 @@ fn refuse(alloc: Global, refused: ServerRefused, answer: &mut Answer) -> Result<
     match refused {
         ServerRefused::NotDue => answer.add("notdue"),
         ServerRefused::StoreFault => answer.add("failed"),
-        ServerRefused::BadFile { wanted, found } => refuse_file(alloc, wanted, found, answer),
+        ServerRefused::BadFile { wanted, found } => {
+            answer.add("badfile ");
+            write_headers(alloc, wanted, found, answer);
+        }
         ServerRefused::Memory => return Err(Stop::Memory),
     }
     Ok(())
 }
 
-// `badfile WANTED, FOUND`
-fn refuse_file(alloc: Global, wanted: Header, found: Option<Header>, answer: &mut Answer) {
-    answer.add("badfile ");
-    write_header(alloc, wanted, answer);
-    answer.add(", ");
-    match found {
-        Some(found) => write_header(alloc, found, answer),
-        None => answer.add("-"),
+// `serve START END`: the range and the number of rows of a piece, or the end that is held.
+fn serve(
+    alloc: Global,
+    entry: &Entry,
+    segment: Segment,
+    words: &mut Words,
+    answer: &mut Answer,
+) -> Result<(), Stop> {
+    if words.word() != "serve" {
+        return Err(Stop::BadLine);
     }
+    let piece = piece_in(segment, words)?;
+    write_served(entry.rows(alloc, piece), answer)
 }
 
 // `file`: the bytes of the file that is served, or `none`.

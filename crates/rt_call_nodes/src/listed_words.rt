@@ -28,7 +28,7 @@ fn node_in(alloc: Global, words: &mut Words) -> Result<Listed, Stop> {
 }
 
 /// Adds `P/Q`.
-pub(crate) fn write_segment(partition: Partition, sequence: Sequence, answer: &mut Answer) {
+pub fn write_segment(partition: Partition, sequence: Sequence, answer: &mut Answer) {
     answer.count(partition.0);
     answer.add("/");
     answer.count(sequence.0);

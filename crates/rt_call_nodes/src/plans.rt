@@ -1,4 +1,5 @@
 use crate::listed_words::{listed_in, write_segment};
+use crate::pieces::write_end;
 use rt_base::Partition;
 use rt_broker::Plan;
 use rt_call_words::{Answer, Stop, Words};
@@ -32,8 +33,5 @@ fn write_piece(piece: Piece, answer: &mut Answer) {
     answer.add(":");
     answer.number(piece.start.0);
     answer.add(":");
-    match piece.end {
-        Some(end) => answer.number(end.0),
-        None => answer.add("-"),
-    }
+    write_end(piece.end, answer);
 }

@@ -10,7 +10,7 @@ use std::alloc::Global;
 
 /// An answer by its status: an offset stands behind CATCH_UP and COMMIT, the committed end behind KEEP and COMMIT_SUCCESS,
 /// the path behind UPLOAD_SUCCESS, and behind FAILED the number of a cause that tells nothing more.
-pub(crate) fn status_in(alloc: Global, words: &mut Words) -> Result<ReplyStatus, Stop> {
+pub fn status_in(alloc: Global, words: &mut Words) -> Result<ReplyStatus, Stop> {
     let status = match words.word() {
         "HOLD" => ReplyStatus::Hold,
         "CATCH_UP" => ReplyStatus::CatchUp(Offset(words.number())),

@@ -5,6 +5,7 @@ use rt_call_nodes::{
     consumer, decide, entry, fetch, plan, rebalance, retire, upsert, upsert_config,
 };
 use rt_call_queries::{merge, query, scan, skips, sql, tree};
+use rt_call_replies::{check, failure, handle, limits, rehearse, server, status};
 use rt_call_schemas::{Tables, columns, message, row, schema, settings, table};
 use rt_call_segments::{rows, sealed, segment};
 use rt_call_storage::{
@@ -105,6 +106,28 @@ fn call_node(
         "consumer" => consumer(alloc, &mut session.stream, texts, words, answer),
         "fetch" => fetch(alloc, &mut session.deep, words, answer),
         "entry" => entry(alloc, &mut session.deep, &session.tables, words, answer),
+        _ => call_reply(alloc, session, word, words, answer),
+    }
+}
+
+fn call_reply(
+    alloc: Global,
+    session: &mut Session,
+    word: &str,
+    words: &mut Words,
+    answer: &mut Answer,
+) -> Result<(), Stop> {
+    let texts = texts_of(&session.tables);
+    let store = &mut session.store;
+    let deep = &mut session.deep;
+    match word {
+        "limits" => limits(words, answer),
+        "status" => status(alloc, words, answer),
+        "failure" => failure(alloc, words, answer),
+        "handle" => handle(alloc, store, deep, texts, words, answer),
+        "check" => check(alloc, deep, texts, words, answer),
+        "server" => server(alloc, &mut session.stream, texts, words, answer),
+        "rehearse" => rehearse(alloc, words, answer),
         _ => call_tool(alloc, word, words, answer),
     }
 }
