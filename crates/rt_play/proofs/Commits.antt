@@ -31,6 +31,7 @@ use Rattle.rt_play.proofs.Leading.{leads_then}
 use Rattle.rt_play.proofs.LineReads.{beside, same_told, was_then}
 use Rattle.rt_play.proofs.Noted.{Holds, WasCommitted, job_kept, lie_below, stays_and_more, stays_with_jobs}
 use Rattle.rt_play.proofs.NotedAnswers.{names_so}
+use Rattle.rt_play.proofs.Pairing.{paired}
 use Rattle.rt_play.proofs.QueryLines.{query_answer}
 use Rattle.rt_play.proofs.Ranged.{AreRanged, are_ranged, range_in}
 use Rattle.rt_play.proofs.ScriptRuns.{line_leads, lines_lead}
@@ -77,7 +78,7 @@ event_text e text o same = same
 held_says : (ranges : Ranges) (w : State) (notes : Notes) (e : Event) (paused : Bool) (text : List ℕ) (at : Instance × Partition × Sequence) → held_by w paused e ≡ Some at
     → Holds ranges w notes → Says ranges w w notes (Some (line.Event e)) text
 held_says ranges w notes (event.Consume i p q max) paused text at held k =
-    λ later f. record { outcome = came.Noted; told = tt; so = tt; behind = f notes k }
+    λ later f. record { outcome = came.Noted; told = tt; paired = tt; so = tt; behind = f notes k }
 held_says ranges w notes e paused text at held k = absurd (cc)
 
 -- ---- a fill
@@ -118,6 +119,7 @@ module _ (ranges : Ranges) (w : State) (notes : Notes) (safe : IsSafeWorld w) (k
       λ later f. record {
         outcome = t.told;
         told = event_text e text t.told (same_told text (outcome_text e t.told) t.further.1);
+        paired = paired w u.world e t.told steps;
         so = tells ranges w u.world notes safe goes ranged k e t.told fits steps;
         behind = f (event_noted e t.told notes) (noted ranges w u.world notes safe goes ranged k e t.told fits steps);
       }

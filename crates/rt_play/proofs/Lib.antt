@@ -37,6 +37,7 @@ pub mod NotedAnswers
 pub mod OneGenerated
 pub mod OneReading
 pub mod OneReport
+pub mod Pairing
 pub mod PausedRuns
 pub mod Plans
 pub mod Playing

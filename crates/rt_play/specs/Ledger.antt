@@ -292,10 +292,20 @@ abbrev pub IsTold : Event → List ℕ → Outcome → Type 0
 IsTold (Consume instance partition sequence max) text outcome = Unit {0}
 IsTold event text outcome = text ≡ outcome_text event outcome
 
+-- a step of a job names a message exactly where it has a reply, so that its text shows whether it has one
+abbrev pub NamesReply : Outcome → Type 0
+NamesReply (Stepped done message) = is_none message ≡ is_none done.reply
+NamesReply other = Unit {0}
+
+abbrev pub IsPaired : Event → Outcome → Type 0
+IsPaired (Job controller job) outcome = NamesReply outcome
+IsPaired event outcome = Unit {0}
+
 -- an event tells so, and the lines behind it do with what is then noted
 pub record EventTells (ranges : Ranges) (marks : Marks) (notes : Notes) (event : Event) (text : List ℕ) (later : Notes → Type 0) : Type 0 where
   pub outcome : Outcome
   pub told : IsTold event text outcome
+  pub paired : IsPaired event outcome
   pub so : TellsSo ranges marks notes event outcome
   pub behind : later (event_noted event outcome notes)
 
