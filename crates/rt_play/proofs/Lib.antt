@@ -48,6 +48,13 @@ pub mod Retired
 pub mod Rights
 pub mod ScriptRuns
 pub mod ShownStays
+pub mod TellingAlike
+pub mod TellingEvents
+pub mod TellingFronts
+pub mod TellingKinds
+pub mod TellingMeta
+pub mod TellingNodes
+pub mod TellingSteps
 pub mod Tellings
 pub mod TextLines
 pub mod ToldItems

@@ -40,7 +40,7 @@ onto_some (suc k) n ds some = either (eqb (n / 10) 0) _ _ (omega arith) (onto_so
     either false xs ys d e = e
 
 -- of any number the text is digits, one or more
-numeral : (n : ℕ) → AllDigits 10 (decimal n) × (0 < length (decimal n))
+pub numeral : (n : ℕ) → AllDigits 10 (decimal n) × (0 < length (decimal n))
 unfolding digits
 numeral n = (onto_digits 64 n [] tt, onto_some 64 n [] (omega arith))
 
@@ -56,7 +56,7 @@ abbrev pub IsItem : List ℕ → Type 0
 IsItem [] = ⊥
 IsItem (b ∷ bs) = b ≡ 93 → ⊥
 
-digit_is : (b : ℕ) (bs : List ℕ) → AllDigits 10 (b ∷ bs) → (48 ≤ b) × (b ≤ 57)
+pub digit_is : (b : ℕ) (bs : List ℕ) → AllDigits 10 (b ∷ bs) → (48 ≤ b) × (b ≤ 57)
 digit_is b bs d = let r = digit_from_value b d.0 in (omega (arith, r), omega (arith, r))
 
 not_both : (b c : ℕ) (cs bs : List ℕ) → AllDigits 10 (c ∷ cs) → NoDigit (b ∷ bs) → b ≡ c → ⊥

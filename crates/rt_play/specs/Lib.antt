@@ -12,6 +12,7 @@ pub mod Plays
 pub mod Reader
 pub mod Report
 pub mod Shown
+pub mod Telling
 pub mod TextLines
 pub mod Turned
 pub mod Words

@@ -18,6 +18,7 @@ mod reader;
 mod running;
 mod settled;
 mod some_report;
+mod telling;
 mod texts;
 mod views;
 mod words;
@@ -35,5 +36,9 @@ pub use reader::{
 };
 pub use settled::a_settle_leaves_no_server_out;
 pub use some_report::{a_generated_run_is_never_refused, a_script_has_a_report};
+pub use telling::{
+    the_text_of_a_node_tells_it, the_text_of_an_event_tells_what_is_noted,
+    the_text_of_an_exchange_tells_what_is_noted,
+};
 pub use texts::the_parts_of_a_text_are_the_text;
 pub use views::no_row_of_a_view_is_left_out;
