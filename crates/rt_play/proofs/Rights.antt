@@ -10,14 +10,16 @@ use Rattle.rt_safety.proofs.Answering.{answers_right}
 use Rattle.rt_safety.proofs.CommitOpens.{commit_opens}
 use Rattle.rt_safety.proofs.CommitRuns.{commit_runs}
 use Rattle.rt_safety.proofs.Later.{committed_stays, leads_on, runs_are_safe}
-use Rattle.rt_safety.proofs.Worlds.{commit_is_right, copy_is_right, done_is_stored, file_is_right, is_tiled, replica_is_right, reply_is_right, request_is_right, served_is_right}
+use Rattle.rt_safety.proofs.Worlds.{commit_is_right, copy_is_right, done_is_stored, file_is_right, has_chain, is_tiled, replica_is_right, reply_is_right, request_is_right, served_is_right}
 use Rattle.rt_safety.specs.Runs.{Turn, Leads, Runs}
+use Rattle.rt_state.proofs.NeedsServers.{finds_its_file}
 use Rattle.rt_state.specs.IsSafeWorld.{IsSafeWorld}
 use Rattle.rt_state.specs.declared.state.State.{State}
 use Rattle.rt_views.proofs.RightViews.{hybrid_right, latest_right}
 
 past_is_right : (w : State) → IsSafeWorld w → IsRightPast w
 past_is_right w safe = record {
+  chained = λ p within. has_chain w p safe within;
   tiled = λ p within. is_tiled w p safe within;
   within = λ p q done commit was is. (done_is_stored w p q done commit safe was is).right.file.within.1;
   stored = λ p q done commit was is. done_is_stored w p q done commit safe was is;
@@ -32,6 +34,7 @@ server_is_right w safe i n there = record {
   rows = λ p q e c found rows. commit_is_right w i n safe there p q e c found rows;
   copies = λ p q file found. copy_is_right w i n safe there p q file found;
   serves = λ piece served order e. served_is_right w i n safe there piece served order e;
+  downloads = λ p q. finds_its_file w i p q n safe there;
 }
 
 world_is_right : (w : State) → IsSafeWorld w → IsRight w

@@ -23,6 +23,7 @@ use Rattle.rt_lines.specs.Lines.{script_lines}
 use Rattle.rt_lines.specs.declared.play_fault.PlayFault.{PlayFault}
 use Rattle.rt_lists.specs.Members.{Has}
 use Rattle.rt_macros.specs.Doing.{Reached, reached}
+use Rattle.rt_model.specs.Chain.{IsChain}
 use Rattle.rt_model.specs.Messages.{asked_of}
 use Rattle.rt_model.specs.Tiled.{IsTiled}
 use Rattle.rt_model.specs.declared.answer.Answer.{Answer}
@@ -62,6 +63,7 @@ use Rattle.rt_server.specs.Serving.{serve}
 use Rattle.rt_server.specs.Table.{entry_of, file_at}
 use Rattle.rt_state.specs.Finding.{replica_at, request_at}
 use Rattle.rt_state.specs.IsSafe.{past_of}
+use Rattle.rt_state.specs.Servers.{FindsItsFile}
 use Rattle.rt_state.specs.declared.state.State.{State}
 use Rattle.rt_stream.specs.Log.{messages_of}
 use Rattle.rt_upconf.specs.declared.upsert_config.UpsertConfig.{UpsertConfig}
@@ -74,7 +76,8 @@ use Rattle.rt_world.specs.Step.{Steps}
 
 -- what was committed, put and sent
 pub record IsRightPast (w : State) : Type 0 where
-  -- the committed ranges of each partition tile its offsets, from its mark on
+  -- each partition has its chain of segments, and its committed ranges tile its offsets, from its mark on
+  pub chained : (p : Partition) → p.0 < w.setup.partitions → IsChain w.store.writes p
   pub tiled : (p : Partition) → p.0 < w.setup.partitions → IsTiled w.store.writes p
   -- whatever was ever committed ends within the stream, and its file stands
   pub within : (p : Partition) (q : Sequence) (done : SeenMeta) (commit : Commit) → WasDone w.store.writes p q done → done.meta.status ≡ Done commit
@@ -87,7 +90,7 @@ pub record IsRightPast (w : State) : Type 0 where
   pub replies : (r : Reply) → Has w.sent (sent.Reply r) → IsReply (past_of w) r
 
 -- what a server has of a segment are the stream's rows: its replica's up to where it is, those of a committed entry over the range of a
--- commit that was written, those of its file, and what it serves of a piece
+-- commit that was written, those of its file, and what it serves of a piece; and a download meets no other file than its commit names
 pub record IsRightServer (w : State) (i : Instance) (n : ServerNode) : Type 0 where
   pub replicas : (p : Partition) (q : Sequence) (r : Consumer) → replica_at w i p q ≡ Some r → IsRightReplica w p q r
   pub rows : (p : Partition) (q : Sequence) (e : Entry) (c : CommittedRows) → entry_of n.server.table p q ≡ Some e → committed_rows e ≡ Some c
@@ -95,6 +98,7 @@ pub record IsRightServer (w : State) (i : Instance) (n : ServerNode) : Type 0 wh
   pub copies : (p : Partition) (q : Sequence) (file : SealedSegment) → file_at (entry_of n.server.table p q) ≡ Some file → IsRightCopy w.setup (past_of w) p q file
   pub serves : (piece : Piece) (served : ServedRows) → IfSome piece.end (λ end. piece.start.0 ≤ end.0) → serve n.server.table piece ≡ Ok served
       → AreRightRows w.setup.schema (messages_of w.log piece.partition) piece served
+  pub downloads : (p : Partition) (q : Sequence) → FindsItsFile w.deep n.server p q
 
 -- what is right of a world
 pub record IsRight (w : State) : Type 0 where
