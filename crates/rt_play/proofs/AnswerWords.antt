@@ -55,7 +55,7 @@ has_number p q (v ∷ h) w (inr has) e = by_test (eqb q (number_in p v)) (has_nu
     by_test false further = further
 
 -- each number below it was written, so that a segment's is less than the length of the history
-number_within : (s : Starting) (h : List Seen) (p : Partition) (q : ℕ) (w : Seen) → IsLawfulHistory s h → p.0 < s.partitions → Has h w → w.key ≡ node_key p q
+pub number_within : (s : Starting) (h : List Seen) (p : Partition) (q : ℕ) (w : Seen) → IsLawfulHistory s h → p.0 < s.partitions → Has h w → w.key ≡ node_key p q
     → q < length h
 number_within s h p q w lawful within has of =
     let chain = has_chains s h lawful p within in

@@ -35,6 +35,7 @@ use Rattle.rt_play.proofs.Pairing.{paired}
 use Rattle.rt_play.proofs.QueryLines.{query_answer}
 use Rattle.rt_play.proofs.Ranged.{AreRanged, are_ranged, range_in}
 use Rattle.rt_play.proofs.ScriptRuns.{line_leads, lines_lead}
+use Rattle.rt_play.proofs.TellingWords.{fits_words}
 use Rattle.rt_play.specs.Beginning.{going_from}
 use Rattle.rt_play.specs.Going.{Going}
 use Rattle.rt_play.specs.Ledger.{AllTellSo, CommitsStay, IsTold, LineTells, Marks, Notes, Ranges, Segment, Working, event_noted, exchange_noted, is_success_status, knows_commit, no_notes}
@@ -78,7 +79,7 @@ event_text e text o same = same
 held_says : (ranges : Ranges) (w : State) (notes : Notes) (e : Event) (paused : Bool) (text : List ℕ) (at : Instance × Partition × Sequence) → held_by w paused e ≡ Some at
     → Holds ranges w notes → Says ranges w w notes (Some (line.Event e)) text
 held_says ranges w notes (event.Consume i p q max) paused text at held k =
-    λ later f. record { outcome = came.Noted; told = tt; paired = tt; so = tt; behind = f notes k }
+    λ later f. record { outcome = came.Noted; told = tt; paired = tt; words = tt; so = tt; behind = f notes k }
 held_says ranges w notes e paused text at held k = absurd (cc)
 
 -- ---- a fill
@@ -120,6 +121,7 @@ module _ (ranges : Ranges) (w : State) (notes : Notes) (safe : IsSafeWorld w) (k
         outcome = t.told;
         told = event_text e text t.told (same_told text (outcome_text e t.told) t.further.1);
         paired = paired w u.world e t.told steps;
+        words = fits_words w u.world e t.told safe fits steps;
         so = tells ranges w u.world notes safe goes ranged k e t.told fits steps;
         behind = f (event_noted e t.told notes) (noted ranges w u.world notes safe goes ranged k e t.told fits steps);
       }

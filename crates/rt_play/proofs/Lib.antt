@@ -55,6 +55,7 @@ pub mod TellingKinds
 pub mod TellingMeta
 pub mod TellingNodes
 pub mod TellingSteps
+pub mod TellingWords
 pub mod Tellings
 pub mod TextLines
 pub mod ToldItems

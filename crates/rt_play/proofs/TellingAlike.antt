@@ -7,7 +7,8 @@ use Rattle.rt_play.proofs.TellingEvents.{deletions_alike, replies_alike, request
 use Rattle.rt_play.proofs.TellingNodes.{nodes_alike}
 use Rattle.rt_play.proofs.TellingSteps.{steps_alike}
 use Rattle.rt_play.specs.Ledger.{IsPaired}
-use Rattle.rt_play.specs.Telling.{AreAlike, FitsWords}
+use Rattle.rt_play.specs.NotedWords.{FitsWords}
+use Rattle.rt_play.specs.Telling.{AreAlike}
 use Rattle.rt_report.specs.Outcome.{outcome_text}
 
 pub alike : (e : Event) (a b : Outcome) → FitsWords e a → FitsWords e b → IsPaired e a → IsPaired e b → outcome_text e a ≡ outcome_text e b → AreAlike e a b

@@ -22,10 +22,11 @@ use Rattle.rt_msgs.specs.StatusText.{status_text}
 use Rattle.rt_play.proofs.TellingFronts.{begins, number_begins, past, past_last, past_last_one, past_no_digit, same_number}
 use Rattle.rt_play.proofs.TellingKinds.{AreApart, IsIdle, all_alike, kind_of, same_kind, same_tail}
 use Rattle.rt_play.proofs.TellingSteps.{success_begins}
-use Rattle.rt_play.proofs.ToldNumbers.{tails}
+use Rattle.rt_play.proofs.ToldNumbers.{same_decimal, tails}
 use Rattle.rt_play.specs.AnswerTexts.{IsWord}
 use Rattle.rt_play.specs.Ledger.{Notes, Posted, is_commit_end, is_success_status, knows_commit, opens}
-use Rattle.rt_play.specs.Telling.{AreAlike, AreNotedWords, NoteTheSame}
+use Rattle.rt_play.specs.NotedWords.{IsDeletedWord, IsSentWord, IsStartedWord, IsTookWord}
+use Rattle.rt_play.specs.Telling.{AreAlike, NoteTheSame}
 use Rattle.rt_repair.specs.declared.retiring.RetireStep.TheVariants as retire
 use Rattle.rt_report.specs.MacroTexts.{exchanged_text}
 use Rattle.rt_report.specs.Outcome.{outcome_text}
@@ -65,7 +66,7 @@ module _ (m : ℕ) (c : ControllerId) where
       (append_cancel_left (codes "job ") _ _ same) in
       (same_number i j (codes "\n") (codes "\n") p q line_end line_end (append_cancel_left (codes " j") _ _ behind)).0
 
-  started_own : (a b : Outcome) → is_started a ≡ true → is_started b ≡ true → AreNotedWords a → AreNotedWords b → outcome_text (event.Deliver m c) a ≡ outcome_text (event.Deliver m c) b
+  started_own : (a b : Outcome) → is_started a ≡ true → is_started b ≡ true → IsStartedWord a → IsStartedWord b → outcome_text (event.Deliver m c) a ≡ outcome_text (event.Deliver m c) b
       → AreAlike (event.Deliver m c) a b
   started_own (came.Started i) (came.Started j) k l p q same = record {
     noted = λ notes. ap (λ (n : ℕ). record notes { jobs = opens m c n notes.requests ++ notes.jobs }) (same_job i j p q same);
@@ -78,9 +79,9 @@ module _ (m : ℕ) (c : ControllerId) where
   started_idle (came.Started j) e = absurd (true≢false e)
   started_idle other e = record { noted = λ notes. refl; tells = λ ranges marks notes. tt }
 
-  pub started_alike : (a b : Outcome) → AreNotedWords a → AreNotedWords b → outcome_text (event.Deliver m c) a ≡ outcome_text (event.Deliver m c) b → AreAlike (event.Deliver m c) a b
+  pub started_alike : (a b : Outcome) → IsStartedWord a → IsStartedWord b → outcome_text (event.Deliver m c) a ≡ outcome_text (event.Deliver m c) b → AreAlike (event.Deliver m c) a b
   started_alike =
-      all_alike (event.Deliver m c) is_started AreNotedWords
+      all_alike (event.Deliver m c) is_started IsStartedWord
       (λ a b same. sym (started_begins a) ∙ ap (begins (codes "j")) same ∙ started_begins b) started_own started_idle
 
 -- ---- a request
@@ -136,7 +137,7 @@ module _ (i : Instance) (p : Partition) (q : Sequence) where
       by_test false e =
           ap (λ (t : Bool). with_posted notes t m x.offset) e ∙ sym (ap (λ (t : Bool). with_posted notes t n y.offset) (sym ends ∙ e))
 
-  sent_own : (a b : Outcome) → is_sent a ≡ true → is_sent b ≡ true → AreNotedWords a → AreNotedWords b → outcome_text (event.Report i p q) a ≡ outcome_text (event.Report i p q) b
+  sent_own : (a b : Outcome) → is_sent a ≡ true → is_sent b ≡ true → IsSentWord a → IsSentWord b → outcome_text (event.Report i p q) a ≡ outcome_text (event.Report i p q) b
       → AreAlike (event.Report i p q) a b
   sent_own (came.Sent m x) (came.Sent n y) k l v w same =
       let numbers = same_number m n (codes " " ++ (request_text x ++ codes "\n")) (codes " " ++ (request_text y ++ codes "\n")) v.0 w.0 space space
@@ -154,9 +155,9 @@ module _ (i : Instance) (p : Partition) (q : Sequence) where
   sent_idle (came.Sent m x) e = absurd (true≢false e)
   sent_idle other e = record { noted = λ notes. refl; tells = λ ranges marks notes. tt }
 
-  pub requests_alike : (a b : Outcome) → AreNotedWords a → AreNotedWords b → outcome_text (event.Report i p q) a ≡ outcome_text (event.Report i p q) b → AreAlike (event.Report i p q) a b
+  pub requests_alike : (a b : Outcome) → IsSentWord a → IsSentWord b → outcome_text (event.Report i p q) a ≡ outcome_text (event.Report i p q) b → AreAlike (event.Report i p q) a b
   requests_alike =
-      all_alike (event.Report i p q) is_sent AreNotedWords
+      all_alike (event.Report i p q) is_sent IsSentWord
       (λ a b same. sym (sent_begins a) ∙ ap (begins (codes "sent m")) same ∙ sent_begins b) sent_own sent_idle
 
 -- ---- a reply that is taken
@@ -193,13 +194,13 @@ record SameReplica (i j : Instance) (p q : Partition) (s t : Sequence) (xs ys : 
   sequence : s ≡ t
   behind : xs ≡ ys
 
-same_replica : (i j : Instance) (p q : Partition) (s t : Sequence) (xs ys : List ℕ) → IsWord i.0 × IsWord p.0 × IsWord s.0 → IsWord j.0 × IsWord q.0 × IsWord t.0
+same_replica : (i j : Instance) (p q : Partition) (s t : Sequence) (xs ys : List ℕ) → IsWord p.0 × IsWord s.0 → IsWord q.0 × IsWord t.0
     → replica_text i p s ++ 32 ∷ xs ≡ replica_text j q t ++ 32 ∷ ys → SameReplica i j p q s t xs ys
 same_replica i j p q s t xs ys k l same =
     let whole = append_cancel_left (codes "s") _ _ (sym (replica_onto i p s (32 ∷ xs)) ∙ same ∙ replica_onto j q t (32 ∷ ys)) in
-    let a = same_number i.0 j.0 (32 ∷ (decimal p.0 ++ 47 ∷ (decimal s.0 ++ 32 ∷ xs))) (32 ∷ (decimal q.0 ++ 47 ∷ (decimal t.0 ++ 32 ∷ ys))) k.0 l.0 space space whole in
-    let b = same_number p.0 q.0 (47 ∷ (decimal s.0 ++ 32 ∷ xs)) (47 ∷ (decimal t.0 ++ 32 ∷ ys)) k.1 l.1 slash slash (tails 32 32 _ _ a.1) in
-    let c = same_number s.0 t.0 (32 ∷ xs) (32 ∷ ys) k.2 l.2 space space (tails 47 47 _ _ b.1) in
+    let a = same_decimal i.0 j.0 (32 ∷ (decimal p.0 ++ 47 ∷ (decimal s.0 ++ 32 ∷ xs))) (32 ∷ (decimal q.0 ++ 47 ∷ (decimal t.0 ++ 32 ∷ ys))) space space whole in
+    let b = same_number p.0 q.0 (47 ∷ (decimal s.0 ++ 32 ∷ xs)) (47 ∷ (decimal t.0 ++ 32 ∷ ys)) k.0 l.0 slash slash (tails 32 32 _ _ a.1) in
+    let c = same_number s.0 t.0 (32 ∷ xs) (32 ∷ ys) k.1 l.1 space space (tails 47 47 _ _ b.1) in
     record { partition = same_partition p q b.0; sequence = same_sequence s t c.0; behind = tails 32 32 xs ys c.1 }
 
 module _ (m : ℕ) where
@@ -217,7 +218,7 @@ module _ (m : ℕ) where
   abbrev with_committed : Notes → Partition → Sequence → Bool → Notes
   with_committed notes p q knows = record notes { committed = cond knows (record { partition = p; sequence = q } ∷ notes.committed) notes.committed }
 
-  took_own : (a b : Outcome) → (kind_of a == 2) ≡ true → (kind_of b == 2) ≡ true → AreNotedWords a → AreNotedWords b → outcome_text (event.Reply m) a ≡ outcome_text (event.Reply m) b
+  took_own : (a b : Outcome) → (kind_of a == 2) ≡ true → (kind_of b == 2) ≡ true → IsTookWord a → IsTookWord b → outcome_text (event.Reply m) a ≡ outcome_text (event.Reply m) b
       → AreAlike (event.Reply m) a b
   took_own (came.Took i p q s) (came.Took j r t u) k l v w same =
       let its = same_replica i j p r q t (state_text s ++ codes "\n") (state_text u ++ codes "\n") v w (append_cancel_left (codes " ") _ _ (same_tail (event.Reply m) _ _ same)) in
@@ -247,8 +248,8 @@ module _ (m : ℕ) where
   took_idle (came.Took i p q s) e = absurd (true≢false e)
   took_idle other e = record { noted = λ notes. refl; tells = λ ranges marks notes. tt }
 
-  pub replies_alike : (a b : Outcome) → AreNotedWords a → AreNotedWords b → outcome_text (event.Reply m) a ≡ outcome_text (event.Reply m) b → AreAlike (event.Reply m) a b
-  replies_alike = all_alike (event.Reply m) (λ o. kind_of o == 2) AreNotedWords (same_kind (event.Reply m) reply_apart 2) took_own took_idle
+  pub replies_alike : (a b : Outcome) → IsTookWord a → IsTookWord b → outcome_text (event.Reply m) a ≡ outcome_text (event.Reply m) b → AreAlike (event.Reply m) a b
+  replies_alike = all_alike (event.Reply m) (λ o. kind_of o == 2) IsTookWord (same_kind (event.Reply m) reply_apart 2) took_own took_idle
 
 -- ---- a segment that is deleted
 
@@ -290,13 +291,13 @@ module _ (c : ControllerId) (p : Partition) where
       let numbers = append_cancel_left (decimal p.0) _ _ (sym (behind_deleted q) ∙ rest ∙ behind_deleted s) in
       same_sequence q s (same_number q.0 s.0 (codes "\n") (codes "\n") k l line_end line_end (tails 47 47 _ _ numbers)).0
 
-  deleted_own : (a b : Outcome) → (kind_of a == 3) ≡ true → (kind_of b == 3) ≡ true → AreNotedWords a → AreNotedWords b
+  deleted_own : (a b : Outcome) → (kind_of a == 3) ≡ true → (kind_of b == 3) ≡ true → IsDeletedWord a → IsDeletedWord b
       → outcome_text (event.Retain c p) a ≡ outcome_text (event.Retain c p) b → AreAlike (event.Retain c p) a b
   deleted_own a b k l v w same =
       let x = only_deleted a k in
       let y = only_deleted b l in
       let texts = sym (ap (outcome_text (event.Retain c p)) x.is) ∙ same ∙ ap (outcome_text (event.Retain c p)) y.is in
-      let its = same_deleted x.sequence y.sequence (subst AreNotedWords x.is v) (subst AreNotedWords y.is w) texts in
+      let its = same_deleted x.sequence y.sequence (subst IsDeletedWord x.is v) (subst IsDeletedWord y.is w) texts in
       let whole : a ≡ b = x.is ∙ ap (λ (q : Sequence). came.Retired (retire.Deleted q)) its ∙ sym y.is in
       subst (λ (o : Outcome). AreAlike (event.Retain c p) a o) whole (record { noted = λ notes. refl; tells = λ ranges marks notes so. so })
 
@@ -305,8 +306,8 @@ module _ (c : ControllerId) (p : Partition) where
   deleted_idle (came.Retired other) e = record { noted = λ notes. refl; tells = λ ranges marks notes. tt }
   deleted_idle other e = record { noted = λ notes. refl; tells = λ ranges marks notes. tt }
 
-  pub deletions_alike : (a b : Outcome) → AreNotedWords a → AreNotedWords b → outcome_text (event.Retain c p) a ≡ outcome_text (event.Retain c p) b → AreAlike (event.Retain c p) a b
-  deletions_alike = all_alike (event.Retain c p) (λ o. kind_of o == 3) AreNotedWords (same_kind (event.Retain c p) retain_apart 3) deleted_own deleted_idle
+  pub deletions_alike : (a b : Outcome) → IsDeletedWord a → IsDeletedWord b → outcome_text (event.Retain c p) a ≡ outcome_text (event.Retain c p) b → AreAlike (event.Retain c p) a b
+  deletions_alike = all_alike (event.Retain c p) (λ o. kind_of o == 3) IsDeletedWord (same_kind (event.Retain c p) retain_apart 3) deleted_own deleted_idle
 
 -- ---- an exchange
 

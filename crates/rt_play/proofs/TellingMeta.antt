@@ -7,6 +7,7 @@ use Rattle.std.proofs.lemmas.Option.{same_Some}
 use Rattle.hex.specs.Hex.{encode_lower}
 use Rattle.rt_base.specs.declared.numbers.Moment.{Moment}
 use Rattle.rt_events.specs.declared.event.Event.{Event}
+use Rattle.rt_ideal.specs.Text.{with_entries_text}
 use Rattle.rt_meta.specs.Text.{data_at, done_data, open_data}
 use Rattle.rt_model.specs.declared.commit.Commit.{Commit}
 use Rattle.rt_model.specs.declared.node.Node.{Node}
@@ -25,7 +26,6 @@ use Rattle.rt_play.specs.Telling.{IsNodeFit, IsSeenFit, IsStatusFit, SameCommit,
 use Rattle.rt_report.specs.BrokerTexts.{shown_text, stored_text}
 use Rattle.serde_json.specs.Data.{Data, Members, member, no_members, number, object, string, unsigned}
 use Rattle.serde_json.specs.Written.{compact_text, members_text}
-use Rattle.rt_ideal.specs.Text.{with_entries_text}
 
 same_moment : (a b : Moment) → a.0 ≡ b.0 → a ≡ b
 same_moment a b e = let one : ℕ → Moment = λ n. record { 0 = n } in ap one e

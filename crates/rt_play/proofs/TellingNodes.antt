@@ -33,7 +33,8 @@ use Rattle.rt_play.proofs.ToldItems.{comma}
 use Rattle.rt_play.proofs.ToldNumbers.{same_decimal, tails}
 use Rattle.rt_play.specs.AnswerTexts.{IsWord}
 use Rattle.rt_play.specs.Ledger.{IsDoneOver, SaysDone, is_done_node, is_done_status}
-use Rattle.rt_play.specs.Telling.{AreAlike, AreNotedWords, IsDoneWord, IsNodeWord}
+use Rattle.rt_play.specs.NotedWords.{IsDoneWord, IsNodeWord, IsShownWord}
+use Rattle.rt_play.specs.Telling.{AreAlike}
 use Rattle.rt_repair.specs.declared.retiring.RetireStep.TheVariants as retire
 use Rattle.rt_report.specs.BrokerTexts.{shown_text, stored_text}
 use Rattle.rt_report.specs.Outcome.{outcome_text}
@@ -255,7 +256,7 @@ module _ (p : Partition) (q : Sequence) where
         );
       }
 
-  own : (a b : Outcome) → is_shown a ≡ true → is_shown b ≡ true → AreNotedWords a → AreNotedWords b → text a ≡ text b → AreAlike (event.ShowMeta p q) a b
+  own : (a b : Outcome) → is_shown a ≡ true → is_shown b ≡ true → IsShownWord a → IsShownWord b → text a ≡ text b → AreAlike (event.ShowMeta p q) a b
   own (came.Shown None) (came.Shown None) k l v w same = record { noted = λ notes. refl; tells = λ ranges marks notes so. so }
   own (came.Shown None) (came.Shown (Some t)) k l v w same = absurd (true≢false (ap (begins (codes "nonode")) same))
   own (came.Shown (Some s)) (came.Shown None) k l v w same = absurd (false≢true (ap (begins (codes "nonode")) same))
@@ -269,6 +270,6 @@ module _ (p : Partition) (q : Sequence) where
   idle (came.Shown (Some seen)) e = absurd (true≢false e)
   idle other e = record { noted = λ notes. refl; tells = λ ranges marks notes. tt }
 
-  pub nodes_alike : (a b : Outcome) → AreNotedWords a → AreNotedWords b → text a ≡ text b → AreAlike (event.ShowMeta p q) a b
+  pub nodes_alike : (a b : Outcome) → IsShownWord a → IsShownWord b → text a ≡ text b → AreAlike (event.ShowMeta p q) a b
   nodes_alike =
-      all_alike (event.ShowMeta p q) is_shown AreNotedWords (λ a b same. sym (shown_told a) ∙ ap shows_node same ∙ shown_told b) own idle
+      all_alike (event.ShowMeta p q) is_shown IsShownWord (λ a b same. sym (shown_told a) ∙ ap shows_node same ∙ shown_told b) own idle

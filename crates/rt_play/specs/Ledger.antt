@@ -35,6 +35,7 @@ use Rattle.rt_model.specs.declared.status.Status.{Status}
 use Rattle.rt_model.specs.declared.status.Status.TheVariants.{Abandoned, Done, InProgress}
 use Rattle.rt_play.specs.AnswerTexts.{AreWords}
 use Rattle.rt_play.specs.Named.{Each, Spares, ranges_at, span}
+use Rattle.rt_play.specs.NotedWords.{FitsWords}
 use Rattle.rt_repair.specs.declared.retiring.RetireStep.TheVariants.{Deleted}
 use Rattle.rt_report.specs.BrokerTexts.{answer_line}
 use Rattle.rt_report.specs.MacroTexts.{exchanged_text}
@@ -306,6 +307,7 @@ pub record EventTells (ranges : Ranges) (marks : Marks) (notes : Notes) (event :
   pub outcome : Outcome
   pub told : IsTold event text outcome
   pub paired : IsPaired event outcome
+  pub words : FitsWords event outcome
   pub so : TellsSo ranges marks notes event outcome
   pub behind : later (event_noted event outcome notes)
 

@@ -7,6 +7,7 @@ pub mod Laid
 pub mod Ledger
 pub mod Missed
 pub mod Named
+pub mod NotedWords
 pub mod Pausing
 pub mod Plays
 pub mod Reader

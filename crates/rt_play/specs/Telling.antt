@@ -1,12 +1,10 @@
 -- Outcomes of an event, and exchanges, of which the reader's ledger notes and tells the same.
-use Rattle.std.specs.Prelude.{◌≡◌, Option, None, Some}
+use Rattle.std.specs.Prelude.{◌≡◌}
 use Rattle.hex.specs.Hex.{encode_lower}
 use Rattle.rt_base.specs.declared.numbers.Partition.{Partition}
 use Rattle.rt_base.specs.declared.numbers.Sequence.{Sequence}
 use Rattle.rt_events.specs.declared.event.Event.{Event}
-use Rattle.rt_events.specs.declared.event.Event.TheVariants.{Job}
 use Rattle.rt_events.specs.declared.outcome.Outcome.{Outcome}
-use Rattle.rt_events.specs.declared.outcome.Outcome.TheVariants.{Retired, Sent, Shown, Started, Took}
 use Rattle.rt_model.specs.declared.commit.Commit.{Commit}
 use Rattle.rt_model.specs.declared.node.Node.{Node}
 use Rattle.rt_model.specs.declared.node.Node.TheVariants as node
@@ -18,39 +16,6 @@ use Rattle.rt_model.specs.declared.status.Status.{Status}
 use Rattle.rt_model.specs.declared.status.Status.TheVariants.{Abandoned, Done, InProgress}
 use Rattle.rt_play.specs.AnswerTexts.{IsWord}
 use Rattle.rt_play.specs.Ledger.{Marks, Notes, Ranges, TellsSo, event_noted, exchange_noted}
-use Rattle.rt_repair.specs.declared.retiring.RetireStep.{RetireStep}
-use Rattle.rt_repair.specs.declared.retiring.RetireStep.TheVariants.{Deleted}
-
--- where it is DONE, its range fits
-abbrev pub IsDoneWord : SegMeta → Status → Type 0
-IsDoneWord meta (Done commit) = IsWord meta.start.0 × IsWord commit.end.0
-IsDoneWord meta other = Unit {0}
-
-abbrev pub IsNodeWord : Node → Type 0
-IsNodeWord (node.Meta meta) = IsDoneWord meta meta.status
-IsNodeWord other = Unit {0}
-
-abbrev pub IsShownWord : Option Seen → Type 0
-IsShownWord None = Unit {0}
-IsShownWord (Some seen) = IsNodeWord seen.node
-
-abbrev pub IsRetiredWord : RetireStep → Type 0
-IsRetiredWord (Deleted sequence) = IsWord sequence.0
-IsRetiredWord other = Unit {0}
-
--- the numbers that the ledger takes of an outcome fit words of 64 bits
-abbrev pub AreNotedWords : Outcome → Type 0
-AreNotedWords (Sent message request) = IsWord message × IsWord request.offset.0
-AreNotedWords (Started job) = IsWord job
-AreNotedWords (Took instance partition sequence stands) = IsWord instance.0 × IsWord partition.0 × IsWord sequence.0
-AreNotedWords (Retired step) = IsRetiredWord step
-AreNotedWords (Shown seen) = IsShownWord seen
-AreNotedWords other = Unit {0}
-
--- of a step of a job it takes none
-abbrev pub FitsWords : Event → Outcome → Type 0
-FitsWords (Job controller job) outcome = Unit {0}
-FitsWords event outcome = AreNotedWords outcome
 
 -- whichever of the two outcomes it was, the same is noted of the event, and what the one tells the other does
 pub record AreAlike (event : Event) (a b : Outcome) : Type 0 where
