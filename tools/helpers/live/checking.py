@@ -44,7 +44,7 @@ def check(text, told):
     check_ends(history, found)
     replayed = [hearings.Hearing(told, rows, history, number, heard).check() for number, heard in enumerate(found.heard)]
     check_commits(history, replayed, found)
-    queues.check(told, found.heard, found.queues)
+    queues.Queues(told, history, replayed, found.queues).check()
     mids.FirstAnswers(told, rows, history).check(found.mids)
     return Counts(len(found.answers), len(found.writes), sum(map(len, found.heard)), sum(each.together for each in replayed), len(found.queues))
 

@@ -1,5 +1,7 @@
 """The input of a running cluster: what its lines say, or the first that is refused."""
 import dataclasses
+import itertools
+import math
 import re
 
 import answers
@@ -8,6 +10,8 @@ import header
 import limits
 
 MOST_INPUT = 67_108_864
+# So many messages an inbox holds; what doesn't fit is lost.
+CAPACITY = 1_024
 CHAOS = re.compile(rf"chaos drop={header.NUMBER} repeat={header.NUMBER} crash=(?:-|s{header.NUMBER}@{header.NUMBER}) leaders={header.NUMBER}")
 ROW = re.compile(rf"row {header.NUMBER} (.*)", re.DOTALL)
 
@@ -26,6 +30,15 @@ class Chaos:
         if self.drop and number % self.drop == 0:
             return 0
         return 2 if self.repeat and number % self.repeat == 0 else 1
+
+    def posted(self, messages):
+        """How many copies of a node's first messages are posted, of so many."""
+        lost, twice, both = (messages // number if number else 0 for number in (self.drop, self.repeat, math.lcm(self.drop, self.repeat)))
+        return messages - lost + twice - both
+
+    def least(self, copies):
+        """The least number of messages of which at least so many copies are posted."""
+        return next(messages for messages in itertools.count() if self.posted(messages) >= copies)
 
 
 @dataclasses.dataclass

@@ -2,7 +2,6 @@
 import answers
 import repairs
 
-CAPACITY = 1_024
 FIRST_WAIT, LONGEST_WAIT = 64, 1_048_576
 BATCH = 100
 
@@ -107,8 +106,8 @@ class ServerNode(Node):
         return True
 
     def stop(self):
-        """Takes what lies in its inbox, or leaves it there."""
-        while self.run.random.random() < 0.9 and self.server.up and self.takes():
+        """Takes what lies in its inbox."""
+        while self.takes():
             pass
 
 

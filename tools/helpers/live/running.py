@@ -89,7 +89,7 @@ class Run:
     def post(self, sender, to, message, number):
         """Posts a node's message of this number, from 1 on, as often as the chaos line says."""
         for _ in range(self.told.chaos.copies(number)):
-            if len(self.inboxes[to]) < nodes.CAPACITY:
+            if len(self.inboxes[to]) < live_input.CAPACITY:
                 self.queues[sender, to].accepted += 1
                 self.inboxes[to].append((sender, message))
 
@@ -115,7 +115,7 @@ class Run:
         raise NoEnd
 
     def drain(self):
-        """No node posts any more. What still lies in inboxes is taken, but for that of nodes that have stopped before."""
+        """No node posts any more, and what still lies in inboxes is taken."""
         owners = [*self.servers, *self.controllers]
         self.random.shuffle(owners)
         for node in owners:

@@ -5,10 +5,13 @@ A way takes the journal's `Parts` and a random source, and changes the parts, or
 import re
 
 import journal
+import live_input
 
 WAYS = {}
 # The last cell of an answer, where it is a number; and an answer that names a range.
 LAST_CELL, RANGED = r"([\[,])(\d+)(\]\]\})$", r'"ranges":\[\['
+# The counts of a queue.
+COUNTS = r"accepted=(\d+) taken=(\d+)"
 
 
 def way(name):
@@ -44,6 +47,22 @@ class Parts:
     def first(self):
         """How many writes are starting contents."""
         return self.told.setup.servers + self.told.setup.partitions + 1
+
+    def accepted(self, sender, receiver):
+        """How much each queue between two nodes, or all nodes of a kind, has accepted."""
+        return [int(queue[5]) for queue in map(journal.QUEUE.fullmatch, self.queues) if sender in (queue[1], queue[1][0]) and receiver in (queue[3], queue[3][0])]
+
+    def were_full(self, receivers):
+        """Whether one more message could fill the inbox of one of these nodes."""
+        kinds = {"s": "c", "c": "s"}
+        return any(sum(self.accepted(kinds[name[0]], name)) >= live_input.CAPACITY - 1 for name in receivers)
+
+    def servers(self):
+        return [f"s{number}" for number in range(self.told.setup.servers)]
+
+    def count(self, sender, receiver, step):
+        """In the queue between two nodes, so much more was accepted and taken."""
+        self.queues = [re.sub(COUNTS, counted(step), line) if line.startswith(f"queue {sender} {receiver} ") else line for line in self.queues]
 
     def places(self, pattern):
         """The places of later writes of a form."""
@@ -105,6 +124,11 @@ def told_offset(line):
 
 def plus(step):
     return lambda found: found[1] + str(int(found[2]) + step) + (found[3] if found.re.groups > 2 else "")
+
+
+def counted(step):
+    """A queue that accepted more, and took as much."""
+    return lambda found: f"accepted={int(found[1]) + step} taken={int(found[2]) + step}"
 
 
 def is_only(status):
@@ -336,7 +360,7 @@ def stopped(parts, random):
 @way("a server asks a controller that isn't its own")
 def wrong_queue(parts, random):
     places = [place for place, queue in enumerate(parts.read.queues) if queue.sender[0] == "s" and int(queue.sender[1:]) % parts.told.chaos.leaders != int(queue.receiver[1:])]
-    return change_at(random, parts.queues, places, r"(accepted=)(\d+)", plus(1))
+    return change_at(random, parts.queues, places, COUNTS, counted(1))
 
 
 @way("a server without a replica asks")
@@ -344,7 +368,7 @@ def idle_queue(parts, random):
     setup = parts.told.setup
     busy = {instance for partition in range(setup.partitions) for instance in setup.replicas(partition)}
     places = [place for place, queue in enumerate(parts.read.queues) if queue.sender[0] == "s" and int(queue.sender[1:]) not in busy]
-    return change_at(random, parts.queues, places, r"(accepted=)(\d+)", plus(1))
+    return change_at(random, parts.queues, places, COUNTS, counted(1))
 
 
 @way("a queue is missing")
@@ -357,6 +381,107 @@ def lost_queue(parts, random):
 def swapped_queues(parts, random):
     place = random.randrange(len(parts.queues) - 1)
     parts.queues[place], parts.queues[place + 1] = parts.queues[place + 1], parts.queues[place]
+    return True
+
+
+# What the chaos line says of messages and of a crash. In these ways no inbox was ever full.
+
+def uploads(parts, controller, copies):
+    """The heard uploads of servers that hadn't crashed, which are posted so often, each with its place."""
+    if parts.were_full([f"c{controller}"]):
+        return []
+    return [(place, path) for place, (request, _) in enumerate(parts.heard[controller]) if request.startswith("upload ")
+            and (path := journal.path_of(request.split(" ")[2])).incarnation == 0 and parts.told.chaos.copies(path.count + 1) in copies]
+
+
+def at_upload(parts, random, copies, change):
+    """Makes a change at an upload that is posted so often, with the queue from its server."""
+    found = [(controller, place, path) for controller in range(len(parts.heard)) for place, path in uploads(parts, controller, copies)]
+    if not found:
+        return False
+    controller, place, path = random.choice(found)
+    step = change(parts, parts.heard[controller], place, path)
+    parts.count(f"s{path.instance}", f"c{controller}", step)
+    return True
+
+
+@way("a message is heard that is never posted")
+def heard_though_lost(parts, random):
+    drop = parts.told.chaos.drop
+
+    def renumbers(parts, heard, place, path):
+        lost = f"{path.text.rsplit('.', 1)[0]}.{(path.count // drop + 1) * drop - 1}"
+        for lines in parts.heard:
+            for line in lines:
+                line[0] = re.sub(re.escape(path.text) + "$", lost, line[0])
+        parts.writes = [rest.replace(f'"{path.text}"', f'"{lost}"') for rest in parts.writes]
+        return 0
+    return at_upload(parts, random, (1, 2), renumbers) if drop else False
+
+
+@way("a message comes once that is posted twice")
+def heard_once(parts, random):
+    def drops(parts, heard, place, path):
+        heard.pop(place)
+        return -1
+    return at_upload(parts, random, (2,), drops)
+
+
+@way("a message comes twice that is posted once")
+def heard_twice(parts, random):
+    def doubles(parts, heard, place, path):
+        heard.insert(place, list(heard[place]))
+        return 1
+    return at_upload(parts, random, (1,), doubles)
+
+
+@way("the copies of a message are parted")
+def parted_copies(parts, random):
+    chaos, found = parts.told.chaos, []
+    for controller, heard in enumerate(parts.heard):
+        name = f"c{controller}"
+        if sum(map(bool, parts.accepted("s", name))) == 1 and not parts.were_full([name]):
+            ends = [chaos.posted(message) for message in range(1, chaos.least(len(heard))) if chaos.copies(message) == 2]
+            found += [(heard, end, end - 1) for end in ends if heard[end][0] != heard[end - 1][0]]
+    return at_one(random, found, moves)
+
+
+@way("a controller posts as many replies as the chaos line makes of no number of answers")
+def no_number_of_replies(parts, random):
+    chaos, found = parts.told.chaos, []
+    for controller in range(len(parts.heard)):
+        posted = sum(parts.accepted(f"c{controller}", "s"))
+        found += [(controller, step) for step in (-1, 1) if posted and chaos.posted(chaos.least(posted + step)) != posted + step]
+    if not found or parts.were_full(parts.servers()):
+        return False
+    controller, step = random.choice(found)
+    return change_at(random, parts.queues, [place for place, line in enumerate(parts.queues) if re.match(f"queue c{controller} .* accepted=[1-9]", line)], COUNTS, counted(step))
+
+
+@way("a controller that committed answered nobody")
+def no_replies(parts, random):
+    able = [controller for controller, heard in enumerate(parts.heard) if any(line[1] == "COMMIT_SUCCESS" for line in heard)]
+    if not able or parts.were_full(parts.servers()):
+        return False
+    controller = random.choice(able)
+    parts.queues = [re.sub(COUNTS, "accepted=0 taken=0", line) if line.startswith(f"queue c{controller} ") else line for line in parts.queues]
+    return True
+
+
+@way("a server that crashed never restarts")
+def no_restart(parts, random):
+    chaos = parts.told.chaos
+    if chaos.crashes is None or parts.were_full([f"c{chaos.crashes % chaos.leaders}"]):
+        return False
+    # Each message takes a turn, and is posted twice at most: so some were made behind the crash.
+    posted = sum(parts.accepted(f"s{chaos.crashes}", "c"))
+    if posted == 0 or chaos.at > posted // 2:
+        return False
+    later, first = f"Z.{chaos.crashes}.1.", f"Z.{chaos.crashes}.0."
+    for heard in parts.heard:
+        for line in heard:
+            line[0] = line[0].replace(later, first)
+    parts.writes = [rest.replace(later, first) for rest in parts.writes if rest != f"boot/{chaos.crashes} 1 -"]
     return True
 
 
@@ -381,8 +506,10 @@ OTHER_LINES = {
     "a group of an answer counts one more": ("head", LAST_CELL, LAST_CELL, plus(1)),
     "an end is off by one": ("head", "^end ", r"( )(\d+)$", plus(1)),
     "more was taken than accepted": ("queues", "", r"accepted=(\d+) taken=\d+", lambda found: f"accepted={found[1]} taken={int(found[1]) + 1}"),
-    "a controller took one request less than it heard": ("queues", "^queue s.* taken=[1-9]", r"(taken=)(\d+)", plus(-1)),
-    "a controller posts more than it answered": ("queues", "^queue c", r"(accepted=)(\d+)", plus(100_000)),
+    "a request is left in an inbox": ("queues", "^queue s.* taken=[1-9]", r"(taken=)(\d+)", plus(-1)),
+    "a reply is left in an inbox": ("queues", "^queue c.* taken=[1-9]", r"(taken=)(\d+)", plus(-1)),
+    "a controller took one request less than it heard": ("queues", "^queue s.* taken=[1-9]", COUNTS, counted(-1)),
+    "a controller posts more than it answered": ("queues", "^queue c", COUNTS, counted(100_000)),
     "a group of a first answer counts one more": ("mids", LAST_CELL, LAST_CELL, plus(1)),
     "a first answer names a range past the stream": ("mids", RANGED, r'("ranges":\[\[\d+,\d+,)(\d+)', plus(1_000_000)),
     "a first answer names a range that is no piece": ("mids", RANGED, r'("ranges":\[\[\d+,)(\d+)', plus(1)),
