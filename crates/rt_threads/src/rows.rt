@@ -21,6 +21,13 @@ pub fn versions<S: Store>(alloc: Global, store: &mut S) -> Result<String, AllocE
     )
 }
 
+/// What a store answers to a create of a node that isn't there, and to the same create again.
+pub fn creates<S: Store>(alloc: Global, store: &mut S) -> Result<String, AllocError> {
+    let once = store.create(alloc, Key::Boot(Instance(9)), &Node::Boot);
+    let again = store.create(alloc, Key::Boot(Instance(9)), &Node::Boot);
+    format!(in alloc; "create another {once:?}, create it again {again:?}")
+}
+
 /// Reads the first segment's node, and abandons it twice from the version that was read.
 fn set_twice<S: Store>(
     alloc: Global,

@@ -3,7 +3,7 @@ ghost use Rattle.rt_model.specs.Setup.{IsSetup};
 ghost use Rattle.rt_store.specs.Contents.{starting_of};
 
 use crate::boots::booted;
-use crate::rows::{ends, once, versions};
+use crate::rows::{creates, ends, once, versions};
 use crate::sharer::Sharer;
 use rt_ground::{Blanks, Caller, Ground, Naming};
 use rt_model::Setup;
@@ -72,7 +72,8 @@ fn all_rows<R: Wait + Copy, J: Naming>(
     let deep = once(alloc, &mut caller.deep)?;
     let stream = ends(alloc, &mut caller.stream)?;
     let boot = booted(alloc, &mut caller.store)?;
-    Ok(vec![in alloc; store, deep, stream, boot]?)
+    let create = creates(alloc, &mut caller.store)?;
+    Ok(vec![in alloc; store, deep, stream, boot, create]?)
 }
 
 /// Those who go through the rows.
