@@ -19,6 +19,7 @@ use Rattle.rt_live_names.specs.Whole.{IsWhole, lengths_in, whole_ranges}
 use Rattle.rt_live_nodes.specs.Founding.{names_of}
 use Rattle.rt_model.specs.declared.answer.Answer.{Answer}
 use Rattle.rt_store.specs.Contents.{starting_of}
+use Rattle.rt_live.specs.Drained.{was_drained}
 use Rattle.rt_live.specs.Printed.{printed}
 use Rattle.rt_live.specs.Run.{AnswersEachFirst, HasRun, HasRunBy, journal_of}
 
@@ -63,30 +64,31 @@ module _ (n : Names) (journal : Bool) (joined : JoinedNow) (has : HasJoined n (s
   -- so this is a run of theirs
   pub has_run : (ends : List Offset) (text : List ℕ) → ends ≡ ends_in n.setup.partitions (seen_by (starting_of n.setup) joined.met.store)
       → ends ≡ lengths_in n.setup.partitions n.rows → length joined.answers ≡ length n.queries → AnswersEachFirst journal n joined
-      → text ≡ printed joined.answers ends (journal_of journal (seen_by (starting_of n.setup) joined.met.store) joined)
+      → was_drained joined ≡ true → text ≡ printed joined.answers ends (journal_of journal (seen_by (starting_of n.setup) joined.met.store) joined)
       → HasRunBy n journal ends joined.met text
   unfolding ends_rightly
-  has_run ends text committed lengths all first is = record {
+  has_run ends text committed lengths all first drained is = record {
     joined = joined;
     has = has;
     shown = refl;
     rightly = ends_rightly ends committed lengths all;
     same = refl;
     first = first;
+    drained = drained;
     prints = is;
   }
 
   -- and what is handed on of it, where it is
   pub has_run_if : {X E : Type 0} (ends : List Offset) → ends ≡ ends_in n.setup.partitions (seen_by (starting_of n.setup) joined.met.store)
       → ends ≡ lengths_in n.setup.partitions n.rows → length joined.answers ≡ length n.queries → AnswersEachFirst journal n joined
-      → (r : Result X E) (ends_by : X → List Offset) (met_by : X → Fronts) (text_by : X → List ℕ) → IfOk r (λ x. ends_by x ≡ ends)
+      → was_drained joined ≡ true → (r : Result X E) (ends_by : X → List Offset) (met_by : X → Fronts) (text_by : X → List ℕ) → IfOk r (λ x. ends_by x ≡ ends)
       → IfOk r (λ x. met_by x ≡ joined.met)
       → IfOk r (λ x. text_by x ≡ printed joined.answers ends (journal_of journal (seen_by (starting_of n.setup) joined.met.store) joined))
       → IfOk r (λ x. HasRunBy n journal (ends_by x) (met_by x) (text_by x))
-  has_run_if ends committed lengths all first (Ok x) ends_by met_by text_by e m t =
+  has_run_if ends committed lengths all first drained (Ok x) ends_by met_by text_by e m t =
       subst (λ (es : List Offset). HasRunBy n journal es (met_by x) (text_by x)) (sym e)
-      (subst (λ (f : Fronts). HasRunBy n journal ends f (text_by x)) (sym m) (has_run ends (text_by x) committed lengths all first t))
-  has_run_if ends committed lengths all first (Err y) ends_by met_by text_by e m t = tt
+      (subst (λ (f : Fronts). HasRunBy n journal ends f (text_by x)) (sym m) (has_run ends (text_by x) committed lengths all first drained t))
+  has_run_if ends committed lengths all first drained (Err y) ends_by met_by text_by e m t = tt
 
 -- nodes whose names are those of an input ran over it
 pub over_input : {X E : Type 0} (input : Input) (links : Links) (asked : List TableId) (n : Names) (journal : Bool) → n ≡ names_of input links asked

@@ -1,3 +1,4 @@
+pub mod Drained
 pub mod Lives
 pub mod Printed
 pub mod Run

@@ -1,5 +1,5 @@
 -- What a run of a cluster comes to: what its nodes left and were joined to, that all of the input is committed and
--- answered, and what is printed of it.
+-- answered and all queues are drained, and what is printed of it.
 use Rattle.std.specs.Prelude.{◌≡◌, ℕ, Bool, true, false, List, length, Option, None, Some}
 use Rattle.rt_base.specs.declared.numbers.Offset.{Offset}
 use Rattle.rt_ground.specs.StoreCalls.{seen_by}
@@ -11,6 +11,7 @@ use Rattle.rt_live_names.specs.Names.{Names}
 use Rattle.rt_live_output.specs.declared.journal.Journal.{Journal}
 use Rattle.rt_model.specs.declared.node.Seen.{Seen}
 use Rattle.rt_store.specs.Contents.{starting_of}
+use Rattle.rt_live.specs.Drained.{was_drained}
 use Rattle.rt_live.specs.Printed.{printed}
 
 -- what a journal shows, where one is asked for: the writes of the store, and what the nodes left
@@ -39,6 +40,8 @@ pub record HasRunBy (n : Names) (journal : Bool) (ends : List Offset) (met : Fro
   pub rightly : EndsRightly n met joined.answers ends
   pub same : rightly.runs.ended ≡ has.ended
   pub first : AnswersEachFirst journal n joined
+  -- all that they accepted of each other was taken
+  pub drained : was_drained joined ≡ true
   -- and what is printed are their answers, their ends and their journal, with the whole history of the store
   pub prints : text ≡ printed joined.answers ends (journal_of journal (seen_by (starting_of n.setup) met.store) joined)
 

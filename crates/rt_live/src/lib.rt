@@ -3,6 +3,7 @@
 #![tactic(auto)]
 
 mod committed;
+mod drained;
 mod grounding;
 mod history;
 mod live_end;

@@ -8,6 +8,7 @@ ghost use Rattle.rt_live_names.specs.Whole.{lengths_in};
 ghost use Rattle.rt_store.specs.Contents.{starting_of};
 
 use crate::committed::ends_of;
+use crate::drained::was_drained;
 use crate::history::whole_history;
 use crate::ran::Ran;
 use crate::told::told;
@@ -19,8 +20,8 @@ use rt_live_names::Cluster;
 use std::alloc::{AllocError, Global};
 use std::sync::Wait;
 
-/// What a run has come to whose nodes were joined. All of the input is committed and each query is answered, so that it
-/// never waits. Fails only where memory is refused.
+/// What a run has come to whose nodes were joined. All of the input is committed, each query is answered, and all queues are
+/// drained, so that it never waits. Fails only where memory is refused.
 pub(crate) fn tell<R: Wait + Copy, J: Naming, K: Cluster>(
     rt: &R,
     alloc: Global,
@@ -44,6 +45,7 @@ pub(crate) fn tell<R: Wait + Copy, J: Naming, K: Cluster>(
     let ends = ends_of(alloc, partitions, &writes)?;
     if !are_same(&ends, lengths)
         || !answers_all(queries, journal, joined.answers.len(), joined.mids.len())
+        || !was_drained(&joined.to_controllers, &joined.to_servers)
     {
         return never(rt);
     }

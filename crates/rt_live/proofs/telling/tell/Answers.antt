@@ -40,11 +40,12 @@ returns g c =
     let all = c.if-not-answers_all.false in
     let answers = sym c.len.ensures ∙ c.answers_all.ensures.answers all ∙ c.requires.queries in
     let first = each_first n c.args.journal joined (λ shown. sym c.len-else-not-are_same.ensures ∙ c.answers_all.ensures.mids all shown ∙ c.requires.queries) in
+    let drained = sym c.was_drained.ensures ∙ c.if-not-was_drained.false in
     let text_is : printed joined.answers ends (journal_of c.args.journal c.in_ok-writes.writes.items (record joined { met = fronts_by c.whole_history.new.caller }))
     ≡ printed joined.answers ends (journal_of c.args.journal (seen_by (starting_of n.setup) joined.met.store) joined) =
     ap (λ (f : Fronts). printed joined.answers ends (journal_of c.args.journal c.in_ok-writes.writes.items (record joined { met = f }))) same
     ∙ ap (λ (h : List Seen). printed joined.answers ends (journal_of c.args.journal h joined)) writes in
-    has_run_if n c.args.journal joined has ends committed lengths answers first c.told.result (λ ran. ran.ends.items) (λ ran. fronts_by ran.caller)
+    has_run_if n c.args.journal joined has ends committed lengths answers first drained c.told.result (λ ran. ran.ends.items) (λ ran. fronts_by ran.caller)
     (λ ran. string_bytes ran.text) c.told.ensures.ends
     (subst (λ (f : Fronts). IfOk c.told.result (λ ran. fronts_by ran.caller ≡ f)) same c.told.ensures.caller)
     (subst (λ (t : List ℕ). IfOk c.told.result (λ ran. string_bytes ran.text ≡ t)) text_is c.told.ensures.text)
