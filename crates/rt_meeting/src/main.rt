@@ -1,6 +1,6 @@
-//! Runs the nodes of a cluster over the input of standard input as `rtlive` does, and has each server, each controller, the
-//! repairer and the broker wait at its turn 5 until all of them have come to theirs, so that a run in which a node never comes,
-//! or in which they don't run beside each other, ends with status 1.
+//! Runs the nodes of a cluster over the input of standard input as `rtlive` does, through a gate at which so many nodes wait
+//! for each other as the first word says. A run in which a node never comes, comes by another's name or out of its turn, or
+//! in which they don't run beside each other, ends with status 1. The words behind the first are those of `rtlive`.
 #![tactic(auto)]
 
 mod meeting;
@@ -9,7 +9,7 @@ use meeting::Meeting;
 use rt_base::{StdSink, StdSource, StepClock};
 use rt_lines::{PlayFault, word_number};
 use rt_live::{LiveEnd, live};
-use rt_program::{end, words_of};
+use rt_program::{end, slices_of, words_of};
 use std::alloc::Global;
 use std::io::{self, BufWriter, Read, Write};
 use std::process::ExitCode;
@@ -17,37 +17,48 @@ use std::sync::Wait;
 use std::thread::Threads;
 
 /// What is printed where the words aren't those of the program.
-const USAGE: &str = "usage: rt_meeting NODES";
+const USAGE: &str = "usage: rt_meeting NODES [--journal]";
 
 fn main(rt: HostRuntime) -> ExitCode {
-    let nodes = match nodes_of(&rt) {
-        Ok(nodes) => nodes,
-        Err(fault) => return end::<(), _>(&rt, Err(fault), USAGE),
+    let held = match words_of(&rt) {
+        Ok(words) => meet(&rt, rt.alloc(), &words, rt.reader(), io::writer(&rt)),
+        Err(fault) => Err(fault),
     };
-    let meeting = Meeting::of(nodes);
-    let ended = run(&rt, rt.alloc(), &meeting, rt.reader(), io::writer(&rt));
-    if ended.is_ok() && !meeting.was_held() {
-        return ExitCode::FAILURE;
+    match held {
+        Ok(false) => ExitCode::FAILURE,
+        held => end(&rt, held, USAGE),
     }
-    end(&rt, ended, USAGE)
 }
 
-// How many nodes are to meet.
-fn nodes_of(rt: &HostRuntime) -> Result<u64, PlayFault> {
-    let words = words_of(rt)?;
-    let Some(word) = words.first() else {
+// Runs the cluster by the program's words; whether the meeting was held.
+fn meet<R: Threads + Wait + Copy + Send + Sync, I: Read + Drop, O: Write + Drop>(
+    rt: &R,
+    alloc: Global,
+    texts: &[String],
+    reader: I,
+    writer: O,
+) -> Result<bool, PlayFault> {
+    let Ok(words) = slices_of(alloc, texts) else {
+        return Err(PlayFault::Memory);
+    };
+    let [first, rest @ ..] = words.as_slice() else {
         return Err(PlayFault::Usage);
     };
-    match word_number(word.as_bytes()) {
-        Some(nodes) => Ok(nodes),
-        None => Err(PlayFault::Usage),
-    }
+    let Some(nodes) = word_number(first.as_bytes()) else {
+        return Err(PlayFault::Usage);
+    };
+    let Ok(meeting) = Meeting::of(alloc, nodes) else {
+        return Err(PlayFault::Memory);
+    };
+    let _end = run(rt, alloc, rest, &meeting, reader, writer)?;
+    Ok(meeting.was_held())
 }
 
 // Runs the cluster through the gate.
 fn run<R: Threads + Wait + Copy + Send + Sync, I: Read + Drop, O: Write + Drop>(
     rt: &R,
     alloc: Global,
+    words: &[&str],
     meeting: &Meeting,
     reader: I,
     writer: O,
@@ -58,7 +69,7 @@ fn run<R: Threads + Wait + Copy + Send + Sync, I: Read + Drop, O: Write + Drop>(
     let mut source = StdSource::make(reader);
     let mut sink = StdSink::make(writer);
     let clock = StepClock::make();
-    let ended = live(*rt, alloc, &[], &mut source, &mut sink, &clock, meeting);
+    let ended = live(*rt, alloc, words, &mut source, &mut sink, &clock, meeting);
     match sink.finish() {
         Ok(()) => ended,
         Err(_) => Err(PlayFault::WriteFault),
