@@ -1,5 +1,5 @@
 -- A broker does one thing more.
-use Rattle.std.proofs.Common.{◌≡◌, ℕ, ◌+◌, ◌<◌, ◌≤◌, List, [], ◌∷◌, ◌++◌, map, length, Option, Some, None, Result, Err, refl, sym, ap, subst, ◌∙◌, arith, slice_get, All}
+use Rattle.std.proofs.Common.{◌≡◌, ℕ, ◌+◌, ◌<◌, ◌≤◌, true, List, [], ◌∷◌, ◌++◌, map, length, Option, Some, None, Result, Err, refl, sym, ap, subst, ◌∙◌, arith, slice_get, All}
 use Rattle.std.specs.Prelude.{IfSome, option_map}
 use Rattle.std.proofs.lemmas.List.{length-append, length-map, map-append}
 use Rattle.std.proofs.lemmas.Option.{get_or_from_slice_get, slice_get_within}
@@ -15,12 +15,13 @@ use Rattle.rt_broker.specs.declared.piece_got.PieceGot.{PieceGot}
 use Rattle.rt_broker.specs.declared.refused.BrokerRefused.{BrokerRefused}
 use Rattle.rt_broker.specs.declared.refused.BrokerRefused.TheVariants.{StoreFault}
 use Rattle.rt_front.specs.Histories.{Known}
+use Rattle.rt_front.specs.declared.entry.Entry.{Entry}
 use Rattle.rt_ground.specs.StoreCalls.{own_by, shared_meaning}
 use Rattle.rt_ground.specs.Histories.{whats}
 use Rattle.rt_lists.specs.Members.{Has, IsFront}
 use Rattle.rt_lists.proofs.Members.{front_same}
 use Rattle.rt_live_broker.specs.Acting.{ActingNow, IsActing, IsEndedBroker, IsOfCluster, IsQuiet, IsShownBy}
-use Rattle.rt_live_broker.specs.Asks.{Answers, HasFirst, Keeps, Opened, answers_of, opened}
+use Rattle.rt_live_broker.specs.Asks.{Answers, AreAskedOnce, HasFirst, IsAskedOnce, IsNext, Keeps, Opened, answers_of, opened}
 use Rattle.rt_live_broker.specs.Feeds.{AreFeeds}
 use Rattle.rt_live_broker.specs.Replayed.{Began, IsOpen, Replayed, at_first, sight}
 use Rattle.rt_live_broker.specs.Steps.{BrokerStep, answered}
@@ -36,7 +37,9 @@ use Rattle.rt_live_names.specs.BrokerPart.{Answered, IsAnswerOf, IsAnswered, bro
 use Rattle.rt_live_names.specs.Fronts.{Fronts, fronts}
 use Rattle.rt_live_names.specs.Names.{Names}
 use Rattle.rt_live_names.specs.Replays.{Replays}
+use Rattle.rt_live_names.specs.Showed.{Showed, shown_by}
 use Rattle.rt_live_names.proofs.Replaying.{replays_as, replays_more}
+use Rattle.rt_live_names.proofs.Showing.{showed_grows}
 use Rattle.rt_model.specs.Checked.{IsQuery}
 use Rattle.rt_model.specs.Starting.{Starting}
 use Rattle.rt_model.specs.declared.answer.Answer.{Answer}
@@ -82,8 +85,15 @@ is_given s n old gave current is same feeds gives =
       quiet = is.quiet;
       feeds = feeds;
       first = is.first;
+      once = λ journal few. subst (λ (c : Option Opened). IsAskedOnce c old.askings (length old.mids)) same (is.once journal few);
       now = is.now;
-      shown = record { current = is.shown.current ∙ same; askings = is.shown.askings; mids = is.shown.mids; answers = is.shown.answers };
+      shown = record {
+        current = is.shown.current ∙ same;
+        askings = is.shown.askings;
+        told = is.shown.told;
+        mids = is.shown.mids;
+        answers = is.shown.answers;
+      };
       replays = replays_later n old.fronts old.fronts old.fed gave old.did at_first is.now m is.replays;
       right = replayed_grows n old.fronts old.fronts old.fed gave (whole_ranges n) is.now m.seen gives is.right;
     }
@@ -91,14 +101,15 @@ is_given s n old gave current is same feeds gives =
 -- ---- it does one thing more
 
 pub acts : (s : Starting) (n : Names) (old new : ActingNow) (d : BrokerDid) (is : IsActing s n old) (b : Replayed) → Moves n old.fronts new.fronts old.fed new.fed → new.asks ≡ old.asks
-    → (0 < length new.answers → HasFirst new.asks new.mids) → IsShownBy b new → new.did ≡ old.did ++ d ∷ [] → BrokerStep n (whole_ranges n) (sight n new.fronts new.fed) is.now d b → IsActing s n new
-acts s n old new d is b m asks first shown noted step =
+    → (0 < length new.answers → HasFirst new.asks new.mids) → AreAskedOnce new.asks new.current new.askings new.mids → IsShownBy b new → new.did ≡ old.did ++ d ∷ [] → BrokerStep n (whole_ranges n) (sight n new.fronts new.fed) is.now d b → IsActing s n new
+acts s n old new d is b m asks first once shown noted step =
     let now = BrokerStep n (whole_ranges n) (sight n new.fronts new.fed) in
     record {
       cluster = subst (λ (x : Asks). IsOfCluster s n x) (sym asks) is.cluster;
       quiet = m.quiet;
       feeds = m.feeds;
       first = first;
+      once = once;
       now = b;
       shown = shown;
       replays = subst (λ (ds : List BrokerDid). Replays now at_first ds b) (sym noted)
@@ -106,6 +117,15 @@ acts s n old new d is b m asks first shown noted step =
       right = step_keeps n new.fronts new.fed (whole_ranges n) is.now d b step
           (replayed_grows n old.fronts new.fronts old.fed new.fed (whole_ranges n) is.now m.seen m.gives is.right);
     }
+
+-- ---- what its store showed it before
+
+pub showed_before : (n : Names) (f k : Fronts) (fed gave : List (Known PieceGiven)) (told : ℕ) → IsQuiet n f → Moves n f k fed gave → told ≡ length f.store.seen
+    → Showed (starting_of n.setup) (shown_by (starting_of n.setup) k.store) told 0 (shared_meaning (starting_of n.setup) f.store)
+showed_before n f k fed gave told quiet m count =
+    let s = starting_of n.setup in
+    showed_grows s (shown_by s f.store) (shown_by s k.store) told 0 (shared_meaning s f.store) (sees_on n f k fed gave m).store
+    (shown_now s f.store told count quiet.writes)
 
 -- ---- what is open
 
@@ -135,32 +155,42 @@ looks s n old store p q told result noted is r count more =
     let k = fronts store old.fronts.deep old.fronts.stream in
     let quiet = quiet_on n old.fronts k is.quiet own refl refl in
     let m : Moves n old.fronts k old.fed old.fed = record { quiet = quiet; feeds = is.feeds; seen = read_grows before after (key.Meta p q) result read; own = own; gives = λ i g h. h } in
-    acts s n old (record old { fronts = k; did = noted }) (did.Looked p q told result) is is.now m refl is.first
-    (record { current = is.shown.current; askings = is.shown.askings; mids = is.shown.mids; answers = is.shown.answers })
-    more (refl, record { before = before; after = after; showed = shown_now t store told count quiet.writes; step = read })
+    acts s n old (record old { fronts = k; did = noted }) (did.Looked p q told result) is (record is.now { told = told }) m refl is.first is.once
+    (record { current = is.shown.current; askings = is.shown.askings; told = count; mids = is.shown.mids; answers = is.shown.answers })
+    more (record {
+      before = before;
+      after = after;
+      showed = showed_before n old.fronts k old.fed old.fed is.now.told is.quiet m is.shown.told;
+      shows = shown_now t store told count quiet.writes;
+      step = read;
+      now = refl;
+    })
 
 -- ---- it begins to ask
 
 pub begins : (s : Starting) (n : Names) (old : ActingNow) (query number told : ℕ) (text : Query) (current : Option Opened) (askings : ℕ) (noted : List BrokerDid)
-    → IsActing s n old → old.current ≡ None → slice_get old.asks.queries query ≡ Some text → number ≡ old.askings → told ≡ length old.fronts.store.seen
+    → IsActing s n old → old.current ≡ None → IsNext old.asks old.mids query → slice_get old.asks.queries query ≡ Some text → number ≡ old.askings → told ≡ length old.fronts.store.seen
     → current ≡ Some (opened query number (first_asking text old.asks.setup)) → askings ≡ old.askings + 1 → noted ≡ old.did ++ did.Asked query number told ∷ []
     → IsActing s n (record old { current = current; askings = askings; did = noted })
-begins s n old query number told text current askings noted is closed at numbered count started one more =
+begins s n old query number told text current askings noted is closed next at numbered count started one more =
     let t = starting_of n.setup in
     let before = shared_meaning t old.fronts.store in
     let fresh : current ≡ Some (opened query number (first_asking text n.setup)) =
     started ∙ ap (λ (x : Setup). Some (opened query number (first_asking text x))) is.cluster.setup in
-    let b : Replayed = record {
+    let b : Replayed = record is.now {
       current = Some (record { opened = opened query number (first_asking text n.setup); began = before.seen });
       askings = is.now.askings + 1;
-      mids = is.now.mids;
-      answers = is.now.answers;
     } in
     acts s n old (record old { current = current; askings = askings; did = noted }) (did.Asked query number told) is b
     (stays n old.fronts old.fed is.quiet is.feeds) refl is.first
+    (λ journal few.
+    let all : old.askings ≡ length old.mids = subst (λ (c : Option Opened). IsAskedOnce c old.askings (length old.mids)) closed (is.once journal few) in
+    subst (λ (c : Option Opened). IsAskedOnce c askings (length old.mids)) (sym started)
+    (next journal few, numbered ∙ all, one ∙ ap (λ (k : ℕ). k + 1) all))
     (record {
       current = sym fresh;
       askings = ap (λ (k : ℕ). k + 1) is.shown.askings ∙ sym one;
+      told = is.shown.told;
       mids = is.shown.mids;
       answers = is.shown.answers;
     })
@@ -169,8 +199,9 @@ begins s n old query number told text current askings noted is closed at numbere
       text = text;
       is = ap (λ (xs : List Query). slice_get xs query) (sym is.cluster.queries) ∙ at;
       number = numbered ∙ sym is.shown.askings;
+      same = count ∙ sym is.shown.told;
       before = before;
-      showed = shown_now t old.fronts.store told count is.quiet.writes;
+      showed = shown_now t old.fronts.store is.now.told is.shown.told is.quiet.writes;
       now = refl;
     })
 
@@ -184,18 +215,26 @@ same_asking : (was next : Opened) → next.query ≡ was.query → next.asking �
 same_asking was next query number =
     ap (λ (q : ℕ). opened q was.asking next.asked) (sym query) ∙ ap (λ (k : ℕ). opened next.query k next.asked) (sym number)
 
-shown_next : (n : Names) (old new : ActingNow) (now : Replayed) (o : Began) (was next : Opened) → IsShownBy now old → o.opened ≡ was
-    → (next.query ≡ was.query) × (next.asking ≡ was.asking) → new.current ≡ Some next → new.askings ≡ old.askings → new.mids ≡ old.mids → new.answers ≡ old.answers
-    → IsShownBy (record now { current = Some (went_on o next) }) new
-shown_next n old new now o was next shown here same current askings mids answers = record {
+shown_next : (n : Names) (old new : ActingNow) (now : Replayed) (o : Began) (was next : Opened) (told : ℕ) → IsShownBy now old → o.opened ≡ was
+    → (next.query ≡ was.query) × (next.asking ≡ was.asking) → told ≡ length new.fronts.store.seen → new.current ≡ Some next → new.askings ≡ old.askings → new.mids ≡ old.mids
+    → new.answers ≡ old.answers → IsShownBy (record now { current = Some (went_on o next); told = told }) new
+shown_next n old new now o was next told shown here same count current askings mids answers = record {
   current =
       ap (λ (x : Opened). some_opened (opened x.query x.asking next.asked)) here
       ∙ ap some_opened (same_asking was next same.0 same.1)
       ∙ sym current;
   askings = shown.askings ∙ sym askings;
+  told = count;
   mids = shown.mids ∙ sym mids;
   answers = shown.answers ∙ sym answers;
 }
+
+once_next : (old : ActingNow) (was next : Opened) → AreAskedOnce old.asks old.current old.askings old.mids → old.current ≡ Some was
+    → (next.query ≡ was.query) × (next.asking ≡ was.asking) → AreAskedOnce old.asks (Some next) old.askings old.mids
+once_next old was next once at same = λ journal few.
+    let is : IsAskedOnce (Some was) old.askings (length old.mids) =
+    subst (λ (c : Option Opened). IsAskedOnce c old.askings (length old.mids)) at (once journal few) in
+    (same.0 ∙ is.0, same.1 ∙ is.1, is.2)
 
 pub routes : (s : Starting) (n : Names) (old : ActingNow) (store : Known Seen) (was next : Opened) (p : Partition) (told : ℕ) (result : Result ℕ BrokerRefused) (noted : List BrokerDid)
     → IsActing s n old → old.current ≡ Some was → Routes (shared_meaning s old.fronts.store) (shared_meaning s store) was.asked p next.asked result
@@ -216,8 +255,8 @@ routes s n old store was next p told result noted is at r met same count more =
     let o : Began = found.0 in
     let new : ActingNow = record old { fronts = k; current = Some next; did = noted } in
     let opens = subst (λ (c : Option Began). IfSome c (IsOpen n old.fronts old.fed)) found.1 is.right.current in
-    acts s n old new (did.Routed p told result) is (record is.now { current = Some (went_on o next) }) m refl is.first
-    (shown_next n old new is.now o was next is.shown found.2 same refl refl refl refl)
+    acts s n old new (did.Routed p told result) is (record is.now { current = Some (went_on o next); told = told }) m refl is.first (once_next old was next is.once at same)
+    (shown_next n old new is.now o was next told is.shown found.2 same count refl refl refl refl)
     more (record {
       current = o;
       is = found.1;
@@ -225,7 +264,8 @@ routes s n old store was next p told result noted is at r met same count more =
       after = after;
       begins = (whats old.fronts.store.seen, refl);
       since = opens.began;
-      showed = shown_now t store told count quiet.writes;
+      showed = showed_before n old.fronts k old.fed old.fed is.now.told is.quiet m is.shown.told;
+      shows = shown_now t store told count quiet.writes;
       asked = next.asked;
       step = subst (λ (x : Opened). Routes before after x.asked p next.asked result) (sym found.2) routed;
       met = met;
@@ -243,8 +283,8 @@ notes s n old gave was next piece from got result noted is at feeds gives given 
     let found = some_open is.now.current was (is.shown.current ∙ at) in
     let o : Began = found.0 in
     let new : ActingNow = record old { fed = gave; current = Some next; did = noted } in
-    acts s n old new (did.Noted piece from got) is (record is.now { current = Some (went_on o next) }) m refl is.first
-    (shown_next n old new is.now o was next is.shown found.2 same refl refl refl refl)
+    acts s n old new (did.Noted piece from got) is (record is.now { current = Some (went_on o next) }) m refl is.first (once_next old was next is.once at same)
+    (shown_next n old new is.now o was next is.now.told is.shown found.2 same is.shown.told refl refl refl refl)
     more (record {
       current = o;
       is = found.1;
@@ -287,6 +327,22 @@ answers s n old was answer kept current mids lasts noted is at made keeps closed
     same_mids : mids ≡ old.mids → HasFirst old.asks old.mids → 0 < length lasts → HasFirst old.asks mids
     same_mids same first some = subst (λ (xs : List Answer). HasFirst old.asks xs) (sym same) first
 
+    -- the query that is being asked, while one waits for its first answer
+    once : old.asks.journal ≡ true → length old.mids < length old.asks.queries → IsAskedOnce (Some was) old.askings (length old.mids)
+    once journal few = subst (λ (c : Option Opened). IsAskedOnce c old.askings (length old.mids)) at (is.once journal few)
+
+    -- none is then being asked
+    one_more : length old.mids < length old.asks.queries → mids ≡ old.mids ++ answer ∷ [] → AreAskedOnce old.asks current old.askings mids
+    one_more some same = λ journal few.
+        let was_so = once journal some in
+        let all : old.askings ≡ length mids =
+        omega (arith, was_so.2, length-append old.mids (answer ∷ []), ap (λ (xs : List Answer). length xs) same) in
+        subst (λ (c : Option Opened). IsAskedOnce c old.askings (length mids)) (sym closed) all
+
+    -- each has its first answer
+    none_left : HasFirst old.asks old.mids → mids ≡ old.mids → AreAskedOnce old.asks current old.askings mids
+    none_left first same = λ journal few. absurd (omega (arith, first journal, few, ap (λ (xs : List Answer). length xs) same))
+
     longer : answers_of mids lasts ≡ answers_of (old.mids ++ answer ∷ []) old.answers → 0 < length lasts → HasFirst old.asks mids
     longer now some journal =
         let same : mids ≡ old.mids ++ answer ∷ [] = ap (λ (z : Answers). z.mids) now in
@@ -306,10 +362,11 @@ answers s n old was answer kept current mids lasts noted is at made keeps closed
     by_kept First k more =
         let x = answered found.0 answer in
         acts s n old (ended_by old current mids lasts noted) (did.Answered First) is (record is.now { current = None; mids = is.now.mids ++ x ∷ [] })
-        (stays n old.fronts old.fed is.quiet is.feeds) refl (longer k.2)
+        (stays n old.fronts old.fed is.quiet is.feeds) refl (longer k.2) (one_more k.1 (ap (λ (z : Answers). z.mids) k.2))
         (record {
           current = sym closed;
           askings = is.shown.askings;
+          told = is.shown.told;
           mids = more_answers is.now.mids old.mids mids x is.shown.mids (ap (λ (z : Answers). z.mids) k.2);
           answers = is.shown.answers ∙ sym (ap (λ (z : Answers). z.answers) k.2);
         })
@@ -319,15 +376,19 @@ answers s n old was answer kept current mids lasts noted is at made keeps closed
           is = found.1;
           answer = answer;
           made = right;
-          closes = (place ∙ k.1 ∙ same_length is.now.mids old.mids is.shown.mids, refl);
+          closes =
+              let was_so = once k.0 k.1 in
+              (place ∙ was_so.0 ∙ same_length is.now.mids old.mids is.shown.mids, ap (λ (x : Opened). x.asking) found.2 ∙ was_so.1 ∙ sym was_so.0 ∙ sym place, refl);
         })
     by_kept Last k more =
         let x = answered found.0 answer in
         acts s n old (ended_by old current mids lasts noted) (did.Answered Last) is (record is.now { current = None; answers = is.now.answers ++ x ∷ [] })
         (stays n old.fronts old.fed is.quiet is.feeds) refl (same_mids (ap (λ (z : Answers). z.mids) k.3) k.1)
+        (none_left k.1 (ap (λ (z : Answers). z.mids) k.3))
         (record {
           current = sym closed;
           askings = is.shown.askings;
+          told = is.shown.told;
           mids = is.shown.mids ∙ sym (ap (λ (z : Answers). z.mids) k.3);
           answers = more_answers is.now.answers old.answers lasts x is.shown.answers (ap (λ (z : Answers). z.answers) k.3);
         })
@@ -341,12 +402,13 @@ answers s n old was answer kept current mids lasts noted is at made keeps closed
         })
     by_kept Again k more =
         acts s n old (ended_by old current mids lasts noted) (did.Answered Again) is (record is.now { current = None })
-        (stays n old.fronts old.fed is.quiet is.feeds) refl (same_both k)
+        (stays n old.fronts old.fed is.quiet is.feeds) refl (same_both k.1) (none_left k.0 (ap (λ (z : Answers). z.mids) k.1))
         (record {
           current = sym closed;
           askings = is.shown.askings;
-          mids = is.shown.mids ∙ sym (ap (λ (z : Answers). z.mids) k);
-          answers = is.shown.answers ∙ sym (ap (λ (z : Answers). z.answers) k);
+          told = is.shown.told;
+          mids = is.shown.mids ∙ sym (ap (λ (z : Answers). z.mids) k.1);
+          answers = is.shown.answers ∙ sym (ap (λ (z : Answers). z.answers) k.1);
         })
         more
         (record { current = found.0; is = found.1; answer = answer; made = right; closes = refl })
@@ -356,15 +418,16 @@ answers s n old was answer kept current mids lasts noted is at made keeps closed
 none_all : {X : Type 0} (P : X → Type 0) → All P []
 none_all P = λ k d h. absurd (omega arith)
 
-first_of : (s : Starting) (n : Names) (f : Fronts) (fed : List (Known PieceGiven)) (asks : Asks) → IsOfCluster s n asks → IsQuiet n f → AreFeeds n fed
+first_of : (s : Starting) (n : Names) (f : Fronts) (fed : List (Known PieceGiven)) (asks : Asks) → IsOfCluster s n asks → IsQuiet n f → f.store.seen ≡ [] → AreFeeds n fed
     → IsActing s n (record { fronts = f; fed = fed; asks = asks; current = None; askings = 0; mids = []; answers = []; did = [] })
-first_of s n f fed asks cluster quiet feeds = record {
+first_of s n f fed asks cluster quiet unseen feeds = record {
   cluster = cluster;
   quiet = quiet;
   feeds = feeds;
   first = λ some. absurd (omega arith);
+  once = λ journal few. refl;
   now = at_first;
-  shown = record { current = refl; askings = refl; mids = refl; answers = refl };
+  shown = record { current = refl; askings = refl; told = ap (λ (xs : List (Entry Seen)). length xs) (sym unseen); mids = refl; answers = refl };
   replays = refl;
   right = record {
     current = tt;
@@ -372,18 +435,19 @@ first_of s n f fed asks cluster quiet feeds = record {
     answers = none_all (IsAnswered n f fed);
     whole = none_all (λ x. IsWhole (whole_ranges n) x.answer);
     mids_order = refl;
+    firsts = none_all (λ (x : Answered). x.asking ≡ x.query);
     order = refl;
   };
 }
 
-pub starts : (s : Starting) (n : Names) (f : Fronts) (fed : List (Known PieceGiven)) (asks : Asks) (mids lasts : List Answer) (noted : List BrokerDid) → IsOfCluster s n asks → IsQuiet n f → AreFeeds n fed
-    → mids ≡ [] → lasts ≡ [] → noted ≡ []
+pub starts : (s : Starting) (n : Names) (f : Fronts) (fed : List (Known PieceGiven)) (asks : Asks) (mids lasts : List Answer) (noted : List BrokerDid) → IsOfCluster s n asks → IsQuiet n f → f.store.seen ≡ []
+    → AreFeeds n fed → mids ≡ [] → lasts ≡ [] → noted ≡ []
     → IsActing s n (record { fronts = f; fed = fed; asks = asks; current = None; askings = 0; mids = mids; answers = lasts; did = noted })
-starts s n f fed asks mids lasts noted cluster quiet feeds no_mids no_lasts nothing =
+starts s n f fed asks mids lasts noted cluster quiet unseen feeds no_mids no_lasts nothing =
     subst (λ (x : List Answer). IsActing s n (record { fronts = f; fed = fed; asks = asks; current = None; askings = 0; mids = x; answers = lasts; did = noted })) (sym no_mids)
     (subst (λ (x : List Answer). IsActing s n (record { fronts = f; fed = fed; asks = asks; current = None; askings = 0; mids = []; answers = x; did = noted })) (sym no_lasts)
     (subst (λ (x : List BrokerDid). IsActing s n (record { fronts = f; fed = fed; asks = asks; current = None; askings = 0; mids = []; answers = []; did = x })) (sym nothing)
-    (first_of s n f fed asks cluster quiet feeds)))
+    (first_of s n f fed asks cluster quiet unseen feeds)))
 
 pub ends : (s : Starting) (n : Names) (a : ActingNow) → IsActing s n a → IsEndedBroker n a.fronts a.fed a.mids a.answers
 ends s n a is = record {
@@ -401,6 +465,7 @@ ends s n a is = record {
     appends = is.quiet.appends;
   };
   mids_order = is.right.mids_order;
+  firsts = is.right.firsts;
   order = is.right.order;
   whole = is.right.whole;
   feeds = is.feeds;
@@ -408,9 +473,15 @@ ends s n a is = record {
   now = is.now;
   replays = is.replays;
   replayed = (refl, refl);
+  told = is.shown.told;
 }
 
--- ---- the query that is being asked is one of the cluster's
+-- ---- the query that is being asked is one of the cluster's, and the next while one waits for its first answer
+
+pub asks_next : (s : Starting) (n : Names) (old : ActingNow) (was : Opened) → IsActing s n old → old.current ≡ Some was → IsNext old.asks old.mids was.query
+asks_next s n old was is at = λ journal few.
+    let once : IsAskedOnce (Some was) old.askings (length old.mids) = subst (λ (c : Option Opened). IsAskedOnce c old.askings (length old.mids)) at (is.once journal few) in
+    once.0
 
 one_valid : (P : Query → Type 0) (xs : List Query) (i : ℕ) (x : Query) → All P xs → slice_get xs i ≡ Some x → P x
 one_valid P xs i x all at = subst P (get_or_from_slice_get xs i x x at) (all i x (slice_get_within xs i x at))

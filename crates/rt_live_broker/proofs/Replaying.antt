@@ -42,22 +42,22 @@ pub record SeesOn (old new : Sight) : Type 0 where
 
 pub step_later : (n : Names) (whole : List (Partition × Range)) (v w : Sight) → SeesOn v w → (a : Replayed) (d : BrokerDid) (b : Replayed)
     → BrokerStep n whole v a d b → BrokerStep n whole w a d b
-step_later n whole v w more a (did.Looked p q told result) b s = (
-  s.0,
-  record {
-    before = s.1.before;
-    after = s.1.after;
-    showed = showed_grows (starting_of n.setup) v.store w.store told 0 s.1.after more.store s.1.showed;
-    step = s.1.step;
-  },
-)
+step_later n whole v w more a (did.Looked p q told result) b s = record {
+  before = s.before;
+  after = s.after;
+  showed = showed_grows (starting_of n.setup) v.store w.store a.told 0 s.before more.store s.showed;
+  shows = showed_grows (starting_of n.setup) v.store w.store told 0 s.after more.store s.shows;
+  step = s.step;
+  now = s.now;
+}
 step_later n whole v w more a (did.Asked query asking told) b s = record {
   closed = s.closed;
   text = s.text;
   is = s.is;
   number = s.number;
+  same = s.same;
   before = s.before;
-  showed = showed_grows (starting_of n.setup) v.store w.store told 0 s.before more.store s.showed;
+  showed = showed_grows (starting_of n.setup) v.store w.store a.told 0 s.before more.store s.showed;
   now = s.now;
 }
 step_later n whole v w more a (did.Routed p told result) b s = record {
@@ -67,7 +67,8 @@ step_later n whole v w more a (did.Routed p told result) b s = record {
   after = s.after;
   begins = s.begins;
   since = s.since;
-  showed = showed_grows (starting_of n.setup) v.store w.store told 0 s.after more.store s.showed;
+  showed = showed_grows (starting_of n.setup) v.store w.store a.told 0 s.before more.store s.showed;
+  shows = showed_grows (starting_of n.setup) v.store w.store told 0 s.after more.store s.shows;
   asked = s.asked;
   step = s.step;
   met = s.met;
@@ -119,6 +120,7 @@ replayed_grows n f k fed gave ranges a seen gives r = record {
   answers = all_as (IsAnswered n f fed) (IsAnswered n k gave) a.answers (answered_grows n f k fed gave seen gives) r.answers;
   whole = r.whole;
   mids_order = r.mids_order;
+  firsts = r.firsts;
   order = r.order;
 }
 
@@ -130,16 +132,17 @@ range_more a (suc n) j e = ap (λ (l : List ℕ). a ∷ l) (range_more (a + 1) n
 
 module _ (n : Names) (f : Fronts) (fed : List (Known PieceGiven)) (ranges : List (Partition × Range)) where
   -- an asking that is open in the place of another one
-  abbrev with_open : Replayed → Option Began → ℕ → Replayed
-  with_open a o askings = record { current = o; askings = askings; mids = a.mids; answers = a.answers }
+  abbrev with_open : Replayed → Option Began → ℕ → ℕ → Replayed
+  with_open a o askings told = record a { current = o; askings = askings; told = told }
 
-  opens : (a : Replayed) (o : Option Began) (askings : ℕ) → IsReplayed n f fed ranges a → IfSome o (IsOpen n f fed) → IsReplayed n f fed ranges (with_open a o askings)
-  opens a o askings r is = record {
+  opens : (a : Replayed) (o : Option Began) (askings told : ℕ) → IsReplayed n f fed ranges a → IfSome o (IsOpen n f fed) → IsReplayed n f fed ranges (with_open a o askings told)
+  opens a o askings told r is = record {
     current = is;
     mids = r.mids;
     answers = r.answers;
     whole = r.whole;
     mids_order = r.mids_order;
+    firsts = r.firsts;
     order = r.order;
   }
 
@@ -160,7 +163,7 @@ module _ (n : Names) (f : Fronts) (fed : List (Known PieceGiven)) (ranges : List
         since = since_begins s.before.seen history s.text n.setup;
         tried = none_begins s.text n.setup;
       } in
-      subst (λ (x : Replayed). IsReplayed n f fed ranges x) (sym s.now) (opens a (Some o) (a.askings + 1) r is)
+      subst (λ (x : Replayed). IsReplayed n f fed ranges x) (sym s.now) (opens a (Some o) (a.askings + 1) a.told r is)
 
   routes_on : (a : Replayed) (p : Partition) (told : ℕ) (result : Result ℕ BrokerRefused) (b : Replayed) → RoutesOne (starting_of n.setup) (sight n f fed).store a p told result b
       → IsReplayed n f fed ranges a → IsReplayed n f fed ranges b
@@ -171,12 +174,12 @@ module _ (n : Names) (f : Fronts) (fed : List (Known PieceGiven)) (ranges : List
       let next : Began = record { opened = opened o.opened.query o.opened.asking s.asked; began = o.began } in
       let is : IsOpen n f fed next = record {
         query = was.query ∙ ap (λ q. Some q) (sym (query_routed s.before s.after old s.asked p result s.step));
-        asked = route_kept_by n.setup (broker_view n f) (given_by fed) o.opened.query o.opened.asking s.before s.after old s.asked p result s.step s.begins s.showed.whole was.asked;
+        asked = route_kept_by n.setup (broker_view n f) (given_by fed) o.opened.query o.opened.asking s.before s.after old s.asked p result s.step s.begins s.shows.whole was.asked;
         began = was.began;
-        since = since_routed o.began history s.before s.after old s.asked p result s.step s.met s.since s.showed.whole was.since;
+        since = since_routed o.began history s.before s.after old s.asked p result s.step s.met s.since s.shows.whole was.since;
         tried = none_routed s.before s.after old s.asked p result s.step s.met was.tried;
       } in
-      subst (λ (x : Replayed). IsReplayed n f fed ranges x) (sym s.now) (opens a (Some next) a.askings r is)
+      subst (λ (x : Replayed). IsReplayed n f fed ranges x) (sym s.now) (opens a (Some next) a.askings told r is)
 
   notes_on : (a : Replayed) (piece : Piece) (from : Instance) (got : PieceGot) (b : Replayed) → NotesOne (sight n f fed) a piece from got b
       → IsReplayed n f fed ranges a → IsReplayed n f fed ranges b
@@ -192,7 +195,7 @@ module _ (n : Names) (f : Fronts) (fed : List (Known PieceGiven)) (ranges : List
         since = since_noted o.began history old s.asked piece from got s.result s.step was.since;
         tried = none_noted old s.asked piece from got s.result s.step was.tried;
       } in
-      subst (λ (x : Replayed). IsReplayed n f fed ranges x) (sym s.now) (opens a (Some next) a.askings r is)
+      subst (λ (x : Replayed). IsReplayed n f fed ranges x) (sym s.now) (opens a (Some next) a.askings a.told r is)
 
   abbrev place_of : Answered → ℕ
   place_of x = x.query
@@ -207,12 +210,13 @@ module _ (n : Names) (f : Fronts) (fed : List (Known PieceGiven)) (ranges : List
 
   closes_on : (a : Replayed) (x : Answered) (kept : AnswerKept) (b : Replayed) → Closes ranges a x kept b → IsAnswered n f fed x → IsReplayed n f fed ranges a → IsReplayed n f fed ranges b
   closes_on a x First b c is r =
-      subst (λ (y : Replayed). IsReplayed n f fed ranges y) (sym c.1) (record {
+      subst (λ (y : Replayed). IsReplayed n f fed ranges y) (sym c.2) (record {
         current = tt;
         mids = All-push (IsAnswered n f fed) a.mids x r.mids is;
         answers = r.answers;
         whole = r.whole;
         mids_order = in_order a.mids x r.mids_order c.0;
+        firsts = All-push (λ (y : Answered). y.asking ≡ y.query) a.mids x r.firsts c.1;
         order = r.order;
       })
   closes_on a x Last b c is r =
@@ -222,9 +226,10 @@ module _ (n : Names) (f : Fronts) (fed : List (Known PieceGiven)) (ranges : List
         answers = All-push (IsAnswered n f fed) a.answers x r.answers is;
         whole = All-push (λ (y : Answered). IsWhole ranges y.answer) a.answers x r.whole c.1;
         mids_order = r.mids_order;
+        firsts = r.firsts;
         order = in_order a.answers x r.order c.0;
       })
-  closes_on a x Again b c is r = subst (λ (y : Replayed). IsReplayed n f fed ranges y) (sym c) (opens a None a.askings r tt)
+  closes_on a x Again b c is r = subst (λ (y : Replayed). IsReplayed n f fed ranges y) (sym c) (opens a None a.askings a.told r tt)
 
   answers_on : (a : Replayed) (kept : AnswerKept) (b : Replayed) → AnswersOne ranges a kept b → IsReplayed n f fed ranges a → IsReplayed n f fed ranges b
   answers_on a kept b s r =
@@ -234,7 +239,7 @@ module _ (n : Names) (f : Fronts) (fed : List (Known PieceGiven)) (ranges : List
       closes_on a (answered o s.answer) kept b s.closes is r
 
   pub step_keeps : (a : Replayed) (d : BrokerDid) (b : Replayed) → BrokerStep n ranges (sight n f fed) a d b → IsReplayed n f fed ranges a → IsReplayed n f fed ranges b
-  step_keeps a (did.Looked p q told result) b s r = subst (λ (x : Replayed). IsReplayed n f fed ranges x) (sym s.0) r
+  step_keeps a (did.Looked p q told result) b s r = subst (λ (x : Replayed). IsReplayed n f fed ranges x) (sym s.now) (opens a a.current a.askings told r r.current)
   step_keeps a (did.Asked query number told) b s r = asks_on a query number told b s r
   step_keeps a (did.Routed p told result) b s r = routes_on a p told result b s r
   step_keeps a (did.Noted piece from got) b s r = notes_on a piece from got b s r

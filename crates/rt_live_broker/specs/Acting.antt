@@ -2,9 +2,9 @@
 use Rattle.std.specs.Prelude.{◌≡◌, ◌<◌, ℕ, List, [], All, length, Option, map, option_map}
 use Rattle.rt_broker.specs.declared.piece_given.PieceGiven.{PieceGiven}
 use Rattle.rt_front.specs.Histories.{Known}
-use Rattle.rt_live_broker.specs.Asks.{HasFirst, Opened}
+use Rattle.rt_live_broker.specs.Asks.{AreAskedOnce, HasFirst, Opened}
 use Rattle.rt_live_broker.specs.Feeds.{AreFeeds}
-use Rattle.rt_live_broker.specs.Replayed.{AreInOrder, IsReplayed, Replayed, at_first, sight}
+use Rattle.rt_live_broker.specs.Replayed.{AreFirst, AreInOrder, IsReplayed, Replayed, at_first, sight}
 use Rattle.rt_live_broker.specs.Steps.{BrokerStep}
 use Rattle.rt_live_names.specs.Whole.{IsWhole, whole_ranges}
 use Rattle.rt_live_broker.specs.declared.asks.Asks.{Asks}
@@ -49,6 +49,7 @@ pub record IsQuiet (n : Names) (f : Fronts) : Type 0 where
 pub record IsShownBy (now : Replayed) (a : ActingNow) : Type 0 where
   pub current : option_map (λ o. o.opened) now.current ≡ a.current
   pub askings : now.askings ≡ a.askings
+  pub told : now.told ≡ length a.fronts.store.seen
   pub mids : map (λ x. x.answer) now.mids ≡ a.mids
   pub answers : map (λ x. x.answer) now.answers ≡ a.answers
 
@@ -58,6 +59,7 @@ pub record IsActing (s : Starting) (n : Names) (a : ActingNow) : Type 0 where
   pub feeds : AreFeeds n a.fed
   -- none is printed before each query has its first answer
   pub first : 0 < length a.answers → HasFirst a.asks a.mids
+  pub once : AreAskedOnce a.asks a.current a.askings a.mids
   pub now : Replayed
   pub shown : IsShownBy now a
   pub replays : Replays (BrokerStep n (whole_ranges n) (sight n a.fronts a.fed)) at_first a.did now
@@ -71,8 +73,10 @@ pub record IsEndedBroker (n : Names) (f : Fronts) (fed : List (Known PieceGiven)
   pub is_mids : map (λ x. x.answer) part.mids ≡ mids
   pub is_answers : map (λ x. x.answer) part.answers ≡ answers
   pub is : IsBrokerPart n part
-  -- each first answer is to its query, and so is each that is printed, which leaves nothing out
+  -- each first answer is to its query, the first time that it was asked; and each that is printed is to its query, and
+  -- leaves nothing out
   pub mids_order : AreInOrder part.mids
+  pub firsts : AreFirst part.mids
   pub order : AreInOrder part.answers
   pub whole : All (λ x. IsWhole (whole_ranges n) x.answer) part.answers
   pub feeds : AreFeeds n fed
@@ -80,3 +84,4 @@ pub record IsEndedBroker (n : Names) (f : Fronts) (fed : List (Known PieceGiven)
   pub now : Replayed
   pub replays : Replays (BrokerStep n (whole_ranges n) (sight n f fed)) at_first did now
   pub replayed : (now.mids ≡ part.mids) × (now.answers ≡ part.answers)
+  pub told : now.told ≡ length f.store.seen

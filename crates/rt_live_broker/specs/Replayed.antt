@@ -27,12 +27,14 @@ pub record Replayed : Type 0 where
   pub current : Option Began
   -- how many askings were begun
   pub askings : ℕ
+  -- how much its front showed it of the store
+  pub told : ℕ
   pub mids : List Answered
   pub answers : List Answered
 
 -- a broker that did nothing yet
 abbrev pub at_first : Replayed
-at_first = record { current = None; askings = 0; mids = []; answers = [] }
+at_first = record { current = None; askings = 0; told = 0; mids = []; answers = [] }
 
 -- what a broker's fronts show
 pub record Sight : Type 0 where
@@ -58,10 +60,15 @@ pub record IsOpen (n : Names) (f : Fronts) (fed : List (Known PieceGiven)) (o : 
 abbrev pub AreInOrder : List Answered → Type 0
 AreInOrder xs = map (λ x. x.query) xs ≡ range_with_len 0 (length xs)
 
+-- the first answers are those of the first askings: each query was asked once, in their order, and that is answered
+abbrev pub AreFirst : List Answered → Type 0
+AreFirst xs = All (λ x. x.asking ≡ x.query) xs
+
 pub record IsReplayed (n : Names) (f : Fronts) (fed : List (Known PieceGiven)) (ranges : List (Partition × Range)) (a : Replayed) : Type 0 where
   pub current : IfSome a.current (IsOpen n f fed)
   pub mids : All (IsAnswered n f fed) a.mids
   pub answers : All (IsAnswered n f fed) a.answers
   pub whole : All (λ x. IsWhole ranges x.answer) a.answers
   pub mids_order : AreInOrder a.mids
+  pub firsts : AreFirst a.mids
   pub order : AreInOrder a.answers

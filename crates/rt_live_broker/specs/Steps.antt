@@ -1,5 +1,5 @@
 -- What a broker did, as steps from what it was to what it became. What a step is told of the store is by what the front
--- showed at its end.
+-- showed before it, and showed at its end.
 use Rattle.std.specs.Prelude.{◌≡◌, ℕ, ◌+◌, List, ◌∷◌, [], ◌++◌, Some, None, Result, Err, length, slice_get}
 use Rattle.rt_base.specs.declared.numbers.Instance.{Instance}
 use Rattle.rt_base.specs.declared.numbers.Partition.{Partition}
@@ -35,26 +35,28 @@ use Rattle.rt_store.specs.Meaning.{Meaning}
 use Rattle.rt_store.specs.declared.refused.StoreRefused.{StoreRefused}
 
 -- a read of a segment's node
-pub record LooksAt (s : Starting) (shown : Shown) (p : Partition) (q : Sequence) (told : ℕ) (result : Result Seen StoreRefused) : Type 0 where
+pub record LooksAt (s : Starting) (shown : Shown) (a : Replayed) (p : Partition) (q : Sequence) (told : ℕ) (result : Result Seen StoreRefused) (b : Replayed) : Type 0 where
   pub before : Meaning
   pub after : Meaning
-  pub showed : Showed s shown told 0 after
+  pub showed : Showed s shown a.told 0 before
+  pub shows : Showed s shown told 0 after
   pub step : Reads before after (key.Meta p q) result
+  pub now : b ≡ record a { told = told }
 
--- a query is asked, where none is being asked: the next asking begins with no partition routed
+-- a query is asked, where none is being asked: the next asking begins with no partition routed, by all that was shown so
+-- far
 pub record BeginsToAsk (n : Names) (shown : Shown) (a : Replayed) (query asking told : ℕ) (b : Replayed) : Type 0 where
   pub closed : a.current ≡ None
   pub text : Query
   pub is : slice_get n.queries query ≡ Some text
   pub number : asking ≡ a.askings
+  pub same : told ≡ a.told
   pub before : Meaning
-  pub showed : Showed (starting_of n.setup) shown told 0 before
+  pub showed : Showed (starting_of n.setup) shown a.told 0 before
   pub now :
-      b ≡ record {
+      b ≡ record a {
         current = Some (record { opened = opened query asking (first_asking text n.setup); began = before.seen });
         askings = a.askings + 1;
-        mids = a.mids;
-        answers = a.answers;
       }
 
 -- the asking goes on, and nothing else changes
@@ -70,12 +72,13 @@ pub record RoutesOne (s : Starting) (shown : Shown) (a : Replayed) (p : Partitio
   pub after : Meaning
   pub begins : Begins s before.seen
   pub since : IsFront current.began before.seen
-  pub showed : Showed s shown told 0 after
+  pub showed : Showed s shown a.told 0 before
+  pub shows : Showed s shown told 0 after
   pub asked : Asking
   pub step : Routes before after current.opened.asked p asked result
   -- the store meets no fault
   pub met : result ≡ Err StoreFault → ⊥
-  pub now : b ≡ going_on a current asked
+  pub now : b ≡ record (going_on a current asked) { told = told }
 
 -- what a server gave for a piece in this asking is noted; where memory is refused it isn't
 pub record NotesOne (sight : Sight) (a : Replayed) (piece : Piece) (from : Instance) (got : PieceGot) (b : Replayed) : Type 0 where
@@ -99,9 +102,12 @@ answered o answer =
       answer = answer;
     }
 
--- an answer ends its asking
+-- an answer ends its asking; a first one is that to the first asking of its query
 abbrev pub Closes : List (Partition × Range) → Replayed → Answered → AnswerKept → Replayed → Type 0
-Closes whole a x First b = (x.query ≡ length a.mids) × (b ≡ record a { current = None; mids = a.mids ++ x ∷ [] })
+Closes whole a x First b =
+    (x.query ≡ length a.mids)
+    × (x.asking ≡ x.query)
+    × (b ≡ record a { current = None; mids = a.mids ++ x ∷ [] })
 Closes whole a x Last b =
     (x.query ≡ length a.answers)
     × IsWhole whole x.answer
@@ -116,7 +122,7 @@ pub record AnswersOne (whole : List (Partition × Range)) (a : Replayed) (kept :
   pub closes : Closes whole a (answered current answer) kept b
 
 abbrev pub BrokerStep : Names → List (Partition × Range) → Sight → Replayed → BrokerDid → Replayed → Type 0
-BrokerStep n whole v a (did.Looked p q told result) b = (b ≡ a) × LooksAt (starting_of n.setup) v.store p q told result
+BrokerStep n whole v a (did.Looked p q told result) b = LooksAt (starting_of n.setup) v.store a p q told result b
 BrokerStep n whole v a (did.Asked query asking told) b = BeginsToAsk n v.store a query asking told b
 BrokerStep n whole v a (did.Routed p told result) b = RoutesOne (starting_of n.setup) v.store a p told result b
 BrokerStep n whole v a (did.Noted piece from got) b = NotesOne v a piece from got b

@@ -1,3 +1,4 @@
+ghost use Rattle.std.specs.Prelude.{◌≡◌, []};
 ghost use Rattle.rt_live_broker.specs.Acting.{IsEndedBroker, IsOfCluster, IsQuiet};
 ghost use Rattle.rt_live_broker.specs.Feeds.{AreFeeds};
 ghost use Rattle.rt_live_names.specs.Fronts.{fronts};
@@ -68,7 +69,7 @@ impl<R, J: Naming, K: Cluster> Model for Acting<R, J, K> {
 }
 
 impl<R: Copy, J: Naming, K: Cluster> Acting<R, J, K> {
-    /// A broker that has asked nothing yet.
+    /// A broker that has asked nothing yet, of a caller that has seen nothing of the store.
     pub(crate) fn of(
         alloc: Global,
         caller: Caller<R, J>,
@@ -77,6 +78,7 @@ impl<R: Copy, J: Naming, K: Cluster> Acting<R, J, K> {
     ) -> Result<Acting<R, J, K>, AllocError>
         requires cluster { IsOfCluster J.starting K.names asks }
         requires quiet { IsQuiet K.names (fronts caller.store caller.deep caller.stream) }
+        requires unseen { caller.store.seen ≡ [] }
         requires feeds { AreFeeds K.names feeds.items }
     {
         Ok(Acting {

@@ -1,5 +1,5 @@
-ghost use Rattle.std.specs.Prelude.{◌≡◌, IfOk, None, OnErr, Some};
-ghost use Rattle.rt_live_broker.specs.Asks.{Keeps, answers_of};
+ghost use Rattle.std.specs.Prelude.{◌≡◌, IfOk, IsTrue, None, OnErr, Some};
+ghost use Rattle.rt_live_broker.specs.Asks.{IsNext, Keeps, answers_of};
 
 use crate::acting::Acting;
 use crate::asks::Asks;
@@ -62,9 +62,12 @@ impl<R: Wait + Copy, J: Naming, K: Cluster> Acting<R, J, K> {
         segment
     }
 
-    /// Begins to ask a query, by its place in the input.
+    /// Begins to ask a query, by its place in the input. While one has no first answer, that is the next of these.
     pub(crate) fn begin(&mut self, alloc: Global, at: u32) -> Result<bool, AllocError> {
         if !self.diary.has_room() || self.current.is_some() || self.askings == u64::MAX {
+            return Ok(false);
+        }
+        if !is_next(&self.asks, &self.mids, at) {
             return Ok(false);
         }
         let Some(query) = self.asks.queries.get(at as usize) else {
@@ -228,6 +231,14 @@ fn end(slot: &mut Option<Begun>)
     *slot = None;
 }
 
+// Whether the query at this place may be asked: while one has no first answer, the next of these alone.
+fn is_next(asks: &Asks, mids: &Items<Answer>, at: u32) -> bool
+    ensures { IsTrue result → IsNext asks.now mids.now at }
+{
+    let is_first_round = asks.journal && mids.len() < asks.queries.len();
+    !is_first_round || at as usize == mids.len()
+}
+
 // Keeps an answer to the query at this place: as its first one in the first round, and then as that which is printed,
 // where it leaves nothing out; else it is let go.
 fn keep(
@@ -237,16 +248,16 @@ fn keep(
     mids: &mut Items<Answer>,
     answers: &mut Items<Answer>,
 ) -> Result<AnswerKept, AllocError>
+    requires { IsNext asks.now mids.old query }
     ensures kept { IfOk result (λ kept. Keeps asks.now query answer kept
         (answers_of mids.old answers.old) (answers_of mids.new answers.new)) }
     ensures none { OnErr result (answers_of mids.new answers.new ≡ answers_of mids.old answers.old) }
 {
-    let is_first_round = asks.journal && mids.len() < asks.queries.len();
-    if is_first_round && query as usize == mids.len() {
+    if asks.journal && mids.len() < asks.queries.len() {
         mids.push(answer)?;
         return Ok(AnswerKept::First);
     }
-    if !is_first_round && query as usize == answers.len() && asks.is_whole(&answer) {
+    if query as usize == answers.len() && asks.is_whole(&answer) {
         answers.push(answer)?;
         return Ok(AnswerKept::Last);
     }

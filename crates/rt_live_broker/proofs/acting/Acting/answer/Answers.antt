@@ -1,7 +1,11 @@
-use Rattle.std.proofs.Common.{subst}
-use Rattle.rt_live_broker.specs.Asks.{Keeps, Opened, answers_of}
-use Rattle.rt_live_broker.proofs.Acts.{answers}
+use Rattle.std.proofs.Common.{subst, sym}
+use Rattle.rt_live_broker.specs.Asks.{IsNext, Keeps, Opened, answers_of}
+use Rattle.rt_live_broker.proofs.Acts.{answers, asks_next}
 use Rattle.rt_live_broker.proofs.acting.Acting.answer.Goals as goal
+
+pub keep-requires : goal.keep-requires
+keep-requires g c =
+    subst (λ (o : Opened). IsNext c.self.inside.asks c.self.inside.mids o.query) (sym c.begun.view_is) (asks_next _ _ _ _ c.self.invariant c.in-Some.is)
 
 pub invariant_of-self-2 : goal.invariant_of-self-2
 invariant_of-self-2 g c =

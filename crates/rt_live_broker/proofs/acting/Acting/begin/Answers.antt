@@ -13,5 +13,5 @@ invariant_of-self g c =
     let text = c.in_ok-asked.ensures.value ∙ ap (λ (q : Query). asking q c.self.inside.asks.setup) c.in_ok-copied.ensures in
     let begun = c.of.ensures ∙ ap (λ (a : Asking). opened c.args.at c.self.inside.askings a) text in
     begins _ _ _ c.args.at c.self.inside.askings c.told-told.result c.in-Some.query.now c.start.new.slot _ c.note.new.diary c.self.invariant
-    closed c.in-Some.ensures.some refl (c.told-told.ensures ∙ ap (λ (k : Known Seen). length k.seen) c.front.ensures)
+    closed (c.if-not-is_next.ensures refl) c.in-Some.ensures.some refl (c.told-told.ensures ∙ ap (λ (k : Known Seen). length k.seen) c.front.ensures)
     (c.start.ensures ∙ ap (λ (o : Opened). Some o) begun) refl c.note.ensures
