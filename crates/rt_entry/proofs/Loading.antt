@@ -25,6 +25,7 @@ use Rattle.rt_deep.specs.Meaning.{Meaning}
 use Rattle.rt_entry.specs.declared.entry.CommittedSegment.{CommittedSegment}
 use Rattle.rt_entry.specs.declared.refused.ServerRefused.{ServerRefused}
 use Rattle.rt_entry.specs.declared.refused.ServerRefused.TheVariants.{NotDue, StoreFault, BadFile, Memory}
+use Rattle.rt_entry.specs.Calls.{MayRunOut}
 use Rattle.rt_entry.specs.Download.{LoadsFile, LoadsOf, checked, got, header_by, is_right, loaded_by, same_header}
 use Rattle.rt_entry.specs.Loading.{IsGot, Loads, LoadsBy, LoadsDone, decoded_as}
 use Rattle.rt_entry.specs.Entry.{commit_in, wanted_by}
@@ -35,13 +36,22 @@ same_got step other result e h = subst (λ x. IsGot x result) (sym e) h
 abbrev no_memory : Result SealedSegment ServerRefused
 no_memory = Err Memory
 
+-- memory may run out while bytes are read, whatever is in them
+right_may : (schema : Schema) (wanted : Header) (file : SealedSegment) (right : Bool) → is_right schema wanted file ≡ right → MayRunOut (checked schema wanted (Ok file))
+right_may schema wanted file true e = rw e tt
+right_may schema wanted file false e = rw e tt
+
+checked_may : (schema : Schema) (wanted : Header) (read : Result SealedSegment SegmentRefused) → MayRunOut (checked schema wanted read)
+checked_may schema wanted (Ok file) = right_may schema wanted file (is_right schema wanted file) refl
+checked_may schema wanted (Err e) = tt
+
 -- where memory ran out, nothing else can have come of it
-ran_out : (step result : Result SealedSegment ServerRefused) → IsGot no_memory result → IsGot step result
-ran_out step (Ok file) h = absurd (cc)
-ran_out step (Err NotDue) h = absurd (cc)
-ran_out step (Err StoreFault) h = absurd (cc)
-ran_out step (Err (BadFile wanted found)) h = absurd (cc)
-ran_out step (Err Memory) h = tt
+ran_out : (step result : Result SealedSegment ServerRefused) → MayRunOut step → IsGot no_memory result → IsGot step result
+ran_out step (Ok file) m h = absurd (cc)
+ran_out step (Err NotDue) m h = absurd (cc)
+ran_out step (Err StoreFault) m h = absurd (cc)
+ran_out step (Err (BadFile wanted found)) m h = absurd (cc)
+ran_out step (Err Memory) m h = m
 
 -- what is got of decoded bytes is what is got of the bytes, unless memory ran out
 pub decoded_is : (schema : Schema) (wanted : Header) (decoded read : Result SealedSegment SegmentRefused) (result : Result SealedSegment ServerRefused)
@@ -52,7 +62,7 @@ decoded_is schema wanted (Err segment.Magic) read result e h = same_got (decoded
 decoded_is schema wanted (Err (segment.NotCanonical byte)) read result e h = same_got (decoded_as schema wanted (Err (segment.NotCanonical byte))) (checked schema wanted read) result (ap (checked schema wanted) e) h
 decoded_is schema wanted (Err segment.Digest) read result e h = same_got (decoded_as schema wanted (Err segment.Digest)) (checked schema wanted read) result (ap (checked schema wanted) e) h
 decoded_is schema wanted (Err segment.Limit) read result e h = same_got (decoded_as schema wanted (Err segment.Limit)) (checked schema wanted read) result (ap (checked schema wanted) e) h
-decoded_is schema wanted (Err segment.Memory) read result e h = ran_out (checked schema wanted read) result h
+decoded_is schema wanted (Err segment.Memory) read result e h = ran_out (checked schema wanted read) result (checked_may schema wanted read) h
 
 abbrev the_loaded : SealedSegment → Result SealedSegment ServerRefused
 the_loaded file = Ok file
@@ -98,13 +108,21 @@ loads_ok before after schema p q old file none h =
 same_refusal : (e x : ServerRefused) → refuse SealedSegment e ≡ refuse SealedSegment x → refuse ℕ e ≡ refuse ℕ x
 same_refusal e x h = cc
 
+-- a wanted file that may run out of memory, may so as it is loaded
+loaded_may : (old : CommittedSegment) (g : Result SealedSegment ServerRefused) → MayRunOut g → MayRunOut (loaded_by old g)
+loaded_may old (Ok file) m = tt
+loaded_may old (Err NotDue) m = m
+loaded_may old (Err StoreFault) m = m
+loaded_may old (Err (BadFile wanted found)) m = tt
+loaded_may old (Err Memory) m = tt
+
 loads_err_by : (before after : Meaning) (schema : Schema) (p : Partition) (q : Sequence) (old : CommittedSegment) (e : ServerRefused) (o : Option Commit)
     → LoadsBy o before after schema p q old.done (Err e) → LoadsOf o before after schema p q old old (Err e)
 loads_err_by before after schema p q old e None h = (h.0, same_refusal e NotDue h.1, refl)
 loads_err_by before after schema p q old NotDue (Some commit) h = (h.0, h.1, (ap (loaded_by old) h.2, refl))
 loads_err_by before after schema p q old StoreFault (Some commit) h = (h.0, h.1, (ap (loaded_by old) h.2, refl))
 loads_err_by before after schema p q old (BadFile wanted found) (Some commit) h = (h.0, h.1, (ap (loaded_by old) h.2, refl))
-loads_err_by before after schema p q old Memory (Some commit) h = (h.0, h.1, refl)
+loads_err_by before after schema p q old Memory (Some commit) h = (h.0, h.1, (loaded_may old (got schema (header_by p q old.done commit) h.0) h.2, refl))
 
 pub loads_err : (before after : Meaning) (schema : Schema) (p : Partition) (q : Sequence) (old : CommittedSegment) (e : ServerRefused)
     → is_some old.file ≡ false → LoadsDone before after schema p q old.done (Err e)
@@ -177,7 +195,7 @@ loads_fit before after schema p q old new (Ok rows) (Some commit) h fits =
 loads_fit before after schema p q old new (Err NotDue) (Some commit) h fits = subst (FitsSchema schema) (sym h.2.1) fits
 loads_fit before after schema p q old new (Err StoreFault) (Some commit) h fits = subst (FitsSchema schema) (sym h.2.1) fits
 loads_fit before after schema p q old new (Err (BadFile wanted found)) (Some commit) h fits = subst (FitsSchema schema) (sym h.2.1) fits
-loads_fit before after schema p q old new (Err Memory) (Some commit) h fits = subst (FitsSchema schema) (sym h.2) fits
+loads_fit before after schema p q old new (Err Memory) (Some commit) h fits = subst (FitsSchema schema) (sym h.2.1) fits
 
 -- ---- what is loaded is what was read
 

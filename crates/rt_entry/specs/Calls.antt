@@ -16,10 +16,18 @@ use Rattle.rt_consumer.specs.Consumer.{cur}
 abbrev pub Step : Type 0 → Type 0 → Type 0
 Step S X = Result (X × S) ServerRefused
 
+-- what a call comes to where memory may run out before it is answered so; a fault of a store is answered at once
+abbrev pub MayRunOut : {X : Type 0} → Result X ServerRefused → Type 0
+MayRunOut (Ok x) = Unit {0}
+MayRunOut (Err NotDue) = ⊥
+MayRunOut (Err StoreFault) = ⊥
+MayRunOut (Err (BadFile wanted found)) = Unit {0}
+MayRunOut (Err Memory) = Unit {0}
+
 -- the call comes to this, but that memory may run out; a refused call changes nothing
 abbrev pub Comes : {S X : Type 0} → Step S X → S → S → Result X ServerRefused → Type 0
 Comes step old new (Ok x) = step ≡ Ok (x, new)
-Comes step old new (Err Memory) = new ≡ old
+Comes step old new (Err Memory) = MayRunOut step × (new ≡ old)
 Comes step old new (Err NotDue) = (step ≡ Err NotDue) × (new ≡ old)
 Comes step old new (Err StoreFault) = (step ≡ Err StoreFault) × (new ≡ old)
 Comes step old new (Err (BadFile wanted found)) = (step ≡ Err (BadFile wanted found)) × (new ≡ old)

@@ -18,6 +18,7 @@ use Rattle.rt_entry.specs.declared.entry.Entry.TheVariants.{Replica, Committed}
 use Rattle.rt_entry.specs.declared.refused.ServerRefused.{ServerRefused}
 use Rattle.rt_entry.specs.declared.refused.ServerRefused.TheVariants.{NotDue, StoreFault, BadFile, Memory}
 use Rattle.rt_entry.specs.Download.{LoadsFile, checked, got, header_by}
+use Rattle.rt_entry.specs.Calls.{MayRunOut}
 use Rattle.rt_entry.specs.Entry.{commit_in}
 
 -- what was decoded, unless memory ran out
@@ -35,7 +36,7 @@ IsGot step (Ok file) = step ≡ Ok file
 IsGot step (Err NotDue) = step ≡ Err NotDue
 IsGot step (Err StoreFault) = step ≡ Err StoreFault
 IsGot step (Err (BadFile wanted found)) = step ≡ Err (BadFile wanted found)
-IsGot step (Err Memory) = Unit {0}
+IsGot step (Err Memory) = MayRunOut step
 
 abbrev pub Loads : Meaning → Meaning → List ℕ → Schema → Header → Result SealedSegment ServerRefused → Type 0
 Loads before after path schema wanted result =

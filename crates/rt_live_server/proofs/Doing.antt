@@ -174,7 +174,7 @@ anew_instance old (Err e) = refl
 same_instance : (old new : ServerState) (answer : Result ℕ ServerRefused) (result : Result ℕ ServerRefused) → Comes (restarted_in old answer) old new result
     → new.numbers.instance ≡ old.numbers.instance
 same_instance old new answer (Ok x) h = sym (ap (instance_in old) h) ∙ anew_instance old answer
-same_instance old new answer (Err Memory) h = ap (λ (x : ServerState). x.numbers.instance) h
+same_instance old new answer (Err Memory) h = ap (λ (x : ServerState). x.numbers.instance) h.1
 same_instance old new answer (Err NotDue) h = ap (λ (x : ServerState). x.numbers.instance) h.1
 same_instance old new answer (Err StoreFault) h = ap (λ (x : ServerState). x.numbers.instance) h.1
 same_instance old new answer (Err (BadFile wanted found)) h = ap (λ (x : ServerState). x.numbers.instance) h.1
@@ -183,7 +183,7 @@ same_instance old new answer (Err (BadFile wanted found)) h = ap (λ (x : Server
 stays_empty : (old new : ServerState) (answer : Result ℕ ServerRefused) (result : Result ℕ ServerRefused) → Comes (restarted_in old answer) old new result
     → IsEmpty old → is_ok result ≡ false → IsEmpty new
 stays_empty old new answer (Ok x) h empty isnt = absurd (false≢true (sym isnt))
-stays_empty old new answer (Err Memory) h empty isnt = ap (λ (x : ServerState). x.table) h ∙ empty
+stays_empty old new answer (Err Memory) h empty isnt = ap (λ (x : ServerState). x.table) h.1 ∙ empty
 stays_empty old new answer (Err NotDue) h empty isnt = ap (λ (x : ServerState). x.table) h.1 ∙ empty
 stays_empty old new answer (Err StoreFault) h empty isnt = ap (λ (x : ServerState). x.table) h.1 ∙ empty
 stays_empty old new answer (Err (BadFile wanted found)) h empty isnt = ap (λ (x : ServerState). x.table) h.1 ∙ empty

@@ -249,7 +249,7 @@ module _ (setup : Setup) (past : Past) (before after : Meaning) (right : IsPast 
   comes_with commit stored status next (Err NotDue) g are h = subst (IsCommittedOver setup past i p q) (sym h.1) k
   comes_with commit stored status next (Err StoreFault) g are h = subst (IsCommittedOver setup past i p q) (sym h.1) k
   comes_with commit stored status next (Err (BadFile wanted found)) g are h = subst (IsCommittedOver setup past i p q) (sym h.1) k
-  comes_with commit stored status next (Err Memory) g are h = subst (IsCommittedOver setup past i p q) (sym h) k
+  comes_with commit stored status next (Err Memory) g are h = subst (IsCommittedOver setup past i p q) (sym h.1) k
 
   loads_over : (o : Option Commit) → wanted_by c.file c.done.meta.status ≡ o → (next : CommittedSegment) (result : Result ℕ ServerRefused)
       → LoadsOf o before after setup.schema p q c next result → IsCommittedOver setup past i p q next

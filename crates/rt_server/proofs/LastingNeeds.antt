@@ -101,7 +101,7 @@ module _ (setup : Setup) (past : Past) (before after : Meaning) (old new : Serve
   by_answer (Err NotDue) answer c step = subst (λ (x : ServerState). AreDrawn ms x.numbers) (sym step.1) drawn
   by_answer (Err StoreFault) answer c step = subst (λ (x : ServerState). AreDrawn ms x.numbers) (sym step.1) drawn
   by_answer (Err (BadFile wanted found)) answer c step = subst (λ (x : ServerState). AreDrawn ms x.numbers) (sym step.1) drawn
-  by_answer (Err Memory) answer c step = subst (λ (x : ServerState). AreDrawn ms x.numbers) (sym step) drawn
+  by_answer (Err Memory) answer c step = subst (λ (x : ServerState). AreDrawn ms x.numbers) (sym step.1) drawn
 
   pub restarts_drawn : (result : Result ℕ ServerRefused) → Restarts before after old new result → AreDrawn ms new.numbers
   restarts_drawn result h = by_answer result h.0 h.1 h.2

@@ -85,7 +85,7 @@ comes_keep P s new step (Ok x) k goes h = goes x h
 comes_keep P s new step (Err NotDue) k goes h = subst P (sym h.1) k
 comes_keep P s new step (Err StoreFault) k goes h = subst P (sym h.1) k
 comes_keep P s new step (Err (BadFile wanted found)) k goes h = subst P (sym h.1) k
-comes_keep P s new step (Err Memory) k goes h = subst P (sym h) k
+comes_keep P s new step (Err Memory) k goes h = subst P (sym h.1) k
 
 -- what lasts is kept, and no number is made
 abbrev pub Keeps : Setup → Past → ServerState → ServerState → Type 0

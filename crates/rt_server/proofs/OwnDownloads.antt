@@ -90,7 +90,7 @@ module _ (setup : Setup) (view : Past) (before after : Meaning) (shown : view.fi
   comes_with commit status answer gets next (Err NotDue) h = subst (IsOwnCommitted setup view i p q) (sym h.1) k
   comes_with commit status answer gets next (Err StoreFault) h = subst (IsOwnCommitted setup view i p q) (sym h.1) k
   comes_with commit status answer gets next (Err (BadFile wanted found)) h = subst (IsOwnCommitted setup view i p q) (sym h.1) k
-  comes_with commit status answer gets next (Err Memory) h = subst (IsOwnCommitted setup view i p q) (sym h) k
+  comes_with commit status answer gets next (Err Memory) h = subst (IsOwnCommitted setup view i p q) (sym h.1) k
 
   loads_own : (o : Option Commit) → wanted_by c.file c.done.meta.status ≡ o → (next : CommittedSegment) (result : Result ℕ ServerRefused)
       → LoadsOf o before after setup.schema p q c next result → IsOwnCommitted setup view i p q next

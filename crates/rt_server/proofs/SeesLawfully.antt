@@ -29,7 +29,7 @@ setup_in old (Err e) = old.setup
 comes_setup : {X : Type 0} (step : Step ServerState X) (old new : ServerState) (result : Result X ServerRefused)
     → setup_in old step ≡ old.setup → Comes step old new result → new.setup ≡ old.setup
 comes_setup {X = X} step old new (Ok x) same h = sym (ap (λ (t : Step ServerState X). setup_in old t) h) ∙ same
-comes_setup step old new (Err Memory) same h = ap (λ (x : ServerState). x.setup) h
+comes_setup step old new (Err Memory) same h = ap (λ (x : ServerState). x.setup) h.1
 comes_setup step old new (Err NotDue) same h = ap (λ (x : ServerState). x.setup) h.1
 comes_setup step old new (Err StoreFault) same h = ap (λ (x : ServerState). x.setup) h.1
 comes_setup step old new (Err (BadFile wanted found)) same h = ap (λ (x : ServerState). x.setup) h.1

@@ -16,7 +16,7 @@ use Rattle.rt_store.specs.Calls.{Bumps, Reads}
 use Rattle.rt_store.specs.Meaning.{Meaning}
 use Rattle.rt_entry.specs.declared.refused.ServerRefused.{ServerRefused}
 use Rattle.rt_entry.specs.declared.refused.ServerRefused.TheVariants.{NotDue, StoreFault, BadFile, Memory}
-use Rattle.rt_entry.specs.Calls.{Comes, Step}
+use Rattle.rt_entry.specs.Calls.{Comes, MayRunOut, Step}
 use Rattle.rt_server.specs.Calls.{RanOut, Restarts, WroteNothing, SeesIdeal, Transits, TransitsIf, TransitsTo, answered_by, in_incarnation, restarted_in, seen_in, stepped_by, targets_of, with_targets}
 use Rattle.rt_server.specs.Table.{Segments, ServerState, target_of, with_table}
 use Rattle.rt_entry.specs.Transition.{metadata_in}
@@ -30,7 +30,7 @@ refuses : {S X : Type 0} (step : Step S X) (s : S) (e : ServerRefused) → step 
 refuses step s NotDue e = (e, refl)
 refuses step s StoreFault e = (e, refl)
 refuses step s (BadFile wanted found) e = (e, refl)
-refuses step s Memory e = refl
+refuses step s Memory e = (subst MayRunOut (sym e) tt, refl)
 
 -- ---- transitions
 
@@ -77,11 +77,12 @@ transits_refused before after s p q now mode answer e due target reads told =
     due_to before after s s p q now (Err e) (Some mode) due target
     (answer, reads, refuses (stepped_by s (transited s.setup s.table p q now mode answer)) s e (ap (λ m. stepped_by s (moved_if s.setup s.table p q now mode m)) told))
 
-pub transits_memory : (before after : Meaning) (s : ServerState) (p : Partition) (q : Sequence) (now : Moment) (mode : Mode) (answer : Result Seen StoreRefused)
-    → transit_due s.table p q ≡ true → target_of s.table p q ≡ Some mode → Reads before after (key.Meta p q) answer
+pub transits_memory : (before after : Meaning) (s : ServerState) (p : Partition) (q : Sequence) (now : Moment) (mode : Mode) (answer : Result Seen StoreRefused) (seen : Option SeenMeta)
+    → transit_due s.table p q ≡ true → target_of s.table p q ≡ Some mode → Reads before after (key.Meta p q) answer → metadata_in answer ≡ Ok seen
     → Transits before after s s p q now (Err Memory)
-transits_memory before after s p q now mode answer due target reads =
-    due_to before after s s p q now (Err Memory) (Some mode) due target (answer, reads, refl)
+transits_memory before after s p q now mode answer seen due target reads told =
+    due_to before after s s p q now (Err Memory) (Some mode) due target
+    (answer, reads, (subst (λ m. MayRunOut (stepped_by s (moved_if s.setup s.table p q now mode m))) (sym told) tt, refl))
 
 -- ---- the ideal state, and a restart
 
@@ -94,9 +95,9 @@ pub sees_refused : (before after : Meaning) (s : ServerState) (answer : Result S
     → Reads before after key.Ideal answer → answered_by answer ≡ Err e → SeesIdeal before after s s (Err e)
 sees_refused before after s answer e reads told = (answer, reads, refuses (seen_in s (answered_by answer)) s e (ap (seen_in s) told))
 
-pub sees_memory : (before after : Meaning) (s : ServerState) (answer : Result Seen StoreRefused)
-    → Reads before after key.Ideal answer → SeesIdeal before after s s (Err Memory)
-sees_memory before after s answer reads = (answer, reads, refl)
+pub sees_memory : (before after : Meaning) (s : ServerState) (answer : Result Seen StoreRefused) (seen : Seen)
+    → Reads before after key.Ideal answer → answered_by answer ≡ Ok seen → SeesIdeal before after s s (Err Memory)
+sees_memory before after s answer seen reads told = (answer, reads, (subst (λ a. MayRunOut (seen_in s a)) (sym told) tt, refl))
 
 pub restarts_ok : (before after : Meaning) (s : ServerState) (answer : Result ℕ StoreRefused) (version : ℕ)
     → Bumps before after s.numbers.instance answer → answered_by answer ≡ Ok version

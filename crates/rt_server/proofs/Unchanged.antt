@@ -106,7 +106,7 @@ comes_refused : {S X : Type 0} (step : Step S X) (old new : S) (e : ServerRefuse
 comes_refused step old new server.NotDue h = h.1
 comes_refused step old new server.StoreFault h = h.1
 comes_refused step old new (server.BadFile wanted found) h = h.1
-comes_refused step old new server.Memory h = h
+comes_refused step old new server.Memory h = h.1
 
 pub sees_stay : (before after : Meaning) (old new : ServerState) (e : ServerRefused) → SeesIdeal before after old new (Err e) → new ≡ old
 sees_stay before after old new e h = comes_refused _ old new e h.2

@@ -77,7 +77,7 @@ restarted_same : (before after : Meaning) (old new : ServerState) (answer : Resu
 restarted_same before after old new (Ok version) (r, b, e, w) =
     let c = came old new _ version e in
     record { instance = ap (λ (s : ServerState). s.numbers.instance) c.3; table = ap (λ (s : ServerState). s.table) c.3 }
-restarted_same before after old new (Err Memory) (r, b, e, w) = all_same old new e
+restarted_same before after old new (Err Memory) (r, b, e, w) = all_same old new e.1
 restarted_same before after old new (Err NotDue) (r, b, e, w) = all_same old new e.1
 restarted_same before after old new (Err StoreFault) (r, b, e, w) = all_same old new e.1
 restarted_same before after old new (Err (BadFile wanted found)) (r, b, e, w) = all_same old new e.1
