@@ -1,5 +1,4 @@
 //! The nodes of a cluster run, each in a thread of its own.
-use crate::nodes::Nodes;
 use crate::run::run;
 use crate::server_turns::ServerTurns;
 use rt_base::{Clock, Gate};
@@ -7,6 +6,7 @@ use rt_ground::Naming;
 use rt_live_broker::BrokerSeat;
 use rt_live_controller::{ControllerSeat, RepairerSeat};
 use rt_live_names::{Cluster, Ends};
+use rt_live_nodes::Nodes;
 use rt_live_producer::ProducerSeat;
 use rt_live_server::ServerSeat;
 use std::alloc::Global;
