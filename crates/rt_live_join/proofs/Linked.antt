@@ -19,7 +19,7 @@ use Rattle.rt_live_server.specs.Acting.{part_of as server_part}
 use Rattle.rt_live_server.specs.Did.{envelopes_in, envelopes_of, replies_in, replies_of}
 use Rattle.rt_live_server.specs.Seat.{SeatNow}
 use Rattle.rt_live_server.specs.declared.did.ServerDid.{ServerDid}
-use Rattle.rt_live_server.specs.declared.did.ServerDid.TheVariants.{Took, Passed, Saw, Moved, Loaded, Consumed, Forced}
+use Rattle.rt_live_server.specs.declared.did.ServerDid.TheVariants.{Took, Passed, Saw, Moved, Loaded, Measured, Consumed, Forced}
 use Rattle.rt_live_server.specs.declared.did.ServerDid.TheVariants.{Built, Asked, Gave, Crashed, Restarted}
 use Rattle.rt_model.specs.Starting.{Starting}
 use Rattle.rt_model.specs.declared.reply.Reply.{Reply}
@@ -39,6 +39,7 @@ reply_in (Passed envelope) r h = absurd h
 reply_in (Saw told result) r h = absurd h
 reply_in (Moved p q now told result) r h = absurd h
 reply_in (Loaded p q told result) r h = absurd h
+reply_in (Measured p told result) r h = absurd h
 reply_in (Consumed p q max now told result) r h = absurd h
 reply_in (Forced p q result) r h = absurd h
 reply_in (Built p q result) r h = absurd h

@@ -1,5 +1,5 @@
 -- A server that acts does one thing more, and keeps all that it can say by itself.
-use Rattle.std.proofs.Common.{◌≡◌, ◌∙◌, ap, sym, subst, refl, false, List, [], ◌∷◌, ◌++◌, All, length, map}
+use Rattle.std.proofs.Common.{◌≡◌, ◌∙◌, ap, sym, subst, refl, false, List, [], ◌∷◌, ◌++◌, All, map}
 use Rattle.std.proofs.lemmas.List.Elements.{All-append, All-same, All-weaker}
 use Rattle.rt_base.specs.declared.numbers.Instance.{Instance}
 use Rattle.rt_deep.specs.Files.{AreOnce}
@@ -8,7 +8,6 @@ use Rattle.rt_ground.specs.StoreCalls.{seen_by}
 use Rattle.rt_ground.specs.StreamCalls.{sent_to}
 use Rattle.rt_ground.specs.declared.appended.Appended.{Appended}
 use Rattle.rt_ground.proofs.Streams.{length_log}
-use Rattle.rt_lists.proofs.Members.{front_same}
 use Rattle.rt_live_names.specs.Fronts.{AreOfCaller, Fronts, own_files, own_messages, own_writes, server_caller}
 use Rattle.rt_live_names.specs.Names.{Names}
 use Rattle.rt_live_names.specs.Quiet.{AreUndone}
@@ -17,7 +16,6 @@ use Rattle.rt_live_names.specs.ServerPart.{IsGivenOver, IsServerPart, server_vie
 use Rattle.rt_live_names.proofs.Replaying.{replays_as, replays_more}
 use Rattle.rt_model.specs.Lawful.{IsLawfulHistory}
 use Rattle.rt_model.specs.Starting.{Starting}
-use Rattle.rt_model.specs.declared.node.Seen.{Seen}
 use Rattle.rt_model.specs.declared.setup.Setup.{Setup}
 use Rattle.rt_past.specs.Past.{Past}
 use Rattle.rt_past.specs.View.{IsView, Within}
@@ -91,7 +89,7 @@ pub record DoesOne (n : Names) (s : Starting) (old new : ActingNow) (d : ServerD
   pub own : IsView n.setup (view_at n new) → IsOwnServer n.setup (view_at n new) old.server → OwnsAs n.setup (view_at n new) old.server new.server
   pub asks : IsOwnServer n.setup (view_at n new) old.server → All (IsOwnRequest n.setup (view_at n new)) (requests_in d)
   pub gives : IsOwnServer n.setup (view_at n new) old.server → All (IsGivenOver n (view_at n new)) (given_in d)
-  pub step : ServerStep n s (sights s new.fronts) (now_of old) d (now_of new)
+  pub step : ServerStep n s (sights s new.fronts) (now_of s old) d (now_of s new)
   pub down : (old.up ≡ false → IsEmpty old.server) → new.up ≡ false → IsEmpty new.server
 
 module _ (n : Names) (s : Starting) (old new : ActingNow) (d : ServerDid) (k : IsActing n s old) (does : DoesOne n s old new d) where
@@ -135,49 +133,14 @@ module _ (n : Names) (s : Starting) (old new : ActingNow) (d : ServerDid) (k : I
         appends = appends_kept n s k.starting old new does.sees does.number k.part;
       }
 
-  replays_kept : Replays (ServerStep n s (sights s new.fronts)) (first_now n.setup new.number) new.did (now_of new)
+  replays_kept : Replays (ServerStep n s (sights s new.fronts)) (first_now n.setup new.number) new.did (now_of s new)
   replays_kept =
       let step = ServerStep n s (sights s new.fronts) in
       let first = first_now n.setup old.number in
-      let before : Replays step first old.did (now_of old) =
-      replays_as (ServerStep n s (sights s old.fronts)) step first (now_of old) old.did (step_later n s (sights s old.fronts) (sights s new.fronts) does.sees.more) k.replays in
-      subst (λ i. Replays step (first_now n.setup i) new.did (now_of new)) (sym does.number)
-      (subst (λ (ds : List ServerDid). Replays step first ds (now_of new)) (sym does.did) (replays_more step first (now_of old) (now_of new) old.did d before does.step))
+      let before : Replays step first old.did (now_of s old) =
+      replays_as (ServerStep n s (sights s old.fronts)) step first (now_of s old) old.did (step_later n s (sights s old.fronts) (sights s new.fronts) does.sees.more) k.replays in
+      subst (λ i. Replays step (first_now n.setup i) new.did (now_of s new)) (sym does.number)
+      (subst (λ (ds : List ServerDid). Replays step first ds (now_of s new)) (sym does.did) (replays_more step first (now_of s old) (now_of s new) old.did d before does.step))
 
   pub acts : IsActing n s new
   acts = record { starting = k.starting; part = part_kept; replays = replays_kept; down = does.down k.down }
-
--- ---- nothing more, but that its fronts have seen more
-
--- what the fronts saw more, where nothing of the store was the caller's own
-pub record LooksOn (s : Starting) (old new : Fronts) : Type 0 where
-  pub sees : SeesOn s old new
-  pub wrote : own_writes new ≡ own_writes old
-
-abbrev pub with_fronts : ActingNow → Fronts → ActingNow
-with_fronts a f = record a { fronts = f }
-
-pub looks : (n : Names) (s : Starting) (a : ActingNow) (f : Fronts) → IsActing n s a → LooksOn s a.fronts f → IsActing n s (with_fronts a f)
-looks n s a f k on =
-    let new = with_fronts a f in
-    let within : Within (view_at n a) (view_at n new) =
-    view_within n s a.fronts f (requests_of a.did) (requests_of a.did) (replies_of a.did) (replies_of a.did) k.starting on.sees.more (front_same (requests_of a.did)) (front_same (replies_of a.did)) in
-    let step = ServerStep n s (sights s f) in
-    record {
-      starting = k.starting;
-      part = record {
-        caller = caller_kept n s k.starting a new on.sees refl k.part;
-        instance = k.part.instance;
-        view = view_kept n s k.starting a new on.sees refl k.part;
-        own = own_server_grows n.setup (view_at n a) (view_at n new) within a.server k.part.own;
-        asks = All-weaker (IsOwnRequest n.setup (view_at n a)) (IsOwnRequest n.setup (view_at n new)) (own_request_within n.setup (view_at n a) (view_at n new) within) (requests_of a.did) k.part.asks;
-        gives = All-weaker (IsGivenOver n (view_at n a)) (IsGivenOver n (view_at n new)) (given_within n (view_at n a) (view_at n new) within) (given_of a.did) k.part.gives;
-        undone = on.sees.undone k.part.undone;
-        puts = on.sees.puts ∙ k.part.puts;
-        appends = appends_kept n s k.starting a new on.sees refl k.part;
-      };
-      replays =
-          subst (λ (ws : List Seen). Replays step (first_now n.setup a.number) a.did (record { server = a.server; up = a.up; wrote = length ws })) (sym on.wrote)
-          (replays_as (ServerStep n s (sights s a.fronts)) step (first_now n.setup a.number) (now_of a) a.did (step_later n s (sights s a.fronts) (sights s f) on.sees.more) k.replays);
-      down = k.down;
-    }

@@ -5,6 +5,7 @@ use Rattle.std.proofs.lemmas.Bool.{false≢true}
 use Rattle.std.proofs.lemmas.List.Elements.{All-append, All-cons, All-nil, All-same}
 use Rattle.rt_base.specs.declared.numbers.Instance.{Instance}
 use Rattle.rt_base.specs.declared.numbers.Moment.{Moment}
+use Rattle.rt_base.specs.declared.numbers.Offset.{Offset}
 use Rattle.rt_base.specs.declared.numbers.Partition.{Partition}
 use Rattle.rt_base.specs.declared.numbers.Sequence.{Sequence}
 use Rattle.rt_broker.specs.declared.piece_given.PieceGiven.{PieceGiven}
@@ -61,17 +62,19 @@ use Rattle.rt_server.proofs.Unchanged.{asks_stay}
 use Rattle.rt_store.specs.Meaning.{Own}
 use Rattle.rt_store.proofs.Owning.{with_own}
 use Rattle.rt_store.proofs.Seeing.{write_grows, write_lawful}
+use Rattle.rt_stream.specs.Feed.{Measures}
+use Rattle.rt_stream.specs.declared.feed.FeedRefused.{FeedRefused}
 use Rattle.rt_stream.proofs.Growth.{log_same}
 use Rattle.rt_live_server.specs.Acting.{ActingNow, IsActing}
 use Rattle.rt_live_server.specs.Did.{replies_in, replies_of, requests_in, requests_of}
 use Rattle.rt_live_server.specs.Steps.{GivesBy, PassesBy}
 use Rattle.rt_live_server.specs.declared.did.ServerDid.{ServerDid}
-use Rattle.rt_live_server.specs.declared.did.ServerDid.TheVariants.{Took, Passed, Saw, Moved, Loaded, Consumed, Forced, Built, Asked, Gave, Crashed, Restarted}
-use Rattle.rt_live_server.proofs.Acts.{LooksOn, OwnsAs, SeesOn, acts, view_at}
+use Rattle.rt_live_server.specs.declared.did.ServerDid.TheVariants.{Took, Passed, Saw, Moved, Loaded, Measured, Consumed, Forced, Built, Asked, Gave, Crashed, Restarted}
+use Rattle.rt_live_server.proofs.Acts.{OwnsAs, SeesOn, acts, view_at}
 use Rattle.rt_live_server.proofs.Gathering.{gathered_then}
 use Rattle.rt_live_server.proofs.Growing.{asked_within, reply_sent, request_sent}
 use Rattle.rt_live_server.proofs.Showing.{DeepKeeps, FeedKeeps, bumps_undone, deep_own_same, downloads_keep, sees_same, shows_files, shows_messages, shows_read, shows_written, takes_keep, transits_same}
-use Rattle.rt_live_server.proofs.Stepping.{over_deep, over_store, over_stream}
+use Rattle.rt_live_server.proofs.Stepping.{over_deep, over_store, over_stream, with_deep, with_store, with_stream}
 
 -- ---- what the fronts see more
 
@@ -83,15 +86,6 @@ deep_same front = record { seen = front_same (deep_shown_by front).seen; numbers
 
 stream_same : (n : ℕ) (front : Known Appended) → StreamShowsMore (stream_shown_by n front) (stream_shown_by n front)
 stream_same n front = record { seen = log_same (stream_ground.seen_by n front); own = refl }
-
-abbrev pub with_store : Fronts → Known Seen → Fronts
-with_store f store = record f { store = store }
-
-abbrev pub with_deep : Fronts → Known DeepPut → Fronts
-with_deep f deep = record f { deep = deep }
-
-abbrev pub with_stream : Fronts → Known Appended → Fronts
-with_stream f stream = record f { stream = stream }
 
 no_more : (s : Starting) (f : Fronts) → SeesOn s f f
 no_more s f = record {
@@ -127,17 +121,14 @@ deep_more s f deep k = record {
   puts = ap (λ (o : DeepOwn). o.files) (deep_own_same f.deep deep k);
 }
 
-pub stream_more : (s : Starting) (f : Fronts) (stream : Known Appended) → FeedKeeps (stream_ground.shared_meaning s.partitions f.stream) (stream_ground.shared_meaning s.partitions stream)
-    → LooksOn s f (with_stream f stream)
+stream_more : (s : Starting) (f : Fronts) (stream : Known Appended) → FeedKeeps (stream_ground.shared_meaning s.partitions f.stream) (stream_ground.shared_meaning s.partitions stream)
+    → SeesOn s f (with_stream f stream)
 stream_more s f stream k = record {
-  sees = record {
-    more = record { store = store_same s f.store; deep = deep_same f.deep; stream = shows_messages s.partitions f.stream stream k };
-    lawful = λ l. l;
-    once = λ o. o;
-    undone = λ u. u;
-    puts = refl;
-  };
-  wrote = refl;
+  more = record { store = store_same s f.store; deep = deep_same f.deep; stream = shows_messages s.partitions f.stream stream k };
+  lawful = λ l. l;
+  once = λ o. o;
+  undone = λ u. u;
+  puts = refl;
 }
 
 -- ---- what becomes of one that acts
@@ -271,7 +262,7 @@ module _ (n : Names) (s : Starting) (a : ActingNow) (k : IsActing n s a) (did : 
               (kept.0, ap (λ (x : Numbered). x.instance) kept.1);
           asks = no_asks new;
           gives = no_gives new;
-          step = ((up, up), over_store s a.fronts.store store told (λ before after. SeesIdeal before after a.server server result) t sees.more.store h);
+          step = ((up, up), over_store s a.fronts store told (λ before after. SeesIdeal before after a.server server result) t sees.more.store h);
           down = λ empty isnt. stays_up a.up up isnt;
         })
 
@@ -294,7 +285,7 @@ module _ (n : Names) (s : Starting) (a : ActingNow) (k : IsActing n s a) (did : 
               (kept.0, ap (λ (x : Numbered). x.instance) kept.1);
           asks = no_asks new;
           gives = no_gives new;
-          step = ((up, up), over_store s a.fronts.store store told (λ before after. Transits before after a.server server p q now result) t sees.more.store h);
+          step = ((up, up), over_store s a.fronts store told (λ before after. Transits before after a.server server p q now result) t sees.more.store h);
           down = λ empty isnt. stays_up a.up up isnt;
         })
 
@@ -321,8 +312,8 @@ module _ (n : Names) (s : Starting) (a : ActingNow) (k : IsActing n s a) (did : 
         asks = no_asks new;
         gives = no_gives new;
         step = (
-          ((up, up), refl),
-          over_deep a.fronts.deep deep told (λ before after. Downloads before after a.server.setup.schema a.server.table server.table p q result) t sees.more.deep k.part.puts
+          (up, up),
+          over_deep s a.fronts deep told (λ before after. Downloads before after a.server.setup.schema a.server.table server.table p q result) t sees.more.deep k.part.puts
               (sees.puts ∙ k.part.puts) h,
           only,
         );
@@ -330,6 +321,25 @@ module _ (n : Names) (s : Starting) (a : ActingNow) (k : IsActing n s a) (did : 
       })
 
   -- ---- over the stream
+
+  pub measured : (stream : Known Appended) (told : ℕ) → told ≡ length stream.seen → (p : Partition) (result : Result Offset FeedRefused) → a.up ≡ true
+      → did ≡ a.did ++ Measured p told result ∷ []
+      → Measures (stream_ground.shared_meaning s.partitions a.fronts.stream) (stream_ground.shared_meaning s.partitions stream) p result
+      → IsActing n s (over_fronts a a.server (with_stream a.fronts stream) did)
+  measured stream told t p result up noted h =
+      let new = over_fronts a a.server (with_stream a.fronts stream) did in
+      let sees = stream_more s a.fronts stream (record { grows = h.grows; own = h.own }) in
+      acts n s a new (Measured p told result) k
+      (record {
+        number = refl;
+        did = noted;
+        sees = sees;
+        own = λ view own. (own, refl);
+        asks = no_asks new;
+        gives = no_gives new;
+        step = ((up, up), refl, over_stream s a.fronts stream told (λ before after. Measures before after p result) t sees.more.stream h);
+        down = λ empty isnt. stays_up a.up up isnt;
+      })
 
   pub consumed : (stream : Known Appended) (server : ServerState) (told : ℕ) → told ≡ length stream.seen
       → (p : Partition) (q : Sequence) (max : ℕ) (now : Moment) (result : Result (Unit {0}) ServerRefused) → a.up ≡ true → did ≡ a.did ++ Consumed p q max now told result ∷ []
@@ -339,12 +349,12 @@ module _ (n : Names) (s : Starting) (a : ActingNow) (k : IsActing n s a) (did : 
       let new = over_fronts a server (with_stream a.fronts stream) did in
       let before = stream_ground.shared_meaning s.partitions a.fronts.stream in
       let after = stream_ground.shared_meaning s.partitions stream in
-      let on = stream_more s a.fronts stream (takes_keep before after a.server.table server.table p q max now result h) in
+      let sees = stream_more s a.fronts stream (takes_keep before after a.server.table server.table p q max now result h) in
       acts n s a new (Consumed p q max now told result) k
       (record {
         number = refl;
         did = noted;
-        sees = on.sees;
+        sees = sees;
         own = λ view own. (
           takes_own n.setup (view_at n new) a.server server p q only own before after max now result (shown_stream new) h,
           ap (λ (x : Numbered). x.instance) only.1,
@@ -352,8 +362,8 @@ module _ (n : Names) (s : Starting) (a : ActingNow) (k : IsActing n s a) (did : 
         asks = no_asks new;
         gives = no_gives new;
         step = (
-          ((up, up), refl),
-          over_stream s.partitions a.fronts.stream stream told (λ before after. Takes before after a.server.table server.table p q max now result) t on.sees.more.stream h,
+          (up, up),
+          over_stream s a.fronts stream told (λ before after. Takes before after a.server.table server.table p q max now result) t sees.more.stream h,
           only,
         );
         down = λ empty isnt. stays_up a.up up isnt;
@@ -556,6 +566,6 @@ module _ (n : Names) (s : Starting) (a : ActingNow) (k : IsActing n s a) (did : 
         );
         asks = no_asks new;
         gives = no_gives new;
-        step = (isnt, is, over_store s a.fronts.store store told (λ before after. Restarts before after a.server server result) t shows h);
+        step = (isnt, is, over_store s a.fronts store told (λ before after. Restarts before after a.server server result) t shows h);
         down = λ empty off. stays_empty a.server server (answered_by h.0) result h.2 (empty isnt) (sym is ∙ off);
       })

@@ -19,7 +19,7 @@ use Rattle.rt_live_server.specs.Acting.{ActingNow}
 use Rattle.rt_live_server.specs.Did.{given_in, given_of}
 use Rattle.rt_live_server.specs.Steps.{GivesBy}
 use Rattle.rt_live_server.specs.declared.did.ServerDid.{ServerDid}
-use Rattle.rt_live_server.specs.declared.did.ServerDid.TheVariants.{Took, Passed, Saw, Moved, Loaded, Consumed, Forced, Built, Asked, Gave, Crashed, Restarted}
+use Rattle.rt_live_server.specs.declared.did.ServerDid.TheVariants.{Took, Passed, Saw, Moved, Loaded, Measured, Consumed, Forced, Built, Asked, Gave, Crashed, Restarted}
 
 abbrev Gives : ActingNow → Query → Piece → PieceGot → Type 0
 Gives a query piece got = GivesBy a.up query a.server.table piece got
@@ -42,6 +42,7 @@ one_at_most (Passed envelope) = omega arith
 one_at_most (Saw told result) = omega arith
 one_at_most (Moved p q now told result) = omega arith
 one_at_most (Loaded p q told result) = omega arith
+one_at_most (Measured p told result) = omega arith
 one_at_most (Consumed p q max now told result) = omega arith
 one_at_most (Forced p q result) = omega arith
 one_at_most (Built p q result) = omega arith

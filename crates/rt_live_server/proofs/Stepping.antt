@@ -11,6 +11,7 @@ use Rattle.rt_ground.specs.StoreCalls.{own_by, seen_by, shared_meaning}
 use Rattle.rt_ground.specs.StreamCalls as stream_ground
 use Rattle.rt_ground.specs.declared.appended.Appended.{Appended}
 use Rattle.rt_lists.proofs.Members.{front_same}
+use Rattle.rt_live_names.specs.Fronts.{Fronts}
 use Rattle.rt_live_names.specs.Names.{Names}
 use Rattle.rt_live_names.specs.Showed.{DeepShowed, DeepShown, DeepShowsMore, Showed, Shown, ShowsMore, StreamShowed, StreamShown, StreamShowsMore, deep_shown_by, shown_by, stream_shown_by}
 use Rattle.rt_live_names.proofs.Showing.{deep_showed_grows, showed_grows, stream_showed_grows}
@@ -19,9 +20,9 @@ use Rattle.rt_model.specs.declared.node.Seen.{Seen}
 use Rattle.rt_store.specs.Meaning.{Meaning}
 use Rattle.rt_stream.specs.Feed.{FeedMeaning}
 use Rattle.rt_stream.proofs.Growth.{log_same}
-use Rattle.rt_live_server.specs.Steps.{OverDeep, OverStore, OverStream, ServerNow, ServerStep, Sights}
+use Rattle.rt_live_server.specs.Steps.{OverDeep, OverStore, OverStream, SeenSoFar, ServerNow, ServerStep, Sights, seen_so_far}
 use Rattle.rt_live_server.specs.declared.did.ServerDid.{ServerDid}
-use Rattle.rt_live_server.specs.declared.did.ServerDid.TheVariants.{Took, Passed, Saw, Moved, Loaded, Consumed, Forced, Built, Asked, Gave, Crashed, Restarted}
+use Rattle.rt_live_server.specs.declared.did.ServerDid.TheVariants.{Took, Passed, Saw, Moved, Loaded, Measured, Consumed, Forced, Built, Asked, Gave, Crashed, Restarted}
 
 -- all that is shown, more
 pub record SightsMore (old new : Sights) : Type 0 where
@@ -31,52 +32,65 @@ pub record SightsMore (old new : Sights) : Type 0 where
 
 -- ---- more is shown
 
-store_later : (s : Starting) (old new : Shown) (told wrote later : ℕ) (Step : Meaning → Meaning → Type 0) → ShowsMore old new
-    → OverStore s old told wrote later Step → OverStore s new told wrote later Step
-store_later s old new told wrote later Step more h = record {
+store_later : (s : Starting) (old new : Shown) (told : ℕ) (a b : SeenSoFar) (Step : Meaning → Meaning → Type 0) → ShowsMore old new → OverStore s old told a b Step
+    → OverStore s new told a b Step
+store_later s old new told a b Step more h = record {
   before = h.before;
   after = h.after;
-  seen = h.seen;
-  began = showed_grows s old new h.seen wrote h.before more h.began;
-  ended = showed_grows s old new told later h.after more h.ended;
+  began = showed_grows s old new a.told a.wrote h.before more h.began;
+  ended = showed_grows s old new told b.wrote h.after more h.ended;
   step = h.step;
+  now = h.now;
 }
 
-deep_later : (old new : DeepShown) (told : ℕ) (Step : DeepMeaning → DeepMeaning → Type 0) → DeepShowsMore old new → OverDeep old told Step → OverDeep new told Step
-deep_later old new told Step more h = record {
+deep_later : (old new : DeepShown) (told : ℕ) (a b : SeenSoFar) (Step : DeepMeaning → DeepMeaning → Type 0) → DeepShowsMore old new → OverDeep old told a b Step
+    → OverDeep new told a b Step
+deep_later old new told a b Step more h = record {
   before = h.before;
   after = h.after;
-  seen = h.seen;
-  began = deep_showed_grows old new h.seen 0 h.before more h.began;
+  began = deep_showed_grows old new a.deep_told 0 h.before more h.began;
   ended = deep_showed_grows old new told 0 h.after more h.ended;
   step = h.step;
+  now = h.now;
 }
 
-stream_later : (n : ℕ) (old new : StreamShown) (told : ℕ) (Step : FeedMeaning → FeedMeaning → Type 0) → StreamShowsMore old new → OverStream n old told Step → OverStream n new told Step
-stream_later n old new told Step more h = record {
+stream_later : (n : ℕ) (old new : StreamShown) (told : ℕ) (a b : SeenSoFar) (Step : FeedMeaning → FeedMeaning → Type 0) → StreamShowsMore old new → OverStream n old told a b Step
+    → OverStream n new told a b Step
+stream_later n old new told a b Step more h = record {
   before = h.before;
   after = h.after;
-  seen = h.seen;
-  began = stream_showed_grows n old new h.seen h.before more h.began;
+  began = stream_showed_grows n old new a.stream_told h.before more h.began;
+  same = h.same;
   ended = stream_showed_grows n old new told h.after more h.ended;
   step = h.step;
+  now = h.now;
 }
 
 pub step_later : (n : Names) (s : Starting) (old new : Sights) → SightsMore old new → (a : ServerNow) (d : ServerDid) (b : ServerNow) → ServerStep n s old a d b → ServerStep n s new a d b
 step_later n s old new more a (Took reply) b h = h
 step_later n s old new more a (Passed envelope) b h = h
-step_later n s old new more a (Saw told result) b h = (h.0, store_later s old.store new.store told a.wrote b.wrote _ more.store h.1)
-step_later n s old new more a (Moved p q now told result) b h = (h.0, store_later s old.store new.store told a.wrote b.wrote _ more.store h.1)
-step_later n s old new more a (Loaded p q told result) b h = (h.0, deep_later old.deep new.deep told _ more.deep h.1, h.2)
-step_later n s old new more a (Consumed p q max now told result) b h = (h.0, stream_later s.partitions old.stream new.stream told _ more.stream h.1, h.2)
+step_later n s old new more a (Saw told result) b h = (h.0, store_later s old.store new.store told a.seen b.seen _ more.store h.1)
+step_later n s old new more a (Moved p q now told result) b h = (h.0, store_later s old.store new.store told a.seen b.seen _ more.store h.1)
+step_later n s old new more a (Loaded p q told result) b h = (h.0, deep_later old.deep new.deep told a.seen b.seen _ more.deep h.1, h.2)
+step_later n s old new more a (Measured p told result) b h = (h.0, h.1, stream_later s.partitions old.stream new.stream told a.seen b.seen _ more.stream h.2)
+step_later n s old new more a (Consumed p q max now told result) b h = (h.0, stream_later s.partitions old.stream new.stream told a.seen b.seen _ more.stream h.1, h.2)
 step_later n s old new more a (Forced p q result) b h = h
 step_later n s old new more a (Built p q result) b h = h
 step_later n s old new more a (Asked p q result) b h = h
 step_later n s old new more a (Gave given) b h = h
 step_later n s old new more a Crashed b h = h
-step_later n s old new more a (Restarted told result) b h = (h.0, h.1, store_later s old.store new.store told a.wrote b.wrote _ more.store h.2)
+step_later n s old new more a (Restarted told result) b h = (h.0, h.1, store_later s old.store new.store told a.seen b.seen _ more.store h.2)
 
 -- ---- what is shown now
+
+abbrev pub with_store : Fronts → Known Seen → Fronts
+with_store f store = record f { store = store }
+
+abbrev pub with_deep : Fronts → Known DeepPut → Fronts
+with_deep f deep = record f { deep = deep }
+
+abbrev pub with_stream : Fronts → Known Appended → Fronts
+with_stream f stream = record f { stream = stream }
 
 abbrev pub wrote_by_front : Known Seen → ℕ
 wrote_by_front front = length (own_by front).writes
@@ -92,17 +106,6 @@ shows_now s front told t = record {
   free = (refl, refl);
 }
 
-pub over_store : (s : Starting) (old new : Known Seen) (told : ℕ) (Step : Meaning → Meaning → Type 0) → told ≡ length new.seen → ShowsMore (shown_by s old) (shown_by s new)
-    → Step (shared_meaning s old) (shared_meaning s new) → OverStore s (shown_by s new) told (wrote_by_front old) (wrote_by_front new) Step
-over_store s old new told Step t more step = record {
-  before = shared_meaning s old;
-  after = shared_meaning s new;
-  seen = length old.seen;
-  began = showed_grows s (shown_by s old) (shown_by s new) (length old.seen) (wrote_by_front old) (shared_meaning s old) more (shows_now s old (length old.seen) refl);
-  ended = shows_now s new told t;
-  step = step;
-}
-
 deep_now : (front : Known DeepPut) (told : ℕ) → told ≡ length front.seen → (deep_ground.own_by front).files ≡ [] → DeepShowed (deep_shown_by front) told 0 (deep_ground.shared_meaning front)
 deep_now front told t none = record {
   whole = front_same (whats front.seen);
@@ -112,18 +115,6 @@ deep_now front told t none = record {
   mine = front_same (deep_ground.own_by front).files;
   count = ap (λ (fs : List DeepPut). length fs) none;
   free = (refl, refl);
-}
-
-pub over_deep : (old new : Known DeepPut) (told : ℕ) (Step : DeepMeaning → DeepMeaning → Type 0) → told ≡ length new.seen → DeepShowsMore (deep_shown_by old) (deep_shown_by new)
-    → (deep_ground.own_by old).files ≡ [] → (deep_ground.own_by new).files ≡ []
-    → Step (deep_ground.shared_meaning old) (deep_ground.shared_meaning new) → OverDeep (deep_shown_by new) told Step
-over_deep old new told Step t more none still step = record {
-  before = deep_ground.shared_meaning old;
-  after = deep_ground.shared_meaning new;
-  seen = length old.seen;
-  began = deep_showed_grows (deep_shown_by old) (deep_shown_by new) (length old.seen) 0 (deep_ground.shared_meaning old) more (deep_now old (length old.seen) refl none);
-  ended = deep_now new told t still;
-  step = step;
 }
 
 stream_now : (n : ℕ) (front : Known Appended) (told : ℕ) → told ≡ length front.seen → StreamShowed n (stream_shown_by n front) told (stream_ground.shared_meaning n front)
@@ -136,14 +127,49 @@ stream_now n front told t = record {
   free = refl;
 }
 
-pub over_stream : (n : ℕ) (old new : Known Appended) (told : ℕ) (Step : FeedMeaning → FeedMeaning → Type 0) → told ≡ length new.seen
-    → StreamShowsMore (stream_shown_by n old) (stream_shown_by n new)
-    → Step (stream_ground.shared_meaning n old) (stream_ground.shared_meaning n new) → OverStream n (stream_shown_by n new) told Step
-over_stream n old new told Step t more step = record {
-  before = stream_ground.shared_meaning n old;
-  after = stream_ground.shared_meaning n new;
-  seen = length old.seen;
-  began = stream_showed_grows n (stream_shown_by n old) (stream_shown_by n new) (length old.seen) (stream_ground.shared_meaning n old) more (stream_now n old (length old.seen) refl);
-  ended = stream_now n new told t;
-  step = step;
-}
+-- ---- a step over what the fronts show now
+
+module _ (s : Starting) (f : Fronts) where
+  pub over_store : (store : Known Seen) (told : ℕ) (Step : Meaning → Meaning → Type 0) → told ≡ length store.seen → ShowsMore (shown_by s f.store) (shown_by s store)
+      → Step (shared_meaning s f.store) (shared_meaning s store) → OverStore s (shown_by s store) told (seen_so_far s f) (seen_so_far s (with_store f store)) Step
+  over_store store told Step t more step =
+      let later = seen_so_far s (with_store f store) in
+      record {
+        before = shared_meaning s f.store;
+        after = shared_meaning s store;
+        began = showed_grows s (shown_by s f.store) (shown_by s store) (length f.store.seen) (wrote_by_front f.store) (shared_meaning s f.store) more (shows_now s f.store (length f.store.seen) refl);
+        ended = shows_now s store told t;
+        step = step;
+        now = ap (λ (k : ℕ). record later { told = k }) (sym t);
+      }
+
+  pub over_deep : (deep : Known DeepPut) (told : ℕ) (Step : DeepMeaning → DeepMeaning → Type 0) → told ≡ length deep.seen → DeepShowsMore (deep_shown_by f.deep) (deep_shown_by deep)
+      → (deep_ground.own_by f.deep).files ≡ [] → (deep_ground.own_by deep).files ≡ []
+      → Step (deep_ground.shared_meaning f.deep) (deep_ground.shared_meaning deep) → OverDeep (deep_shown_by deep) told (seen_so_far s f) (seen_so_far s (with_deep f deep)) Step
+  over_deep deep told Step t more none still step =
+      let later = seen_so_far s (with_deep f deep) in
+      record {
+        before = deep_ground.shared_meaning f.deep;
+        after = deep_ground.shared_meaning deep;
+        began = deep_showed_grows (deep_shown_by f.deep) (deep_shown_by deep) (length f.deep.seen) 0 (deep_ground.shared_meaning f.deep) more (deep_now f.deep (length f.deep.seen) refl none);
+        ended = deep_now deep told t still;
+        step = step;
+        now = ap (λ (k : ℕ). record later { deep_told = k }) (sym t);
+      }
+
+  pub over_stream : (stream : Known Appended) (told : ℕ) (Step : FeedMeaning → FeedMeaning → Type 0) → told ≡ length stream.seen
+      → StreamShowsMore (stream_shown_by s.partitions f.stream) (stream_shown_by s.partitions stream)
+      → Step (stream_ground.shared_meaning s.partitions f.stream) (stream_ground.shared_meaning s.partitions stream)
+      → OverStream s.partitions (stream_shown_by s.partitions stream) told (seen_so_far s f) (seen_so_far s (with_stream f stream)) Step
+  over_stream stream told Step t more step =
+      let n = s.partitions in
+      let later = seen_so_far s (with_stream f stream) in
+      record {
+        before = stream_ground.shared_meaning n f.stream;
+        after = stream_ground.shared_meaning n stream;
+        began = stream_showed_grows n (stream_shown_by n f.stream) (stream_shown_by n stream) (length f.stream.seen) (stream_ground.shared_meaning n f.stream) more (stream_now n f.stream (length f.stream.seen) refl);
+        same = refl;
+        ended = stream_now n stream told t;
+        step = step;
+        now = ap (λ (k : ℕ). record later { stream_told = k }) (sym t);
+      }

@@ -9,7 +9,7 @@ use Rattle.rt_consumer.specs.declared.consumer.Consumer.{Consumer}
 use Rattle.rt_broker.specs.declared.piece_given.PieceGiven.{PieceGiven}
 use Rattle.rt_entry.specs.declared.refused.ServerRefused.{ServerRefused}
 use Rattle.rt_link.specs.declared.envelope.Envelope.{Envelope}
-use Rattle.rt_live_names.specs.Fronts.{Fronts, own_writes}
+use Rattle.rt_live_names.specs.Fronts.{Fronts}
 use Rattle.rt_live_names.specs.Names.{Names}
 use Rattle.rt_live_names.specs.Replays.{Replays}
 use Rattle.rt_live_names.specs.ServerPart.{IsServerPart, ServerPart}
@@ -21,7 +21,7 @@ use Rattle.rt_server.specs.Table.{ServerState, replica_of}
 use Rattle.rt_store.specs.Contents.{starting_of}
 use Rattle.rt_stream.specs.Log.{Log, end_of, messages_of}
 use Rattle.rt_live_server.specs.Did.{envelopes_of, given_of, replies_of, requests_of}
-use Rattle.rt_live_server.specs.Steps.{ServerNow, ServerStep, first_now, sights}
+use Rattle.rt_live_server.specs.Steps.{ServerNow, ServerStep, first_now, seen_so_far, sights}
 use Rattle.rt_live_server.specs.declared.did.ServerDid.{ServerDid}
 
 pub record ActingNow : Type 0 where
@@ -43,14 +43,14 @@ part_of a = record {
   given = given_of a.did;
 }
 
--- what its diary replays to: all own writes are those of the diary
-abbrev pub now_of : ActingNow → ServerNow
-now_of a = record { server = a.server; up = a.up; wrote = length (own_writes a.fronts) }
+-- what its diary replays to: all that its fronts show, and all own writes, are those of the diary
+abbrev pub now_of : Starting → ActingNow → ServerNow
+now_of s a = record { server = a.server; up = a.up; seen = seen_so_far s a.fronts }
 
 pub record IsActing (n : Names) (s : Starting) (a : ActingNow) : Type 0 where
   pub starting : starting_of n.setup ≡ s
   pub part : IsServerPart n (part_of a)
-  pub replays : Replays (ServerStep n s (sights s a.fronts)) (first_now n.setup a.number) a.did (now_of a)
+  pub replays : Replays (ServerStep n s (sights s a.fronts)) (first_now n.setup a.number) a.did (now_of s a)
   -- one that is down has nothing
   pub down : a.up ≡ false → IsEmpty a.server
 
@@ -79,12 +79,11 @@ AddsGiven old new query asking piece (Ok given) =
     Adds old new [] [] (given ∷ []) × (given.query ≡ query) × (given.asking ≡ asking) × (given.piece ≡ piece)
 AddsGiven old new query asking piece (Err e) = Quietly old new
 
--- it looked at the stream, and did nothing
+-- it looked at the stream at most, and stays what it was
 pub record Looks (old new : ActingNow) : Type 0 where
-  pub number : new.number ≡ old.number
+  pub adds : Quietly old new
   pub server : new.server ≡ old.server
   pub up : new.up ≡ old.up
-  pub did : new.did ≡ old.did
 
 -- the segment's replica, where there is one, took no message from an offset on
 abbrev pub HasTakenTo : ServerState → Partition → Sequence → Offset → Type 0

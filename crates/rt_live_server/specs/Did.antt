@@ -12,6 +12,7 @@ use Rattle.rt_live_server.specs.declared.did.ServerDid.TheVariants.{
   Saw,
   Moved,
   Loaded,
+  Measured,
   Consumed,
   Forced,
   Built,
@@ -34,6 +35,7 @@ envelopes_in (Passed envelope) = envelope ∷ []
 envelopes_in (Saw told result) = []
 envelopes_in (Moved p q now told result) = []
 envelopes_in (Loaded p q told result) = []
+envelopes_in (Measured p told result) = []
 envelopes_in (Consumed p q max now told result) = []
 envelopes_in (Forced p q result) = []
 envelopes_in (Built p q result) = []
@@ -49,6 +51,7 @@ replies_in (Passed envelope) = []
 replies_in (Saw told result) = []
 replies_in (Moved p q now told result) = []
 replies_in (Loaded p q told result) = []
+replies_in (Measured p told result) = []
 replies_in (Consumed p q max now told result) = []
 replies_in (Forced p q result) = []
 replies_in (Built p q result) = []
@@ -64,6 +67,7 @@ requests_in (Passed envelope) = []
 requests_in (Saw told result) = []
 requests_in (Moved p q now told result) = []
 requests_in (Loaded p q told result) = []
+requests_in (Measured p told result) = []
 requests_in (Consumed p q max now told result) = []
 requests_in (Forced p q result) = []
 requests_in (Built p q result) = []
@@ -80,6 +84,7 @@ given_in (Passed envelope) = []
 given_in (Saw told result) = []
 given_in (Moved p q now told result) = []
 given_in (Loaded p q told result) = []
+given_in (Measured p told result) = []
 given_in (Consumed p q max now told result) = []
 given_in (Forced p q result) = []
 given_in (Built p q result) = []

@@ -1,6 +1,6 @@
 -- The steps of a server, one for each thing that it does: its own call, over what the store, the deep store or the
 -- stream was to its caller before it and after it.
-use Rattle.std.specs.Prelude.{◌≡◌, ℕ, Bool, true, false, Option, Some, Ok, Err, is_ok, slice_get}
+use Rattle.std.specs.Prelude.{◌≡◌, ℕ, Bool, true, false, [], Option, Some, Ok, Err, is_ok, length, slice_get}
 use Rattle.rt_base.specs.declared.numbers.Offset.{Offset}
 use Rattle.rt_broker.specs.declared.piece_given.PieceGiven.{PieceGiven}
 use Rattle.rt_broker.specs.declared.piece_got.PieceGot.{PieceGot}
@@ -8,9 +8,10 @@ use Rattle.rt_broker.specs.declared.piece_got.PieceGot.TheVariants as got
 use Rattle.rt_deep.specs.Meaning.{Meaning as DeepMeaning}
 use Rattle.rt_entry.specs.Serving.{AnswersGroups}
 use Rattle.rt_entry.specs.declared.refused.ServeRefused.TheVariants.{NotServed}
+use Rattle.rt_ground.specs.StreamCalls.{log_of, seen_by}
 use Rattle.rt_link.specs.declared.envelope.Envelope.{Envelope}
 use Rattle.rt_link.specs.declared.envelope.Envelope.TheVariants.{Asks, Replies}
-use Rattle.rt_live_names.specs.Fronts.{Fronts}
+use Rattle.rt_live_names.specs.Fronts.{Fronts, own_writes}
 use Rattle.rt_live_names.specs.Names.{Names}
 use Rattle.rt_live_names.specs.Showed.{
   DeepShowed,
@@ -44,7 +45,8 @@ use Rattle.rt_server.specs.Fresh.{fresh}
 use Rattle.rt_server.specs.Serving.{serve}
 use Rattle.rt_server.specs.Table.{Segments, ServerState}
 use Rattle.rt_store.specs.Meaning.{Meaning}
-use Rattle.rt_stream.specs.Feed.{FeedMeaning}
+use Rattle.rt_stream.specs.Feed.{FeedMeaning, Measures}
+use Rattle.rt_stream.specs.Log.{Log}
 use Rattle.rt_live_server.specs.declared.did.ServerDid.{ServerDid}
 use Rattle.rt_live_server.specs.declared.did.ServerDid.TheVariants.{
   Took,
@@ -52,6 +54,7 @@ use Rattle.rt_live_server.specs.declared.did.ServerDid.TheVariants.{
   Saw,
   Moved,
   Loaded,
+  Measured,
   Consumed,
   Forced,
   Built,
@@ -61,14 +64,40 @@ use Rattle.rt_live_server.specs.declared.did.ServerDid.TheVariants.{
   Restarted,
 }
 
--- what is replayed: the server, whether it is up, and how many of the store's writes were its own so far
+-- how much its fronts showed a server so far: of the store, and how many of its writes were the server's own; of the deep
+-- store; and of the stream, with each partition's messages
+pub record SeenSoFar : Type 0 where
+  pub told : ℕ
+  pub wrote : ℕ
+  pub deep_told : ℕ
+  pub stream_told : ℕ
+  pub log : Log
+
+abbrev pub nothing_seen : ℕ → SeenSoFar
+nothing_seen partitions = record { told = 0; wrote = 0; deep_told = 0; stream_told = 0; log = log_of partitions [] }
+
+-- all that they show now
+abbrev pub seen_so_far : Starting → Fronts → SeenSoFar
+seen_so_far s f = record {
+  told = length f.store.seen;
+  wrote = length (own_writes f);
+  deep_told = length f.deep.seen;
+  stream_told = length f.stream.seen;
+  log = seen_by s.partitions f.stream;
+}
+
+-- what is replayed: the server, whether it is up, and how much it has seen
 pub record ServerNow : Type 0 where
   pub server : ServerState
   pub up : Bool
-  pub wrote : ℕ
+  pub seen : SeenSoFar
 
 abbrev pub first_now : Setup → ℕ → ServerNow
-first_now setup k = record { server = fresh setup (record { 0 = k }); up = true; wrote = 0 }
+first_now setup k = record {
+  server = fresh setup (record { 0 = k });
+  up = true;
+  seen = nothing_seen setup.partitions;
+}
 
 -- what the store, the deep store and the stream show now
 pub record Sights : Type 0 where
@@ -85,35 +114,37 @@ sights s f = record {
 
 -- ---- over what a step is told of the store, the deep store and the stream
 
--- a step over the store, which showed so many entries after it; `wrote` own writes were there before it, and `later`
--- after it
-pub record OverStore (s : Starting) (shown : Shown) (told wrote later : ℕ) (Step : Meaning → Meaning → Type 0)
+-- a step over the store, which showed so many entries after it; how many of them are the server's own is as the step
+-- left it
+pub record OverStore (s : Starting) (shown : Shown) (told : ℕ) (a b : SeenSoFar) (Step : Meaning → Meaning → Type 0)
     : Type 0 where
   pub before : Meaning
   pub after : Meaning
-  pub seen : ℕ
-  pub began : Showed s shown seen wrote before
-  pub ended : Showed s shown told later after
+  pub began : Showed s shown a.told a.wrote before
+  pub ended : Showed s shown told b.wrote after
   pub step : Step before after
+  pub now : b ≡ record a { told = told; wrote = b.wrote }
 
 -- over the deep store, to which it puts nothing
-pub record OverDeep (shown : DeepShown) (told : ℕ) (Step : DeepMeaning → DeepMeaning → Type 0) : Type 0 where
+pub record OverDeep (shown : DeepShown) (told : ℕ) (a b : SeenSoFar) (Step : DeepMeaning → DeepMeaning → Type 0)
+    : Type 0 where
   pub before : DeepMeaning
   pub after : DeepMeaning
-  pub seen : ℕ
-  pub began : DeepShowed shown seen 0 before
+  pub began : DeepShowed shown a.deep_told 0 before
   pub ended : DeepShowed shown told 0 after
   pub step : Step before after
+  pub now : b ≡ record a { deep_told = told }
 
 -- and over the stream, to which it appends nothing
-pub record OverStream (partitions : ℕ) (shown : StreamShown) (told : ℕ) (Step : FeedMeaning → FeedMeaning → Type 0)
-    : Type 0 where
+pub record OverStream (partitions : ℕ) (shown : StreamShown) (told : ℕ) (a b : SeenSoFar)
+    (Step : FeedMeaning → FeedMeaning → Type 0) : Type 0 where
   pub before : FeedMeaning
   pub after : FeedMeaning
-  pub seen : ℕ
-  pub began : StreamShowed partitions shown seen before
+  pub began : StreamShowed partitions shown a.stream_told before
+  pub same : before.seen ≡ a.log
   pub ended : StreamShowed partitions shown told after
   pub step : Step before after
+  pub now : b ≡ record a { stream_told = told; log = after.seen }
 
 -- ---- what is given of a piece
 
@@ -146,9 +177,9 @@ PassesBy up (Replies reply) = up ≡ false
 abbrev pub StaysUp : ServerNow → ServerNow → Type 0
 StaysUp a b = (a.up ≡ true) × (b.up ≡ true)
 
--- it writes nothing to the store
+-- it calls none of the three
 abbrev pub Still : ServerNow → ServerNow → Type 0
-Still a b = StaysUp a b × (b.wrote ≡ a.wrote)
+Still a b = StaysUp a b × (b.seen ≡ a.seen)
 
 abbrev pub ServerStep : Names → Starting → Sights → ServerNow → ServerDid → ServerNow → Type 0
 ServerStep n s shown a (Took reply) b =
@@ -156,20 +187,22 @@ ServerStep n s shown a (Took reply) b =
 ServerStep n s shown a (Passed envelope) b = (b ≡ a) × PassesBy a.up envelope
 ServerStep n s shown a (Saw told result) b =
     StaysUp a b
-    × OverStore s shown.store told a.wrote b.wrote
-    (λ before after. SeesIdeal before after a.server b.server result)
+    × OverStore s shown.store told a.seen b.seen (λ before after. SeesIdeal before after a.server b.server result)
 ServerStep n s shown a (Moved p q now told result) b =
     StaysUp a b
-    × OverStore s shown.store told a.wrote b.wrote
+    × OverStore s shown.store told a.seen b.seen
     (λ before after. Transits before after a.server b.server p q now result)
 ServerStep n s shown a (Loaded p q told result) b =
-    Still a b
-    × OverDeep shown.deep told
+    StaysUp a b
+    × OverDeep shown.deep told a.seen b.seen
     (λ before after. Downloads before after a.server.setup.schema a.server.table b.server.table p q result)
     × InTable a.server b.server
+ServerStep n s shown a (Measured p told result) b =
+    StaysUp a b × (b.server ≡ a.server)
+    × OverStream s.partitions shown.stream told a.seen b.seen (λ before after. Measures before after p result)
 ServerStep n s shown a (Consumed p q max now told result) b =
-    Still a b
-    × OverStream s.partitions shown.stream told
+    StaysUp a b
+    × OverStream s.partitions shown.stream told a.seen b.seen
     (λ before after. Takes before after a.server.table b.server.table p q max now result)
     × InTable a.server b.server
 ServerStep n s shown a (Forced p q result) b =
@@ -183,4 +216,4 @@ ServerStep n s shown a (Gave given) b = (b ≡ a) × Gives n a given
 ServerStep n s shown a Crashed b = b ≡ record a { server = crashed a.server; up = false }
 ServerStep n s shown a (Restarted told result) b =
     (a.up ≡ false) × (b.up ≡ is_ok result)
-    × OverStore s shown.store told a.wrote b.wrote (λ before after. Restarts before after a.server b.server result)
+    × OverStore s shown.store told a.seen b.seen (λ before after. Restarts before after a.server b.server result)

@@ -1,9 +1,10 @@
-use rt_base::{Moment, Partition, Sequence};
+use rt_base::{Moment, Offset, Partition, Sequence};
 use rt_broker::PieceGiven;
 use rt_diary::Diary;
 use rt_entry::ServerRefused;
 use rt_link::Envelope;
 use rt_model::{ReplicaState, Reply, Request};
+use rt_stream::FeedRefused;
 
 /// What a server did, and what came of it. `told` counts the entries that the caller's front of the store, the deep
 /// store or the stream showed afterwards.
@@ -36,6 +37,12 @@ pub enum ServerDid {
         sequence: Sequence,
         told: u64,
         result: Result<u32, ServerRefused>,
+    },
+    /// It looked how many messages the stream has of a partition.
+    Measured {
+        partition: Partition,
+        told: u64,
+        result: Result<Offset, FeedRefused>,
     },
     /// A replica took messages of the stream, at most so many.
     Consumed {

@@ -4,6 +4,7 @@ ghost use Rattle.rt_live_server.specs.Acting.{HasTakenTo, IsLengthOf, Looks};
 ghost use Rattle.rt_ground.specs.StreamCalls.{seen_by};
 
 use crate::acting::Acting;
+use crate::did::ServerDid;
 use crate::due::ServerDue;
 use rt_base::{Clock, Moment, Offset, Partition, Sequence};
 use rt_ground::Naming;
@@ -43,13 +44,24 @@ impl<R: Wait + Copy, J: Naming, K: Cluster> Acting<R, J, K> {
         timed(replica, partition, sequence, length, moment(start, clock))
     }
 
-    /// How many messages the stream has of a partition, where it has it.
+    /// How many messages the stream has of a partition, where it has it, while the server is up and its diary has room.
     pub(crate) fn length(&mut self, partition: Partition) -> Option<Offset>
         ensures looks { Looks self.old self.new }
         ensures length { IfSome result (λ length.
             IsLengthOf (seen_by J.starting.partitions self.new.fronts.stream) partition length) }
     {
-        self.caller.stream.length(partition).ok()
+        if !self.can_act() {
+            return None;
+        }
+        let result = self.caller.stream.length(partition);
+        let told = self.caller.stream.front().told();
+        let did = ServerDid::Measured {
+            partition,
+            told,
+            result,
+        };
+        did.note(&mut self.diary);
+        result.ok()
     }
 }
 

@@ -16,7 +16,8 @@ use std::sync::Wait;
 pub(crate) const BATCH: u32 = 100;
 
 impl<R: Wait + Copy, J: Naming, K: Cluster> Acting<R, J, K> {
-    /// The replica of a segment takes messages. NotDue also where the stream shows fewer than it took, which never is.
+    /// The replica of a segment takes messages. NotDue also where the stream shows fewer than it took, which never is,
+    /// and where the diary has no room for it.
     pub(crate) fn consume_one(
         &mut self,
         alloc: Global,
@@ -31,6 +32,9 @@ impl<R: Wait + Copy, J: Naming, K: Cluster> Acting<R, J, K> {
         let Some(length) = self.length(partition) else {
             return Err(ServerRefused::NotDue);
         };
+        if !self.has_room() {
+            return Err(ServerRefused::NotDue);
+        }
         if !has_taken_to(&self.server, partition, sequence, length) {
             return Err(ServerRefused::NotDue);
         }

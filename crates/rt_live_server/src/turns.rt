@@ -142,10 +142,10 @@ impl<R: Wait + Copy, J: Naming, K: Cluster> ServerSeat<R, J, K> {
     ) -> Option<ServerDue> {
         let due = self
             .acting
-            .next_of(partition, sequence, self.start, clock, appended)?;
-        let waits = matches!(due, ServerDue::Ask { .. })
+            .next_of(partition, sequence, self.start, clock, appended);
+        let waits = matches!(due, Some(ServerDue::Ask { .. }))
             && !self.patience.is_over(partition, sequence, turn);
-        if waits { None } else { Some(due) }
+        if waits { None } else { due }
     }
 
     fn act<C: Clock>(

@@ -4,7 +4,7 @@ use Rattle.rt_ground.specs.StreamCalls.{seen_by}
 use Rattle.rt_ground.specs.declared.appended.Appended.{Appended}
 use Rattle.rt_live_server.specs.Acting.{ActingNow, IsLengthOf}
 use Rattle.rt_live_server.specs.declared.did.ServerDid.TheVariants.{Consumed}
-use Rattle.rt_live_server.proofs.Adding.{adds}
+use Rattle.rt_live_server.proofs.Adding.{adds, adds_then}
 use Rattle.rt_live_server.proofs.Doing.{consumed}
 use Rattle.rt_live_server.proofs.Needs.{messages_needed}
 use Rattle.rt_live_server.proofs.acting.Acting.consume_one.Goals as goal
@@ -25,6 +25,5 @@ invariant_of-self g c =
 pub returns : goal.returns
 returns g c =
     let d = Consumed c.args.partition c.args.sequence 100 c.args.now c.told-told.result c.consume-result.result in
-    let looks = c.in-Some.ensures.looks in
-    adds _ _ d (ap (λ (a : ActingNow). a.number) c.self.view_is ∙ looks.number)
-    (c.note.ensures ∙ ap (λ (a : ActingNow). a.did ++ d ∷ []) c.self.view_is ∙ ap (λ ds. ds ++ d ∷ []) looks.did)
+    adds_then _ _ _ [] [] [] c.in-Some.ensures.looks.adds
+    (adds _ _ d (ap (λ (a : ActingNow). a.number) c.self.view_is) (c.note.ensures ∙ ap (λ (a : ActingNow). a.did ++ d ∷ []) c.self.view_is))
