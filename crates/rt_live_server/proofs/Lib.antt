@@ -6,6 +6,7 @@ pub mod Gathering
 pub mod Gives
 pub mod Growing
 pub mod Needs
+pub mod NeverLess
 pub mod Seating
 pub mod Showing
 pub mod Stepping
