@@ -7,8 +7,11 @@ mod First
 pub mod Fitting
 mod Holders
 pub mod Holding
+mod Kept
+mod Marked
 mod Merges
 pub mod Orders
+mod Picked
 mod Places
 pub mod Results
 mod Showing

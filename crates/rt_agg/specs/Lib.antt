@@ -6,6 +6,7 @@ pub mod GroupTable
 pub mod Grouped
 pub mod Merging
 pub mod Paging
+pub mod Picking
 pub mod Ranking
 pub mod Reading
 pub mod ResultHolder

@@ -1,7 +1,9 @@
-ghost use Rattle.std.specs.Prelude.{[], ◌≡◌, ◌≤◌, None as Nothing, length, slice_index_or, OnOk, OnErr};
+ghost use Rattle.std.specs.Prelude.{[], ◌≡◌, ◌≤◌, None as Nothing, length, slice_index_or, IfOk, OnOk, OnErr};
 ghost use Rattle.rt_agg.specs.Accumulators.{greatest_with};
+ghost use Rattle.rt_agg.specs.Picking.{kept};
 ghost use Rattle.rt_agg.specs.ResultHolder.{join_at, put_at};
 
+use crate::keeping::keep;
 use crate::placing::put;
 use crate::ranging::{join_greater, scalar_at, take_greater};
 use crate::{Scalar, TakeScalar};
@@ -55,6 +57,15 @@ impl GreatestScalars {
         ensures { self.new ≡ join_at greatest_with Nothing group self.old from others.now }
     {
         join_greater(&mut self.scalars, group, &others.scalars, from);
+    }
+
+    /// The scalars of the groups that are marked, one after the other.
+    pub(crate) fn pick(&self, alloc: Global, marks: &[bool]) -> Result<GreatestScalars, AllocError>
+        ensures { IfOk result (λ picked. picked ≡ kept marks.now self.now) }
+    {
+        Ok(GreatestScalars {
+            scalars: keep(alloc, marks, self.scalars.as_slice())?,
+        })
     }
 }
 

@@ -63,7 +63,7 @@ impl GroupKey {
     }
 
     /// The number of values.
-    pub(crate) fn len(&self) -> usize
+    pub fn len(&self) -> usize
         ensures { result ≡ length self.now }
     {
         match &self.inside {
@@ -74,7 +74,7 @@ impl GroupKey {
     }
 
     /// The value at a place.
-    pub(crate) fn at(&self, place: usize) -> ValueRef<'_>
+    pub fn at(&self, place: usize) -> ValueRef<'_>
         requires { place < length self.now }
         ensures { slice_get self.now place ≡ Some (value_lent result) }
     {

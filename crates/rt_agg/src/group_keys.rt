@@ -2,8 +2,10 @@ ghost use Rattle.std.specs.Prelude.{◌≡◌, ◌<◌, ◌∷◌, ◌++◌, [],
 ghost use Rattle.std.specs.List.{IsDistinct, list_any};
 ghost use Rattle.rt_agg.specs.GroupKeys.{keys_in};
 ghost use Rattle.rt_agg.specs.Grouped.{same_key};
+ghost use Rattle.rt_agg.specs.Picking.{kept};
 
 use crate::GroupKey;
+use crate::keeping::keep_copies;
 use indexmap::IndexSet;
 use rt_lists::{Copied, Items};
 use std::alloc::{AllocError, Global};
@@ -92,6 +94,17 @@ impl GroupKeys {
         ensures err { OnErr result (self.new ≡ self.old) }
     {
         self.kept.push(key)
+    }
+
+    /// The keys of the groups that are marked.
+    pub(crate) fn pick(&self, alloc: Global, marks: &[bool]) -> Result<GroupKeys, AllocError>
+        ensures keys { IfOk result (λ picked. picked ≡ kept marks.now self.now) }
+        ensures apart { IfOk result (IsDistinct same_key) }
+    {
+        let keys = keep_copies(alloc, marks, self.as_slice())?;
+        Ok(GroupKeys {
+            kept: Kept::Listed(keys),
+        })
     }
 
     /// Keeps the first keys, so many.

@@ -1,18 +1,19 @@
 ghost use Rattle.std.specs.Prelude.{◌≡◌, ◌<◌, ◌++◌, ◌∷◌, [], cond, List, length, map, take, slice_get, Some, None, IfSome, IfNone, IfOk, OnOk, OnErr};
-ghost use Rattle.std.specs.List.{IsDistinct};
+ghost use Rattle.std.specs.List.{AllByRecursion, IsDistinct};
 ghost use Rattle.std.specs.Map.{lookup, keys_of};
 ghost use Rattle.rt_schema.specs.declared.value.Value.{Value as AnyValue};
 ghost use Rattle.rt_agg.specs.Accumulator.{Accumulator};
 ghost use Rattle.rt_agg.specs.Accumulators.{all_merged, known_of, ordering_items};
 ghost use Rattle.rt_agg.specs.Grouped.{same_key};
 ghost use Rattle.rt_agg.specs.GroupTable.{AddsRows, IsOfSame};
+ghost use Rattle.rt_agg.specs.Picking.{IsAmong, PicksGroups, kept};
 ghost use Rattle.rt_agg.specs.Ranking.{ranked_at};
 ghost use Rattle.rt_model.specs.Aggregate.{result_cmp};
 
 use crate::group_keys::GroupKeys;
 use crate::group_ref::GroupRef;
 use crate::shared_holders::SharedHolders;
-use crate::{GroupKey, PlacedRow, ReadTable};
+use crate::{GroupKey, PickRefused, PlacedRow, ReadTable};
 use rt_lists::{Copied, Items};
 use rt_model::{ColumnAt, Item, OrderKey, ResultRow};
 use std::alloc::{AllocError, Global};
@@ -59,6 +60,40 @@ impl GroupTable {
             keys: GroupKeys::new(alloc),
             holders,
         })
+    }
+
+    /// Groups of these keys, with what another table knows of its groups that are marked, in their order.
+    pub(crate) fn pick(
+        alloc: Global,
+        columns: &Items<ColumnAt>,
+        keys: GroupKeys,
+        items: &[Item],
+        order: &[OrderKey],
+        other: &GroupTable,
+        marks: &[bool],
+    ) -> Result<GroupTable, PickRefused>
+        requires long { length keys ≡ length (kept marks.now other.now.entries) }
+        requires apart { IsDistinct same_key keys }
+        ensures columns { IfOk result (λ t. t.columns ≡ columns.now) }
+        ensures items { IfOk result (λ t. t.items ≡ items.now ++ ordering_items order.now) }
+        ensures keys { IfOk result (λ t. keys_of t.entries ≡ keys) }
+        ensures among { IfOk result (λ t. AllByRecursion (IsAmong other.now.items) t.items) }
+        ensures picks { IfOk result (PicksGroups marks.now other.now) }
+    {
+        let columns = columns.copied(alloc)?;
+        let holders = SharedHolders::pick(alloc, items, order, &other.holders, marks)?;
+        Ok(GroupTable {
+            columns,
+            keys,
+            holders,
+        })
+    }
+
+    /// The keys, by the groups' numbers.
+    pub(crate) fn keys(&self) -> &GroupKeys
+        ensures { result.now ≡ keys_of self.now.entries }
+    {
+        &self.keys
     }
 
     /// The columns of the keys.

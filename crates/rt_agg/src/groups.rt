@@ -1,17 +1,19 @@
-ghost use Rattle.std.specs.Prelude.{◌≡◌, ◌++◌, ◌∷◌, [], List, map, slice_get, None, Some, IfOk, OnOk, OnErr};
+ghost use Rattle.std.specs.Prelude.{◌≡◌, ◌↔◌, ◌++◌, ◌∷◌, [], List, length, map, slice_get, None, Some, IfOk, IsTrue, OnOk, OnErr};
 ghost use Rattle.std.specs.List.{AllByRecursion, Contains, IsDistinct};
 ghost use Rattle.std.specs.Map.{lookup, keys_of};
 ghost use Rattle.rt_schema.specs.declared.value.Value.{Value as AnyValue};
 ghost use Rattle.rt_agg.specs.Accumulators.{known_of, ordering_items};
 ghost use Rattle.rt_agg.specs.Grouped.{Adds, AddsPage, AwaitsOne, Finishes, Merges, Holds, first_known, keys_in_order, same_key};
 ghost use Rattle.rt_agg.specs.GroupTable.{IsOfSame};
+ghost use Rattle.rt_agg.specs.Picking.{AreAllTold, AreOf, IsAmong, Picks, all_items, kept};
 
 use crate::foremost::{first_places, rows_at};
+use crate::group_keys::GroupKeys;
 use crate::group_table::GroupTable;
 use crate::keys::key_of_row;
 use crate::merging::{merge_each, start_missing};
 use crate::ranked::{all_places, sort};
-use crate::{GroupKey, PlacedRow, ReadTable};
+use crate::{GroupKey, PickRefused, PlacedRow, ReadTable};
 use rt_lists::{Copied, Items};
 use rt_model::{ColumnAt, Item, OrderKey, Query, ResultRow};
 use rt_schema::Row;
@@ -50,6 +52,116 @@ impl Groups {
         let items = query.items.copied(alloc)?;
         let order = query.order.copied(alloc)?;
         let table = first_table(alloc, &query.groups, items.as_slice(), order.as_slice())?;
+        Ok(Groups {
+            items,
+            order,
+            limit: query.limit,
+            table,
+        })
+    }
+
+    /// The columns of the keys.
+    pub fn columns(&self) -> &[ColumnAt]
+        ensures { result.now ≡ self.now.columns }
+    {
+        self.table.columns()
+    }
+
+    /// The keys of the groups, by their indices.
+    pub fn keys(&self) -> &[GroupKey]
+        ensures { result.now ≡ keys_in_order self.now }
+    {
+        self.table.keys().as_slice()
+    }
+
+    /// The groups of a query that takes the rows of those groups of others that are marked. The others tell of them where
+    /// they have the query's aggregates, and either its one column or, where it has none, at most one marked group.
+    pub fn pick(
+        alloc: Global,
+        query: &Query,
+        others: &Groups,
+        marks: &[bool],
+    ) -> Result<Groups, PickRefused>
+        ensures { IfOk result (Picks query.now marks.now others.now) }
+    {
+        if query.groups.is_empty() {
+            Groups::pick_whole(alloc, query, others, marks)
+        } else if are_one_column(query.groups.as_slice(), others.columns()) {
+            Groups::pick_alike(alloc, query, others, marks)
+        } else {
+            Err(PickRefused::Untold)
+        }
+    }
+
+    // The groups of the same column.
+    fn pick_alike(
+        alloc: Global,
+        query: &Query,
+        others: &Groups,
+        marks: &[bool],
+    ) -> Result<Groups, PickRefused>
+        requires alike { query.now.groups ≡ others.now.columns }
+        requires some { query.now.groups ≡ [] → ⊥ }
+        ensures { IfOk result (Picks query.now marks.now others.now) }
+    {
+        let keys = others.table.keys().pick(alloc, marks)?;
+        let groups = Groups::pick_keys(alloc, query, keys, others, marks)?;
+        Ok(groups)
+    }
+
+    // The group of all rows.
+    fn pick_whole(
+        alloc: Global,
+        query: &Query,
+        others: &Groups,
+        marks: &[bool],
+    ) -> Result<Groups, PickRefused>
+        requires { query.now.groups ≡ [] }
+        ensures { IfOk result (Picks query.now marks.now others.now) }
+    {
+        let keys = others.table.keys().pick(alloc, marks)?;
+        match keys.len() {
+            0 => {
+                let groups = Groups::make(alloc, query)?;
+                Ok(groups)
+            }
+            1 => {
+                let whole = whole_key(alloc)?;
+                let groups = Groups::pick_keys(alloc, query, whole, others, marks)?;
+                Ok(groups)
+            }
+            _ => Err(PickRefused::Untold),
+        }
+    }
+
+    // The groups of these keys.
+    fn pick_keys(
+        alloc: Global,
+        query: &Query,
+        keys: GroupKeys,
+        others: &Groups,
+        marks: &[bool],
+    ) -> Result<Groups, PickRefused>
+        requires long { length keys ≡ length (kept marks.now others.now.groups) }
+        requires apart { IsDistinct same_key keys }
+        ensures of { IfOk result (AreOf query.now) }
+        ensures keys { IfOk result (λ g. keys_in_order g ≡ keys) }
+        ensures among { IfOk result (λ g. AllByRecursion (IsAmong (all_items others.now)) (query.now.items ++ ordering_items query.now.order)) }
+        ensures told { IfOk result (AreAllTold query.now marks.now others.now) }
+    {
+        let items = query.items.copied(alloc)?;
+        let order = query.order.copied(alloc)?;
+        let by = &query.groups;
+        let others = &others.table;
+        let table = GroupTable::pick(
+            alloc,
+            by,
+            keys,
+            items.as_slice(),
+            order.as_slice(),
+            others,
+            marks,
+        )?;
         Ok(Groups {
             items,
             order,
@@ -195,4 +307,30 @@ fn with_whole(alloc: Global, table: GroupTable) -> Result<GroupTable, AllocError
     let mut table = table;
     table.start(GroupKey::of(Items::new(alloc)))?;
     Ok(table)
+}
+
+// The key of the group of all rows.
+fn whole_key(alloc: Global) -> Result<GroupKeys, AllocError>
+    ensures keys { IfOk result (λ keys. keys ≡ [] ∷ []) }
+    ensures apart { IfOk result (IsDistinct same_key) }
+{
+    let mut keys = GroupKeys::new(alloc);
+    keys.push(GroupKey::of(Items::new(alloc)))?;
+    Ok(keys)
+}
+
+// Whether there is one column in both lists, and it is the same.
+fn are_one_column(one: &[ColumnAt], other: &[ColumnAt]) -> bool
+    ensures { IsTrue result → one.now ≡ other.now }
+{
+    match (one, other) {
+        ([one], [other]) => is_same(one, other),
+        _ => false,
+    }
+}
+
+fn is_same(one: &ColumnAt, other: &ColumnAt) -> bool
+    ensures { IsTrue result ↔ (one.now ≡ other.now) }
+{
+    one == other
 }

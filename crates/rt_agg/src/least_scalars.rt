@@ -1,7 +1,9 @@
-ghost use Rattle.std.specs.Prelude.{[], ◌≡◌, ◌≤◌, None as Nothing, length, slice_index_or, OnOk, OnErr};
+ghost use Rattle.std.specs.Prelude.{[], ◌≡◌, ◌≤◌, None as Nothing, length, slice_index_or, IfOk, OnOk, OnErr};
 ghost use Rattle.rt_agg.specs.Accumulators.{least_with};
+ghost use Rattle.rt_agg.specs.Picking.{kept};
 ghost use Rattle.rt_agg.specs.ResultHolder.{join_at, put_at};
 
+use crate::keeping::keep;
 use crate::placing::put;
 use crate::ranging::{join_lesser, scalar_at, take_lesser};
 use crate::{Scalar, TakeScalar};
@@ -55,6 +57,15 @@ impl LeastScalars {
         ensures { self.new ≡ join_at least_with Nothing group self.old from others.now }
     {
         join_lesser(&mut self.scalars, group, &others.scalars, from);
+    }
+
+    /// The scalars of the groups that are marked, one after the other.
+    pub(crate) fn pick(&self, alloc: Global, marks: &[bool]) -> Result<LeastScalars, AllocError>
+        ensures { IfOk result (λ picked. picked ≡ kept marks.now self.now) }
+    {
+        Ok(LeastScalars {
+            scalars: keep(alloc, marks, self.scalars.as_slice())?,
+        })
     }
 }
 

@@ -1,12 +1,14 @@
-ghost use Rattle.std.specs.Prelude.{◌≡◌, IfOk, OnOk, OnErr};
+ghost use Rattle.std.specs.Prelude.{◌≡◌, IfOk, IsTrue, OnOk, OnErr};
 ghost use Rattle.rt_model.specs.Aggregate.{cell_cmp};
 ghost use Rattle.rt_agg.specs.Accumulators.{scalar_cell};
+ghost use Rattle.rt_agg.specs.Picking.{picked_in};
 ghost use Rattle.rt_agg.specs.ResultHolder.{HasStarted, bare_cell_of, cell_held, item_of, merged_in, started_in, with_page_in};
 
 use crate::compare::compare_cells;
 use crate::counting::{add_count, add_ones, count_at};
 use crate::greatest_scalars::GreatestScalars;
 use crate::group_ref::GroupRef;
+use crate::keeping::keep;
 use crate::key_column::{compare_by_column, copy_of_key};
 use crate::least_scalars::LeastScalars;
 use crate::placing::put;
@@ -60,6 +62,54 @@ impl ResultHolder {
                 column: column.copied(alloc)?,
                 scalars: GreatestScalars::new(alloc),
             }),
+        }
+    }
+
+    /// Whether it is for an item.
+    pub(crate) fn is_for(&self, item: &Item) -> bool
+        ensures { IsTrue result → item_of self.now ≡ item.now }
+    {
+        match (self, item) {
+            (ResultHolder::Key(column), Item::Column(other)) => column == other,
+            (ResultHolder::Counts(_), Item::Aggregate(Aggregate::Count)) => true,
+            (ResultHolder::Sums { column, .. }, Item::Aggregate(Aggregate::Sum(other))) => {
+                column == other
+            }
+            (ResultHolder::Least { column, .. }, Item::Aggregate(Aggregate::Min(other))) => {
+                column == other
+            }
+            (ResultHolder::Greatest { column, .. }, Item::Aggregate(Aggregate::Max(other))) => {
+                column == other
+            }
+            _ => false,
+        }
+    }
+
+    /// What is known of the groups that are marked, one after the other.
+    pub(crate) fn pick(&self, alloc: Global, marks: &[bool]) -> Result<ResultHolder, AllocError>
+        ensures { IfOk result (λ holder. holder ≡ picked_in marks.now self.now) }
+    {
+        match self {
+            ResultHolder::Key(column) => Ok(ResultHolder::Key(column.copied(alloc)?)),
+            ResultHolder::Counts(counts) => {
+                let counts = keep(alloc, marks, counts.as_slice())?;
+                Ok(ResultHolder::Counts(counts))
+            }
+            ResultHolder::Sums { column, totals } => {
+                let column = column.copied(alloc)?;
+                let totals = totals.pick(alloc, marks)?;
+                Ok(ResultHolder::Sums { column, totals })
+            }
+            ResultHolder::Least { column, scalars } => {
+                let column = column.copied(alloc)?;
+                let scalars = scalars.pick(alloc, marks)?;
+                Ok(ResultHolder::Least { column, scalars })
+            }
+            ResultHolder::Greatest { column, scalars } => {
+                let column = column.copied(alloc)?;
+                let scalars = scalars.pick(alloc, marks)?;
+                Ok(ResultHolder::Greatest { column, scalars })
+            }
         }
     }
 

@@ -5,14 +5,16 @@ ghost use Rattle.rt_model.specs.Aggregate.{order_cmp};
 ghost use Rattle.rt_model.specs.Values.{key_cmp};
 ghost use Rattle.rt_agg.specs.Accumulators.{ordering_items};
 ghost use Rattle.rt_agg.specs.GroupTable.{StartsSome, all_merged_in};
+ghost use Rattle.rt_agg.specs.Picking.{IsPicked};
 ghost use Rattle.rt_agg.specs.ResultHolder.{HasStarted, cell_held, item_of, started_in, with_page_in};
 
 use crate::all_holders::{add_page_to_all, merge_all, start_all};
 use crate::group_cells::{before, behind, cells_of, compare_groups};
 use crate::group_ref::GroupRef;
+use crate::picking::pick_all;
 use crate::result_holder::ResultHolder;
 use crate::sharing::{hold_all, items_of, places_of};
-use crate::{PlacedRow, ReadTable};
+use crate::{PickRefused, PlacedRow, ReadTable};
 use rt_lists::Items;
 use rt_model::{Cell, ColumnAt, Item, OrderKey};
 use std::alloc::{AllocError, Global};
@@ -54,6 +56,25 @@ impl SharedHolders {
         let all = items_of(alloc, items, order)?;
         let places = places_of(alloc, all.as_slice())?;
         let held = hold_all(alloc, all.as_slice(), places.as_slice())?;
+        Ok(SharedHolders { held, places })
+    }
+
+    /// Holders with what others have of the groups that are marked.
+    pub(crate) fn pick(
+        alloc: Global,
+        items: &[Item],
+        order: &[OrderKey],
+        others: &SharedHolders,
+        marks: &[bool],
+    ) -> Result<SharedHolders, PickRefused>
+        ensures items { IfOk result (λ all. map item_of all ≡ items.now ++ ordering_items order.now) }
+        ensures picked { IfOk result (AllByRecursion (IsPicked others.now marks.now)) }
+    {
+        let all = items_of(alloc, items, order)?;
+        let places = places_of(alloc, all.as_slice())?;
+        let theirs = others.held.as_slice();
+        let at = others.places.as_slice();
+        let held = pick_all(alloc, all.as_slice(), places.as_slice(), theirs, at, marks)?;
         Ok(SharedHolders { held, places })
     }
 

@@ -1,6 +1,8 @@
 ghost use Rattle.std.specs.Prelude.{◌≡◌, pos};
 ghost use Rattle.rt_agg.specs.Totals.{with_number, joined};
 
+use rt_lists::Copied;
+use std::alloc::{AllocError, Global};
 use std::marker::Model;
 
 /// The greatest number of rows that are counted: beyond it nothing is added.
@@ -57,5 +59,14 @@ impl Total {
         ensures { result ≡ self.now.sum }
     {
         self.sum
+    }
+}
+
+impl Copied for Total {
+    fn copied(&self, _alloc: Global) -> Result<Self, AllocError> {
+        Ok(Total {
+            rows: self.rows,
+            sum: self.sum,
+        })
     }
 }

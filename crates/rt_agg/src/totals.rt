@@ -1,7 +1,9 @@
-ghost use Rattle.std.specs.Prelude.{[], ◌≡◌, ◌≤◌, length, slice_index_or, OnOk, OnErr};
+ghost use Rattle.std.specs.Prelude.{[], ◌≡◌, ◌≤◌, length, slice_index_or, IfOk, OnOk, OnErr};
+ghost use Rattle.rt_agg.specs.Picking.{kept};
 ghost use Rattle.rt_agg.specs.ResultHolder.{join_at, no_rows, put_at};
 ghost use Rattle.rt_agg.specs.Totals.{joined};
 
+use crate::keeping::keep_copies;
 use crate::placing::put;
 use crate::totalling::{add_sum, add_to_sum, sum_at};
 use crate::{Scalar, TakeScalar, Total};
@@ -55,6 +57,15 @@ impl Totals {
         ensures { self.new ≡ join_at joined no_rows group self.old from others.now }
     {
         add_sum(&mut self.totals, group, &others.totals, from);
+    }
+
+    /// The sums of the groups that are marked, one after the other.
+    pub(crate) fn pick(&self, alloc: Global, marks: &[bool]) -> Result<Totals, AllocError>
+        ensures { IfOk result (λ picked. picked ≡ kept marks.now self.now) }
+    {
+        Ok(Totals {
+            totals: keep_copies(alloc, marks, self.totals.as_slice())?,
+        })
     }
 }
 
