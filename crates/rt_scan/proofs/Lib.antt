@@ -8,3 +8,5 @@ pub mod ConsumingRows
 pub mod FilledRows
 pub mod Edges
 pub mod Skipped
+pub mod Chosen
+pub mod Summing

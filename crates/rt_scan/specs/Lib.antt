@@ -4,3 +4,4 @@ pub mod Grouping
 pub mod Scanned
 pub mod Filled
 pub mod Skips
+pub mod Summaries

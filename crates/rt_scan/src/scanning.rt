@@ -96,8 +96,8 @@ pub(crate) fn groups_taken<C: ScanColumn>(
     groups_of(alloc, query, columns, &set)
 }
 
-// All columns of a segment.
-fn held_columns<'a>(
+/// All columns of a segment.
+pub(crate) fn held_columns<'a>(
     alloc: Global,
     columns: &'a [SegmentColumn],
 ) -> Result<Vec<FileColumn<'a>>, AllocError>
