@@ -25,9 +25,21 @@ pub fn entry(
     let Committed { segment, meta } = Committed::read(alloc, &mut named)?;
     let schema = &tables.schema()?.schema;
     let mut entry = Entry::wanting(SeenMeta { version: 0, meta });
+    call_each(alloc, &mut entry, segment, schema, deep, calls, answer)
+}
+
+fn call_each(
+    alloc: Global,
+    entry: &mut Entry,
+    segment: Segment,
+    schema: &Schema,
+    deep: &mut MemoryDeep,
+    calls: &str,
+    answer: &mut Answer,
+) -> Result<(), Stop> {
     for (place, call) in calls.split("; ").enumerate() {
         answer.part(place, "; ");
-        call_entry(alloc, &mut entry, segment, schema, deep, call, answer)?;
+        call_entry(alloc, entry, segment, schema, deep, call, answer)?;
         answer.add(" -> ");
         answer.add(state_name(entry.state()));
     }
