@@ -2,6 +2,7 @@ ghost use Rattle.std.specs.Prelude.{◌≡◌, length, IfOk};
 ghost use Rattle.rt_segment.specs.Spelling.{file_of};
 
 use rt_lists::Bytes;
+use rt_scan::SummarizedSegment;
 use rt_segment::{Sealed, encode};
 use std::alloc::{AllocError, Global};
 use std::marker::Model;
@@ -9,7 +10,7 @@ use std::marker::Model;
 /// A sealed segment with the bytes of its file.
 #[derive(Drop)]
 pub struct BuiltFile {
-    file: Sealed,
+    file: SummarizedSegment,
     bytes: Bytes,
 }
 
@@ -27,10 +28,10 @@ impl Model for BuiltFile {
 
 impl BuiltFile {
     /// Writes the file of a sealed segment. Fails only where memory is refused.
-    pub fn make(alloc: Global, file: Sealed) -> Result<BuiltFile, AllocError>
+    pub fn make(alloc: Global, file: SummarizedSegment) -> Result<BuiltFile, AllocError>
         ensures { IfOk result (λ built. built ≡ file) }
     {
-        let bytes = Bytes::of(encode(alloc, &file)?);
+        let bytes = Bytes::of(encode(alloc, file.file())?);
         Ok(BuiltFile { file, bytes })
     }
 
@@ -52,11 +53,11 @@ impl BuiltFile {
     pub fn file(&self) -> &Sealed
         ensures { result.now ≡ self.now }
     {
-        &self.file
+        self.file.file()
     }
 
     /// The sealed segment, given back.
-    pub fn into_file(self) -> Sealed
+    pub fn into_file(self) -> SummarizedSegment
         ensures { result ≡ self }
     {
         self.file

@@ -13,7 +13,7 @@ use rt_build::seal_as;
 use rt_lists::Text;
 use rt_model::{Reason, ReplicaState, Reply, ReplyStatus, SegMeta, Setup};
 use rt_mutable::MutableSegment;
-use rt_segment::Sealed;
+use rt_scan::SummarizedSegment;
 use std::alloc::{AllocError, Global};
 use std::mem;
 
@@ -184,7 +184,7 @@ pub(crate) fn gone(cur: Offset) -> Phase {
     })
 }
 
-/// The sealed rows, in the setup's format.
+/// The sealed rows, in the setup's format, with their summaries.
 #[tactic(auto, using(crate::proofs::Rows::built_past, crate::proofs::Rows::indexed_names, crate::proofs::Rows::columns_sealed))]
 fn seal(
     alloc: Global,
@@ -192,7 +192,7 @@ fn seal(
     partition: Partition,
     sequence: Sequence,
     unsealed: &Unsealed,
-) -> Result<Sealed, AllocError>
+) -> Result<SummarizedSegment, AllocError>
     requires settings { AreSettings settings.now }
     requires columns { HaveColumns settings.now unsealed.now.rows }
     requires stage { IsStage settings.now partition sequence unsealed.now.rows unsealed.now.stage }
@@ -210,11 +210,16 @@ fn seal(
     )?;
     // That a file is whole is told with its rows.
     let _rows = file.rows();
+    let file = SummarizedSegment::make(alloc, file)?;
     Ok(file)
 }
 
 /// A replica with its sealed rows. Where memory is refused, it is as before.
-fn with_file(alloc: Global, phase: Phase, file: Sealed) -> (Phase, Result<(), AllocError>)
+fn with_file(
+    alloc: Global,
+    phase: Phase,
+    file: SummarizedSegment,
+) -> (Phase, Result<(), AllocError>)
     ensures ok { OnOk result.1 (result.0 ≡ filed phase file) }
     ensures err { OnErr result.1 (result.0 ≡ phase) }
 {
@@ -232,7 +237,7 @@ fn filed_at(
     alloc: Global,
     rows: MutableSegment,
     stage: Stage,
-    file: Sealed,
+    file: SummarizedSegment,
 ) -> (Phase, Result<(), AllocError>)
     ensures ok { OnOk result.1 (result.0 ≡ filed_at rows stage file) }
     ensures err { OnErr result.1 (result.0 ≡ at rows stage) }

@@ -4,12 +4,12 @@ ghost use Rattle.rt_consumer.specs.Consumer.{state_of, cur_in};
 use crate::Unsealed;
 use rt_base::Offset;
 use rt_model::{ReplicaState, SeenMeta};
-use rt_segment::Sealed;
+use rt_scan::SummarizedSegment;
 
 /// A committed segment: its sealed rows, and the metadata that told of its commit.
 #[derive(Drop)]
 pub struct CommittedFile {
-    pub file: Sealed,
+    pub file: SummarizedSegment,
     pub done: SeenMeta,
 }
 
@@ -54,8 +54,8 @@ impl Phase {
     {
         match self {
             Phase::Unsealed(unsealed) => unsealed.rows.end(),
-            Phase::Retained(committed) => committed.file.range().end,
-            Phase::Committed(committed) => committed.file.range().end,
+            Phase::Retained(committed) => committed.file.file().range().end,
+            Phase::Committed(committed) => committed.file.file().range().end,
             Phase::Discarded(discarded) => discarded.cur,
         }
     }

@@ -8,7 +8,7 @@ use crate::{Consumer, Phase, Stage, Unsealed};
 use rt_base::Offset;
 use rt_model::SeenMeta;
 use rt_mutable::MutableSegment;
-use rt_segment::Sealed;
+use rt_scan::SummarizedSegment;
 use std::mem;
 
 impl Consumer {
@@ -18,8 +18,8 @@ impl Consumer {
     {
         match &self.phase {
             Phase::Unsealed(unsealed) => unsealed.rows.len(),
-            Phase::Retained(kept) => kept.file.rows(),
-            Phase::Committed(kept) => kept.file.rows(),
+            Phase::Retained(kept) => kept.file.file().rows(),
+            Phase::Committed(kept) => kept.file.file().rows(),
             Phase::Discarded(_) => 0,
         }
     }
@@ -35,7 +35,7 @@ impl Consumer {
     }
 
     /// The sealed rows of a retained or a committed replica.
-    pub fn sealed(&self) -> Option<&Sealed>
+    pub fn sealed(&self) -> Option<&SummarizedSegment>
         ensures { option_map (λ file. file.now) result ≡ file_in self.now.phase }
     {
         match &self.phase {

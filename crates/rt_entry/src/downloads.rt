@@ -8,6 +8,7 @@ use rt_base::{Header, Partition, Range, Sequence};
 use rt_deep::{DeepRefused, DeepStore};
 use rt_lists::Bytes;
 use rt_model::{Commit, SeenMeta, Status};
+use rt_scan::SummarizedSegment;
 use rt_schema::Schema;
 use rt_segment::{Sealed, SegmentRefused, decode};
 use std::alloc::Global;
@@ -48,7 +49,7 @@ impl CommittedSegment {
             return Err(ServerRefused::NotDue);
         }
         let file = load_done(alloc, deep, schema, partition, sequence, &self.done)?;
-        let rows = file.rows();
+        let rows = file.file().rows();
         self.file = Some(file);
         Ok(rows)
     }
@@ -63,7 +64,7 @@ fn load_done<D: DeepStore>(
     partition: Partition,
     sequence: Sequence,
     done: &SeenMeta,
-) -> Result<Sealed, ServerRefused>
+) -> Result<SummarizedSegment, ServerRefused>
     ensures { LoadsDone (D.meaning deep.old) (D.meaning deep.new) schema.now partition sequence done.now result }
 {
     let Status::Done(commit) = &done.meta.status else {
@@ -80,7 +81,7 @@ fn load<D: DeepStore>(
     path: &str,
     schema: &Schema,
     wanted: Header,
-) -> Result<Sealed, ServerRefused>
+) -> Result<SummarizedSegment, ServerRefused>
     ensures { Loads (D.meaning deep.old) (D.meaning deep.new) path.now schema.now wanted result }
 {
     got(alloc, schema, wanted, deep.get(alloc, path))
@@ -93,7 +94,7 @@ fn got(
     schema: &Schema,
     wanted: Header,
     answer: Result<Bytes, DeepRefused>,
-) -> Result<Sealed, ServerRefused>
+) -> Result<SummarizedSegment, ServerRefused>
     ensures { IsGot (got schema.now wanted answer) result }
 {
     match answer {
@@ -113,7 +114,7 @@ fn decoded_as(
     schema: &Schema,
     wanted: Header,
     decoded: Result<Sealed, SegmentRefused>,
-) -> Result<Sealed, ServerRefused>
+) -> Result<SummarizedSegment, ServerRefused>
     ensures { IsGot (decoded_as schema.now wanted decoded) result }
 {
     match decoded {
@@ -126,17 +127,18 @@ fn decoded_as(
     }
 }
 
-/// A file, where it has a header and a schema's columns.
+/// A file, where it has a header and a schema's columns, with its summaries.
 fn checked(
     alloc: Global,
     schema: &Schema,
     wanted: Header,
     file: Sealed,
-) -> Result<Sealed, ServerRefused>
+) -> Result<SummarizedSegment, ServerRefused>
     ensures { IsGot (checked schema.now wanted (Ok file)) result }
 {
     let found = file.header(alloc)?;
     if same_header(found, wanted) && file.fits(schema) {
+        let file = SummarizedSegment::make(alloc, file)?;
         Ok(file)
     } else {
         Err(ServerRefused::BadFile {

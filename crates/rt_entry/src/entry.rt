@@ -9,6 +9,7 @@ use rt_base::Offset;
 use rt_model::{ReplicaState, SeenMeta, Status};
 use rt_mutable::MutableSegment;
 use rt_replica::Replica;
+use rt_scan::SummarizedSegment;
 use rt_segment::Sealed;
 
 /// A committed segment, of which there is no replica: the metadata that told of its commit, and its file, or none where
@@ -16,7 +17,7 @@ use rt_segment::Sealed;
 #[derive(Drop)]
 pub struct CommittedSegment {
     pub done: SeenMeta,
-    pub file: Option<Sealed>,
+    pub file: Option<SummarizedSegment>,
 }
 
 /// What a server has of a segment.
@@ -56,6 +57,16 @@ impl Entry {
 
     /// The sealed rows of a committed entry.
     pub fn sealed(&self) -> Option<&Sealed>
+        ensures { option_map (λ file. file.now) result ≡ file_in self.now }
+    {
+        match self.summarized() {
+            Some(file) => Some(file.file()),
+            None => None,
+        }
+    }
+
+    /// The sealed rows of a committed entry, with their summaries.
+    pub(crate) fn summarized(&self) -> Option<&SummarizedSegment>
         ensures { option_map (λ file. file.now) result ≡ file_in self.now }
     {
         match self {

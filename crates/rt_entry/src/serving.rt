@@ -10,7 +10,7 @@ use rt_base::{Offset, Range};
 use rt_lists::Items;
 use rt_model::{Piece, Query};
 use rt_mutable::MutableSegment;
-use rt_scan::{scan, scan_below};
+use rt_scan::{SummarizedSegment, scan_below};
 use rt_schema::Row;
 use rt_segment::Sealed;
 use std::alloc::{AllocError, Global};
@@ -26,7 +26,7 @@ impl Entry {
         if let Some(rows) = self.held() {
             return serve_rows(alloc, piece, query, rows);
         }
-        if let Some(file) = self.sealed() {
+        if let Some(file) = self.summarized() {
             return serve_file(alloc, piece, query, file);
         }
         Err(ServeRefused::NotServed { reached: None })
@@ -67,13 +67,14 @@ fn serve_file(
     alloc: Global,
     piece: Piece,
     query: &Query,
-    file: &Sealed,
+    file: &SummarizedSegment,
 ) -> Result<Served, ServeRefused>
     requires { FitsSealed query.now file.now }
     ensures { AnswersGroups query.now (serve_file piece file.now) result }
 {
-    let range = file_range(piece, file)?;
-    let groups = scan(alloc, query, file)?;
+    let sealed = file.file();
+    let range = file_range(piece, sealed)?;
+    let groups = file.scan(alloc, query)?;
     Ok(Served { range, groups })
 }
 

@@ -13,7 +13,7 @@ use rt_consumer::{Consumer, ReplicaDue, ReplicaRefused};
 use rt_model::{ReplicaState, Reply, Request, SeenMeta, SegMeta, Setup};
 use rt_msgs::Numbers;
 use rt_mutable::MutableSegment;
-use rt_segment::Sealed;
+use rt_scan::SummarizedSegment;
 use rt_stream::Feed;
 use std::alloc::{AllocError, Global};
 use std::marker::Model;
@@ -235,7 +235,7 @@ impl Replica {
     }
 
     /// The sealed rows of a retained or a committed replica.
-    pub fn sealed(&self) -> Option<&Sealed>
+    pub fn sealed(&self) -> Option<&SummarizedSegment>
         ensures { option_map (λ file. file.now) result ≡ file_in self.now.phase }
     {
         self.consumer.sealed()
