@@ -1,8 +1,6 @@
 ghost use Rattle.std.specs.Prelude.{◌≡◌};
 ghost use Rattle.rt_base.specs.Which.{name_of};
 
-use std::fmt;
-
 /// A limit of what the product takes, by the name that a refusal prints.
 #[derive(Clone, Copy, Debug, PartialEq, Eq)]
 pub enum Which {
@@ -51,11 +49,5 @@ impl Which {
             Which::Moment => "moment",
             Which::Rows => "rows",
         }
-    }
-}
-
-impl fmt::Display for Which {
-    fn fmt<W: fmt::Write>(&self, f: &mut fmt::Formatter<W>) -> fmt::Result {
-        f.write_str(self.name())
     }
 }

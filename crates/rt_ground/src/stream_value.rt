@@ -1,4 +1,4 @@
-ghost use Rattle.std.specs.Prelude.{◌≡◌, ◌≤◌, [], length, true, IfOk};
+ghost use Rattle.std.specs.Prelude.{◌≡◌, [], true, IfOk};
 ghost use Rattle.rt_stream.specs.Feed.{answered};
 ghost use Rattle.rt_stream.specs.Log.{fetched, measured};
 ghost use Rattle.rt_ground.specs.Callers.{fronts_from};
@@ -8,10 +8,9 @@ ghost use Rattle.rt_ground.specs.StreamCalls.{messages, SettledBy, AppendsOnce, 
 use crate::appended::Appended;
 use crate::naming::Naming;
 use crate::register::Register;
-use rt_base::limits::LONGEST_MESSAGE;
 use rt_base::{Offset, Partition};
 use rt_front::{Blank, Chronicle, Front, Keeper, found};
-use rt_stream::{Feed, FeedRefused, Message, Messages, StreamLog};
+use rt_stream::{Feed, FeedRefused, Messages, StreamLog};
 use std::alloc::{AllocError, Global};
 use std::marker::{Model, PhantomData};
 
@@ -125,29 +124,7 @@ impl<J: Naming> StreamValue<J> {
         self.register.tell(chronicle, front);
     }
 
-    /// Adds a message at the end of a partition, and answers its offset.
-    pub fn append(
-        &mut self,
-        alloc: Global,
-        chronicle: &Chronicle<Appended>,
-        front: &mut Front<Appended>,
-        partition: Partition,
-        message: &[u8],
-    ) -> Result<Offset, FeedRefused>
-        requires names { (chronicle.now ≡ J.names.stream) × (front.old.chronicle ≡ J.names.stream) }
-        requires short { length message.now ≤ LONGEST_MESSAGE }
-        ensures name { front.new.chronicle ≡ front.old.chronicle }
-        ensures stream { AppendsOnce J.starting.partitions self.old self.new front.old front.new
-            (record { partition = partition; message = message.now }) result }
-    {
-        let appended = Appended {
-            partition,
-            message: Message::copied_from(alloc, message)?,
-        };
-        self.add(alloc, chronicle, front, &appended)
-    }
-
-    /// The same, of a message that was copied already: a caller makes the copy before it takes the lock.
+    /// Adds a message at the end of a partition, and answers its offset. A caller makes the copy before it takes the lock.
     pub fn add(
         &mut self,
         alloc: Global,

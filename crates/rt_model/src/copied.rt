@@ -1,6 +1,6 @@
 use crate::{
     Commit, IdealEntry, IdealState, Listed, Node, Reply, ReplyStatus, Request, RequestKind, Seen,
-    SeenMeta, SegMeta, Sent, Setup, Status,
+    SeenMeta, SegMeta, Setup, Status,
 };
 use rt_lists::Copied;
 use std::alloc::{AllocError, Global};
@@ -146,15 +146,6 @@ impl Copied for Reply {
             sequence: self.sequence,
             status: self.status.copied(alloc)?,
         })
-    }
-}
-
-impl Copied for Sent {
-    fn copied(&self, alloc: Global) -> Result<Self, AllocError> {
-        match self {
-            Sent::Request(request) => Ok(Sent::Request(request.copied(alloc)?)),
-            Sent::Reply(reply) => Ok(Sent::Reply(reply.copied(alloc)?)),
-        }
     }
 }
 

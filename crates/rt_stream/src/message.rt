@@ -68,13 +68,6 @@ impl Message {
     {
         self.bytes
     }
-
-    /// An equal message, in memory of its own.
-    pub fn copy(&self, alloc: Global) -> Result<Message, AllocError>
-        ensures { IfOk result (λ copy. copy ≡ self.now) }
-    {
-        Message::copied_from(alloc, self.as_slice())
-    }
 }
 
 impl PartialEq for Message {
@@ -100,6 +93,6 @@ impl Eq for Message {
 
 impl Copied for Message {
     fn copied(&self, alloc: Global) -> Result<Message, AllocError> {
-        self.copy(alloc)
+        Message::copied_from(alloc, self.as_slice())
     }
 }
