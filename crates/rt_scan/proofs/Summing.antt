@@ -1,5 +1,5 @@
 -- The rows of a segment fit the query of its summaries.
-use Rattle.std.proofs.Common.{◌≡◌, ℕ, ◌<◌, All, true, List, [], ◌∷◌, ◌++◌, filter, None, Some, refl, sym, ap, subst, ◌∙◌, slice_get}
+use Rattle.std.proofs.Common.{◌≡◌, ℕ, ◌+◌, ◌<◌, All, arith, true, length, List, [], ◌∷◌, ◌++◌, filter, None, Some, refl, sym, ap, subst, ◌∙◌, slice_get}
 use Rattle.std.specs.Prelude.{IsSome, option_and_then, option_map}
 use Rattle.std.specs.List.{AllByRecursion}
 use Rattle.std.proofs.lemmas.Bool.{false≢true}
@@ -18,11 +18,11 @@ use Rattle.rt_model.specs.Match.{passes}
 use Rattle.rt_segment.specs.Column.{IsColumn, values_of}
 use Rattle.rt_segment.specs.Segment.{SealedSegment, IsSealed, IsColumnOf, cell_in}
 use Rattle.rt_agg.specs.Accumulators.{ordering_items}
-use Rattle.rt_agg.specs.Grouped.{Fits, FitsItem}
+use Rattle.rt_agg.specs.Grouped.{Fits, FitsItem, Grouped}
 use Rattle.rt_agg.specs.Reading.{scalar_at, scalar_of}
 use Rattle.rt_agg.proofs.Appends.{both_fit}
 use Rattle.rt_seek.specs.Table.{row_at}
-use Rattle.rt_scan.specs.Summaries.{HasNumbers, IsFitting, is_number}
+use Rattle.rt_scan.specs.Summaries.{HasNumbers, IsFitting, aggregates_in, is_number}
 use Rattle.rt_scan.proofs.SealedRows.{kind_of_cell}
 
 -- a value of a kind of whole numbers is a scalar
@@ -79,3 +79,11 @@ three_more P xs one two three a b c all pa pb pc first second third =
     let with_one = subst (AllByRecursion P) (sym first) (both_fit P xs (a ∷ []) all (pa, tt)) in
     let with_two = subst (AllByRecursion P) (sym second) (both_fit P one (b ∷ []) with_one (pb, tt)) in
     subst (AllByRecursion P) (sym third) (both_fit P two (c ∷ []) with_two (pc, tt))
+
+-- the aggregates of groups, and of one summary more
+pub aggregates_more : (gs now : List Grouped) (g : Grouped) → now ≡ gs ++ g ∷ [] → aggregates_in now ≡ aggregates_in gs + length g.items
+aggregates_more gs now g is = ap aggregates_in is ∙ by gs
+  where
+    by : (hs : List Grouped) → aggregates_in (hs ++ g ∷ []) ≡ aggregates_in hs + length g.items
+    by [] = omega arith
+    by (h ∷ hs) = omega (arith, by hs)

@@ -3,11 +3,11 @@ ghost use Rattle.std.specs.Prelude.{◌≡◌, ◌<◌, ◌≤◌, [], None as N
 ghost use Rattle.std.specs.List.{AllByRecursion};
 ghost use Rattle.rt_segment.specs.Column.{values_of};
 ghost use Rattle.rt_seek.specs.FileColumn.{file_values};
-ghost use Rattle.rt_scan.specs.Summaries.{IsFitting, IsSummary, is_number, is_summarized};
+ghost use Rattle.rt_scan.specs.Summaries.{IsFitting, IsSummary, aggregates_in, is_number, is_summarized};
 
 use crate::scanning::{groups_taken, held_columns};
 use rt_agg::Groups;
-use rt_lists::Items;
+use rt_lists::{Copied, Items};
 use rt_model::{Aggregate, ColumnAt, Item, Query};
 use rt_schema::Kind;
 use rt_seek::FileColumn;
@@ -20,27 +20,39 @@ const MOST_VALUES: u32 = 1_024;
 // and at least so many rows a value.
 const LEAST_ROWS: u32 = 4;
 
-/// The summaries of a segment. Fails only where memory is refused.
+// All summaries of a segment have at most so many aggregates together, so that a row takes a bounded time.
+const MOST_AGGREGATES: usize = 256;
+
+/// The summaries of a segment, by its first columns that are summarized. Fails only where memory is refused.
 pub(crate) fn summaries_of(alloc: Global, file: &Sealed) -> Result<Items<Groups>, AllocError>
-    ensures { IfOk result (AllByRecursion (IsSummary file.now)) }
+    ensures summaries { IfOk result (AllByRecursion (IsSummary file.now)) }
+    ensures bound { IfOk result (λ summaries. aggregates_in summaries ≤ 256) }
 {
     let rows = file.rows();
     let stored = file.columns();
     let columns = held_columns(alloc, stored)?;
+    let items = summary_items(alloc, stored)?;
+    let aggregates = items.len();
+    let mut room = MOST_AGGREGATES;
     let mut summaries = Items::new(alloc);
     for place in 0..stored.len() {
-        if is_summarized(rows, &stored[place]) {
-            summaries.push(summary_by(alloc, file, &columns, place)?)?;
+        if aggregates <= room && is_summarized(rows, aggregates, &stored[place]) {
+            summaries.push(summary_by(alloc, file, &columns, &items, place)?)?;
+            room -= aggregates;
         }
     }
     Ok(summaries)
 }
 
-fn is_summarized(rows: u32, column: &SegmentColumn) -> bool
-    ensures { result ≡ is_summarized rows column.now }
+// Whether there is a summary of so many aggregates by a column. It has no more of them than there are rows.
+fn is_summarized(rows: u32, aggregates: usize, column: &SegmentColumn) -> bool
+    ensures { result ≡ is_summarized rows aggregates column.now }
 {
     let values = column.dictionary().len();
-    column.is_indexed() && values <= MOST_VALUES && values.saturating_mul(LEAST_ROWS) <= rows
+    column.is_indexed()
+        && values <= MOST_VALUES
+        && values.saturating_mul(LEAST_ROWS) <= rows
+        && (values as usize).saturating_mul(aggregates) <= rows as usize
 }
 
 // The groups of all rows by the column at a place.
@@ -48,35 +60,38 @@ fn summary_by(
     alloc: Global,
     file: &Sealed,
     columns: &[FileColumn<'_>],
+    items: &Items<Item>,
     place: usize,
 ) -> Result<Groups, AllocError>
     requires place { place < length file.now.columns }
     requires columns { map file_values columns.now ≡ map values_of file.now.columns }
-    ensures { IfOk result (IsSummary file.now) }
+    requires items { AllByRecursion (IsFitting file.now.columns) items.now }
+    ensures summary { IfOk result (IsSummary file.now) }
+    ensures items { IfOk result (λ groups. groups.items ≡ items.now) }
 {
     let rows = file.rows();
-    let query = summary_query(alloc, file.columns(), place)?;
+    let query = summary_query(alloc, file.columns(), items, place)?;
     let groups = groups_taken(alloc, &query, columns, rows)?;
     Ok(groups)
 }
 
-// COUNT(*), and SUM, MIN and MAX of each column of whole numbers, by the column at a place.
+// The query of a summary by the column at a place.
 fn summary_query(
     alloc: Global,
     columns: &[SegmentColumn],
+    items: &Items<Item>,
     place: usize,
 ) -> Result<Query, AllocError>
     requires place { place < length columns.now }
     requires few { length columns.now ≤ 256 }
-    ensures items { IfOk result (λ query. AllByRecursion (IsFitting columns.now) query.items) }
+    ensures items { IfOk result (λ query. query.items ≡ items.now) }
     ensures order { IfOk result (λ query. query.order ≡ []) }
     ensures filter { IfOk result (λ query. query.filter ≡ Nothing) }
 {
-    let items = summary_items(alloc, columns)?;
     let mut groups = Items::new(alloc);
     groups.push(column_at(alloc, columns, place)?)?;
     Ok(Query {
-        items,
+        items: items.copied(alloc)?,
         filter: None,
         groups,
         order: Items::new(alloc),
@@ -84,6 +99,7 @@ fn summary_query(
     })
 }
 
+// COUNT(*), and SUM, MIN and MAX of each column of whole numbers.
 fn summary_items(alloc: Global, columns: &[SegmentColumn]) -> Result<Items<Item>, AllocError>
     requires { length columns.now ≤ 256 }
     ensures { IfOk result (AllByRecursion (IsFitting columns.now)) }

@@ -3,7 +3,8 @@ use Rattle.std.specs.List.{AllByRecursion}
 use Rattle.std.proofs.lemmas.List.Elements.{All-map}
 use Rattle.rt_schema.specs.declared.row.Row.{Row}
 use Rattle.rt_schema.specs.declared.value.Value.{Value}
-use Rattle.rt_segment.specs.Column.{SealedColumn, values_of}
+use Rattle.rt_model.specs.declared.query_parts.Item.{Item}
+use Rattle.rt_segment.specs.Column.{values_of}
 use Rattle.rt_agg.specs.Grouped.{Fits, Holds}
 use Rattle.rt_seek.specs.FileColumn.{file_values}
 use Rattle.rt_seek.specs.Table.{rows_by}
@@ -24,11 +25,14 @@ groups_taken-requires-clause-fits c row h =
     let query = c.in_ok-query.query in
     subst (Fits query) (sym (same_row file_values values_of c.args.columns.now file.columns c.requires.columns row))
     (query_fits file c.rows-rows.ensures.right row (omega (arith, h, c.rows-rows.ensures.rows)) query
-    (subst (λ (cs : List SealedColumn). AllByRecursion (IsFitting cs) query.items) c.columns.ensures c.in_ok-query.ensures.items) c.in_ok-query.ensures.order)
+    (subst (λ (is : List Item). AllByRecursion (IsFitting file.columns) is) (sym c.in_ok-query.ensures.items) c.requires.items) c.in_ok-query.ensures.order)
 
-pub returns : goal.returns
-returns c =
+pub returns-clause-summary : goal.returns-clause-summary
+returns-clause-summary c =
     let file = c.args.file.now in
     let query = c.in_ok-query.query in
     let rows = same_rows file_values values_of c.args.columns.now file.columns c.requires.columns c.rows-rows.result ∙ ap (rows_by values_of file.columns) c.rows-rows.ensures.rows in
     (query, subst (λ (rs : List Row). Holds query rs c.in_ok-groups.groups) (all_taken query (rows_by file_values c.args.columns.now c.rows-rows.result) c.in_ok-query.ensures.filter ∙ rows) c.in_ok-groups.ensures)
+
+pub returns-clause-items : goal.returns-clause-items
+returns-clause-items c = c.in_ok-groups.ensures.items ∙ c.in_ok-query.ensures.items
