@@ -20,4 +20,5 @@ mod Sorting
 mod Spreading
 mod Tables
 mod Tabling
+mod Untold
 mod Walks

@@ -1,5 +1,5 @@
 -- Groups of a query that other groups, of more items and perhaps of more rows, tell of.
-use Rattle.std.specs.Prelude.{◌≡◌, ◌⊎◌, ◌++◌, ℕ, Bool, List, [], ◌∷◌, map, Some, slice_get, if◌then◌else◌}
+use Rattle.std.specs.Prelude.{◌≡◌, ◌≤◌, ◌⊎◌, ◌++◌, ℕ, Bool, List, [], ◌∷◌, length, map, Some, slice_get, if◌then◌else◌}
 use Rattle.std.specs.List.{AllByRecursion, Contains, IsDistinct}
 use Rattle.rt_schema.specs.declared.row.Row.{Row}
 use Rattle.rt_schema.specs.declared.value.Value.{Value}
@@ -69,6 +69,21 @@ PicksGroups marks other new =
 -- the items of groups, and then those of the keys of ORDER BY
 abbrev pub all_items : Grouped → List Item
 all_items g = g.items ++ ordering_items g.order
+
+-- both lists are of the same one column
+abbrev pub AreOneColumn : List ColumnAt → List ColumnAt → Type 0
+AreOneColumn one other = (column : ColumnAt) × (one ≡ column ∷ []) × (other ≡ column ∷ [])
+
+-- groups by some columns come of the marked groups of others: those are by the same one column, or there are no columns, and
+-- at most one group is marked
+abbrev pub TellsKeys : List ColumnAt → List Bool → Grouped → Type 0
+TellsKeys [] marks other = length (kept marks other.groups) ≤ 1
+TellsKeys (by ∷ columns) marks other = AreOneColumn (by ∷ columns) other.columns
+
+-- the marked groups of others tell of a query's groups: these come of them, and they have the query's aggregates
+abbrev pub Tells : Query → List Bool → Grouped → Type 0
+Tells query marks other =
+    TellsKeys query.groups marks other × AllByRecursion (IsAmong (all_items other)) (query.items ++ ordering_items query.order)
 
 -- what is known of each group of a query, by what the marked groups of others know of the same rows
 abbrev pub AreAllTold : Query → List Bool → Grouped → Grouped → Type 0

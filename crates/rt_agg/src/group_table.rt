@@ -1,4 +1,4 @@
-ghost use Rattle.std.specs.Prelude.{◌≡◌, ◌<◌, ◌++◌, ◌∷◌, [], cond, List, length, map, take, slice_get, Some, None, IfSome, IfNone, IfOk, OnOk, OnErr};
+ghost use Rattle.std.specs.Prelude.{◌≡◌, ◌<◌, ◌++◌, ◌∷◌, [], cond, List, length, map, take, slice_get, Some, None, IfSome, IfNone, IfErr, IfOk, OnOk, OnErr};
 ghost use Rattle.std.specs.List.{AllByRecursion, IsDistinct};
 ghost use Rattle.std.specs.Map.{lookup, keys_of};
 ghost use Rattle.rt_schema.specs.declared.value.Value.{Value as AnyValue};
@@ -8,6 +8,7 @@ ghost use Rattle.rt_agg.specs.Grouped.{same_key};
 ghost use Rattle.rt_agg.specs.GroupTable.{AddsRows, IsOfSame};
 ghost use Rattle.rt_agg.specs.Picking.{IsAmong, PicksGroups, kept};
 ghost use Rattle.rt_agg.specs.Ranking.{ranked_at};
+ghost use Rattle.rt_agg.specs.declared.pick_refused.PickRefused.TheVariants.{Untold};
 ghost use Rattle.rt_model.specs.Aggregate.{result_cmp};
 
 use crate::group_keys::GroupKeys;
@@ -79,6 +80,8 @@ impl GroupTable {
         ensures keys { IfOk result (λ t. keys_of t.entries ≡ keys) }
         ensures among { IfOk result (λ t. AllByRecursion (IsAmong other.now.items) t.items) }
         ensures picks { IfOk result (PicksGroups marks.now other.now) }
+        ensures untold { IfErr result (λ refused. refused ≡ Untold
+            → AllByRecursion (IsAmong other.now.items) (items.now ++ ordering_items order.now) → ⊥) }
     {
         let columns = columns.copied(alloc)?;
         let holders = SharedHolders::pick(alloc, items, order, &other.holders, marks)?;

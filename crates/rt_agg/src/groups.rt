@@ -1,11 +1,12 @@
-ghost use Rattle.std.specs.Prelude.{◌≡◌, ◌↔◌, ◌++◌, ◌∷◌, [], List, length, map, slice_get, None, Some, IfOk, IsTrue, OnOk, OnErr};
+ghost use Rattle.std.specs.Prelude.{◌≡◌, ◌↔◌, ◌++◌, ◌∷◌, [], List, length, map, slice_get, None, Some, IfErr, IfOk, IsTrue, OnOk, OnErr};
 ghost use Rattle.std.specs.List.{AllByRecursion, Contains, IsDistinct};
 ghost use Rattle.std.specs.Map.{lookup, keys_of};
 ghost use Rattle.rt_schema.specs.declared.value.Value.{Value as AnyValue};
 ghost use Rattle.rt_agg.specs.Accumulators.{known_of, ordering_items};
 ghost use Rattle.rt_agg.specs.Grouped.{Adds, AddsPage, AwaitsOne, Finishes, Merges, Holds, first_known, keys_in_order, same_key};
 ghost use Rattle.rt_agg.specs.GroupTable.{IsOfSame};
-ghost use Rattle.rt_agg.specs.Picking.{AreAllTold, AreOf, IsAmong, Picks, all_items, kept};
+ghost use Rattle.rt_agg.specs.Picking.{AreAllTold, AreOf, AreOneColumn, IsAmong, Picks, Tells, all_items, kept};
+ghost use Rattle.rt_agg.specs.declared.pick_refused.PickRefused.TheVariants.{Untold};
 
 use crate::foremost::{first_places, rows_at};
 use crate::group_keys::GroupKeys;
@@ -75,14 +76,16 @@ impl Groups {
     }
 
     /// The groups of a query that takes the rows of those groups of others that are marked. The others tell of them where
-    /// they have the query's aggregates, and either its one column or, where it has none, at most one marked group.
+    /// they have the query's aggregates, and either its one column or, where it has none, at most one marked group; else it
+    /// is refused as untold.
     pub fn pick(
         alloc: Global,
         query: &Query,
         others: &Groups,
         marks: &[bool],
     ) -> Result<Groups, PickRefused>
-        ensures { IfOk result (Picks query.now marks.now others.now) }
+        ensures picks { IfOk result (Picks query.now marks.now others.now) }
+        ensures untold { IfErr result (λ refused. refused ≡ Untold → Tells query.now marks.now others.now → ⊥) }
     {
         if query.groups.is_empty() {
             Groups::pick_whole(alloc, query, others, marks)
@@ -102,7 +105,8 @@ impl Groups {
     ) -> Result<Groups, PickRefused>
         requires alike { query.now.groups ≡ others.now.columns }
         requires some { query.now.groups ≡ [] → ⊥ }
-        ensures { IfOk result (Picks query.now marks.now others.now) }
+        ensures picks { IfOk result (Picks query.now marks.now others.now) }
+        ensures untold { IfErr result (λ refused. refused ≡ Untold → Tells query.now marks.now others.now → ⊥) }
     {
         let keys = others.table.keys().pick(alloc, marks)?;
         let groups = Groups::pick_keys(alloc, query, keys, others, marks)?;
@@ -117,7 +121,8 @@ impl Groups {
         marks: &[bool],
     ) -> Result<Groups, PickRefused>
         requires { query.now.groups ≡ [] }
-        ensures { IfOk result (Picks query.now marks.now others.now) }
+        ensures picks { IfOk result (Picks query.now marks.now others.now) }
+        ensures untold { IfErr result (λ refused. refused ≡ Untold → Tells query.now marks.now others.now → ⊥) }
     {
         let keys = others.table.keys().pick(alloc, marks)?;
         match keys.len() {
@@ -148,6 +153,7 @@ impl Groups {
         ensures keys { IfOk result (λ g. keys_in_order g ≡ keys) }
         ensures among { IfOk result (λ g. AllByRecursion (IsAmong (all_items others.now)) (query.now.items ++ ordering_items query.now.order)) }
         ensures told { IfOk result (AreAllTold query.now marks.now others.now) }
+        ensures untold { IfErr result (λ refused. refused ≡ Untold → AllByRecursion (IsAmong (all_items others.now)) (query.now.items ++ ordering_items query.now.order) → ⊥) }
     {
         let items = query.items.copied(alloc)?;
         let order = query.order.copied(alloc)?;
@@ -321,7 +327,7 @@ fn whole_key(alloc: Global) -> Result<GroupKeys, AllocError>
 
 // Whether there is one column in both lists, and it is the same.
 fn are_one_column(one: &[ColumnAt], other: &[ColumnAt]) -> bool
-    ensures { IsTrue result → one.now ≡ other.now }
+    ensures { IsTrue result ↔ AreOneColumn one.now other.now }
 {
     match (one, other) {
         ([one], [other]) => is_same(one, other),

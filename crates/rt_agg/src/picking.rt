@@ -1,9 +1,11 @@
 //! Holders for the items of a query, with what others have of the groups that are marked.
-ghost use Rattle.std.specs.Prelude.{◌≡◌, ◌<◌, All, Contains, length, map, IfOk, IfSome};
+ghost use Rattle.std.specs.Prelude.{◌≡◌, ◌<◌, All, Contains, length, map, slice_get, IfErr, IfNone, IfOk, IfSome, Some};
 ghost use Rattle.std.specs.List.{AllByRecursion};
-ghost use Rattle.rt_agg.specs.Picking.{IsPicked};
+ghost use Rattle.rt_model.specs.declared.query_parts.Item.{Item as AnyItem};
+ghost use Rattle.rt_agg.specs.Picking.{IsAmong, IsPicked};
 ghost use Rattle.rt_agg.specs.ResultHolder.{item_of};
 ghost use Rattle.rt_agg.specs.Sharing.{AreHeld, IsHeld, spread};
+ghost use Rattle.rt_agg.specs.declared.pick_refused.PickRefused.TheVariants.{Untold};
 
 use crate::PickRefused;
 use crate::result_holder::ResultHolder;
@@ -24,6 +26,8 @@ pub(crate) fn pick_all(
     requires within { All (λ p. p < length others.now) others_places.now }
     ensures held { IfOk result (λ held. AreHeld items.now places.now (length items.now) (map item_of held)) }
     ensures picked { IfOk result (AllByRecursion (IsPicked (spread others_places.now others.now) marks.now)) }
+    ensures untold { IfErr result (λ refused. refused ≡ Untold
+        → AllByRecursion (IsAmong (map item_of (spread others_places.now others.now))) items.now → ⊥) }
 {
     let mut held = Items::new(alloc);
     for i in 0..items.len() {
@@ -46,6 +50,8 @@ fn pick_one(
     requires within { All (λ p. p < length others.now) others_places.now }
     ensures held { IfOk result (λ holder. IsHeld items.now places.now i (item_of holder)) }
     ensures picked { IfOk result (IsPicked (spread others_places.now others.now) marks.now) }
+    ensures untold { IfErr result (λ refused. refused ≡ Untold → (item : AnyItem)
+        → slice_get items.now i ≡ Some item → IsAmong (map item_of (spread others_places.now others.now)) item → ⊥) }
 {
     if places[i] == i {
         pick_item(alloc, &items[i], others, others_places, marks)
@@ -66,6 +72,8 @@ fn pick_item(
     requires { All (λ p. p < length others.now) others_places.now }
     ensures item { IfOk result (λ holder. item_of holder ≡ item.now) }
     ensures picked { IfOk result (IsPicked (spread others_places.now others.now) marks.now) }
+    ensures untold { IfErr result (λ refused. refused ≡ Untold
+        → IsAmong (map item_of (spread others_places.now others.now)) item.now → ⊥) }
 {
     match item {
         Item::Column(column) => Ok(ResultHolder::Key(column.copied(alloc)?)),
@@ -85,6 +93,7 @@ fn find_holder<'a>(
     requires { All (λ p. p < length holders.now) places.now }
     ensures item { IfSome result (λ holder. item_of holder.now ≡ item.now) }
     ensures there { IfSome result (λ holder. Contains (spread places.now holders.now) holder.now) }
+    ensures none { IfNone result (Contains (map item_of (spread places.now holders.now)) item.now → ⊥) }
 {
     for place in places {
         let holder = &holders[*place];

@@ -1,4 +1,4 @@
-ghost use Rattle.std.specs.Prelude.{◌≡◌, IfOk, IsTrue, OnOk, OnErr};
+ghost use Rattle.std.specs.Prelude.{◌≡◌, ◌↔◌, IfOk, IsTrue, OnOk, OnErr};
 ghost use Rattle.rt_model.specs.Aggregate.{cell_cmp};
 ghost use Rattle.rt_agg.specs.Accumulators.{scalar_cell};
 ghost use Rattle.rt_agg.specs.Picking.{picked_in};
@@ -67,7 +67,7 @@ impl ResultHolder {
 
     /// Whether it is for an item.
     pub(crate) fn is_for(&self, item: &Item) -> bool
-        ensures { IsTrue result → item_of self.now ≡ item.now }
+        ensures { IsTrue result ↔ (item_of self.now ≡ item.now) }
     {
         match (self, item) {
             (ResultHolder::Key(column), Item::Column(other)) => column == other,

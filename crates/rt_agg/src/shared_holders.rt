@@ -1,12 +1,13 @@
-ghost use Rattle.std.specs.Prelude.{◌≡◌, ◌++◌, ℕ, drop, map, take, IfOk, OnOk};
+ghost use Rattle.std.specs.Prelude.{◌≡◌, ◌++◌, ℕ, drop, map, take, IfErr, IfOk, OnOk};
 ghost use Rattle.std.specs.List.{AllByRecursion};
 ghost use Rattle.std.specs.Ordering.{ordering_then};
 ghost use Rattle.rt_model.specs.Aggregate.{order_cmp};
 ghost use Rattle.rt_model.specs.Values.{key_cmp};
 ghost use Rattle.rt_agg.specs.Accumulators.{ordering_items};
 ghost use Rattle.rt_agg.specs.GroupTable.{StartsSome, all_merged_in};
-ghost use Rattle.rt_agg.specs.Picking.{IsPicked};
+ghost use Rattle.rt_agg.specs.Picking.{IsAmong, IsPicked};
 ghost use Rattle.rt_agg.specs.ResultHolder.{HasStarted, cell_held, item_of, started_in, with_page_in};
+ghost use Rattle.rt_agg.specs.declared.pick_refused.PickRefused.TheVariants.{Untold};
 
 use crate::all_holders::{add_page_to_all, merge_all, start_all};
 use crate::group_cells::{before, behind, cells_of, compare_groups};
@@ -69,6 +70,8 @@ impl SharedHolders {
     ) -> Result<SharedHolders, PickRefused>
         ensures items { IfOk result (λ all. map item_of all ≡ items.now ++ ordering_items order.now) }
         ensures picked { IfOk result (AllByRecursion (IsPicked others.now marks.now)) }
+        ensures untold { IfErr result (λ refused. refused ≡ Untold
+            → AllByRecursion (IsAmong (map item_of others.now)) (items.now ++ ordering_items order.now) → ⊥) }
     {
         let all = items_of(alloc, items, order)?;
         let places = places_of(alloc, all.as_slice())?;

@@ -11,4 +11,4 @@ returns-in_ok-groups-in-Some c =
     let groups = c.in_ok-groups-in-Some.groups in
     picked_hold c.args.file.now c.args.column.now c.requires.within c.in-Some.test query summary groups c.in_ok-marks-in-Some.marks c.requires.summary c.requires.column c.in-Some.ensures
     (c.in_ok-marks-in-Some.ensures ∙ ap (map (passes_key c.in-Some.test)) c.keys.ensures)
-    (subst (λ (marks : List Bool). Picks query marks summary groups) c.as_slice.ensures c.in_ok-groups-in-Some.ensures)
+    (subst (λ (marks : List Bool). Picks query marks summary groups) c.as_slice.ensures c.in_ok-groups-in-Some.ensures.picks)

@@ -15,8 +15,8 @@ pick_keys-requires-clause-long c =
     let groups = c.args.others.now.groups in
     ap length (marked_keys c ∙ sym (keys_kept c.args.marks.now groups)) ∙ keys_long (kept c.args.marks.now groups)
 
-pub returns : goal.returns
-returns c =
-    let at = (goal.at.returns c).In_ok-keys in
+pub returns-clause-picks : goal.returns-clause-picks
+returns-clause-picks c =
+    let at = (goal.at.returns-clause-picks c).In_ok-keys in
     picks_alike c.args.query.now c.args.marks.now c.args.others.now c.in_ok-groups.groups c.in_ok-groups.ensures.of c.in_ok-groups.ensures.among c.in_ok-groups.ensures.told
     c.requires.alike c.requires.some (c.in_ok-groups.ensures.keys ∙ marked_keys at)
