@@ -29,7 +29,6 @@ pub mod Reaching
 pub mod ReplicaRuns
 pub mod ReplicaSteps
 pub mod Seeing
-pub mod Sequences
 pub mod Served
 pub mod Stopping
 pub mod ToldRuns

@@ -1,5 +1,5 @@
 -- What a world at rest has of each partition.
-use Rattle.std.proofs.Common.{◌≡◌, ℕ, zero, suc, ◌<◌, ◌≤◌, List, [], ◌∷◌, Some, length, slice_get, refl, ◌∙◌, ap, subst, arith}
+use Rattle.std.proofs.Common.{◌≡◌, ℕ, zero, suc, ◌<◌, List, [], ◌∷◌, Some, length, slice_get, refl, ◌∙◌, ap, subst, arith}
 use Rattle.rt_assign.proofs.Ring.{setup_placed}
 use Rattle.rt_assign.specs.Placement.{replicas_of}
 use Rattle.rt_base.specs.declared.numbers.Instance.{Instance}
@@ -11,7 +11,7 @@ use Rattle.rt_lists.proofs.Members.{Has-place}
 use Rattle.rt_model.proofs.Histories.{same_instance}
 use Rattle.rt_model.specs.Entries.{entries_of}
 use Rattle.rt_model.specs.Ideal.{mode_of}
-use Rattle.rt_model.specs.Metadata.{metadata_of, sequences_of, IsDoneStatus, IsInProgress}
+use Rattle.rt_model.specs.Metadata.{metadata_of, IsDoneStatus, IsInProgress}
 use Rattle.rt_model.specs.declared.commit.Commit.{Commit}
 use Rattle.rt_model.specs.declared.ideal_state.Mode.{Mode}
 use Rattle.rt_model.specs.declared.ideal_state.Mode.TheVariants as mode
@@ -20,35 +20,20 @@ use Rattle.rt_model.specs.declared.status.Status.{Status}
 use Rattle.rt_model.specs.declared.status.Status.TheVariants.{InProgress, Done, Abandoned}
 use Rattle.rt_nodes.specs.declared.server_node.ServerNode.{ServerNode}
 use Rattle.rt_past.specs.Segments.{IsAssignedTo}
+use Rattle.rt_state.proofs.Bounds.{few_sequences}
 use Rattle.rt_state.specs.IsSafe.{past_of}
 use Rattle.rt_state.specs.IsSafeWorld.{IsSafeWorld}
 use Rattle.rt_state.specs.declared.state.State.{State}
-use Rattle.rt_store.specs.Contents.{starting_of}
 use Rattle.rt_heal.specs.AtRest.{IsAtRest, IsConsumedAt, IsServedAt}
 use Rattle.rt_heal.specs.Mended.{GoesOn, NeedsNoRepair}
 use Rattle.rt_heal.proofs.Asked.{mode_asked, online_listed, present_right}
 use Rattle.rt_heal.proofs.Mended.{goes_on}
-use Rattle.rt_heal.proofs.Sequences.{few_contents, few_segments}
 use Rattle.rt_heal.proofs.Served.{consuming_takes, online_serves}
 
 stands_at : {X : Type 0} (xs : List X) (k : ℕ) → k < length xs → (x : X) × (slice_get xs k ≡ Some x)
 stands_at [] k lt = absurd (omega (arith, lt))
 stands_at (x ∷ xs) zero lt = (x, refl)
 stands_at (x ∷ xs) (suc k) lt = stands_at xs k (omega (arith, lt))
-
--- a partition has far fewer segments than there are numbers
-few_sequences : (w : State) (p : Partition) → IsSafeWorld w → p.0 < w.setup.partitions → sequences_of w.store.writes p ≤ 4294967290
-few_sequences w p s within =
-    let st = starting_of w.setup in
-    omega (
-      arith,
-      few_segments st w.store.writes p s.safe.past.lawful within,
-      s.few.written,
-      s.few.events,
-      few_contents st,
-      s.safe.setup.few_servers,
-      s.safe.setup.few_partitions,
-    )
 
 pub unneeding_goes_on : (w : State) (p : Partition) → IsSafeWorld w → p.0 < w.setup.partitions → NeedsNoRepair w.setup w.store.writes w.moment p
     → GoesOn w.store.writes p

@@ -1,10 +1,7 @@
 -- The numbers of an answer that is given in a safe world fit words of 64 bits.
-use Rattle.std.proofs.Common.{◌≡◌, ◌<◌, ◌≤◌, inl, inr, ℕ, ◌+◌, ◌-◌, Bool, true, false, eqb, List, [], ◌∷◌, length, map, Option, Some, None, refl, sym, ◌∙◌, ap, subst, arith, ⊎_elim}
-use Rattle.std.specs.List.{list_any}
-use Rattle.std.specs.Prelude.{◌||◌}
-use Rattle.std.proofs.lemmas.Bool.{cases_lt, cond-true, eq-eqb}
-use Rattle.std.proofs.lemmas.List.{get_or_past, length-map}
-use Rattle.std.proofs.lemmas.Map.Steps.{le-length_from_below}
+use Rattle.std.proofs.Common.{◌≡◌, ◌<◌, ◌≤◌, inl, inr, ℕ, List, [], ◌∷◌, length, Option, Some, None, refl, sym, ap, subst, arith, ⊎_elim}
+use Rattle.std.proofs.lemmas.Bool.{cases_lt}
+use Rattle.std.proofs.lemmas.List.{get_or_past}
 use Rattle.std.proofs.lemmas.Option.{slice_get_within}
 use Rattle.rt_base.specs.declared.numbers.Partition.{Partition}
 use Rattle.rt_base.specs.declared.numbers.Sequence.{Sequence}
@@ -16,13 +13,9 @@ use Rattle.rt_broker.specs.declared.route.Route.{Route}
 use Rattle.rt_broker.specs.declared.route.Route.TheVariants.{Failed, Planned, Untried}
 use Rattle.rt_lists.proofs.Members.{Has-front, map-Has}
 use Rattle.rt_lists.specs.Members.{Has}
-use Rattle.rt_model.proofs.Lawful.{has_chains}
 use Rattle.rt_model.proofs.Listings.{listed_has}
-use Rattle.rt_model.specs.Lawful.{IsLawfulHistory}
-use Rattle.rt_model.specs.Metadata.{listed_write, metadata_of, node_key, past_key, sequences_of}
-use Rattle.rt_model.specs.Starting.{Starting}
+use Rattle.rt_model.specs.Metadata.{listed_write, metadata_of}
 use Rattle.rt_model.specs.declared.answer.Answer.{Answer}
-use Rattle.rt_model.specs.declared.node.Seen.{Seen}
 use Rattle.rt_model.specs.declared.piece.Piece.{Piece}
 use Rattle.rt_play.proofs.NamedRanges.{named_produced}
 use Rattle.rt_play.proofs.Plans.{piece_listed}
@@ -31,38 +24,11 @@ use Rattle.rt_play.specs.Reader.{AreProduced}
 use Rattle.rt_safety.proofs.Answering.{few_at}
 use Rattle.rt_safety.specs.IsAnswered.{IsAnswered}
 use Rattle.rt_state.proofs.Bounds.{few_writes}
+use Rattle.rt_state.proofs.Sequences.{number_within}
 use Rattle.rt_state.specs.IsSafeWorld.{IsSafeWorld}
 use Rattle.rt_state.specs.declared.state.State.{State}
 use Rattle.rt_store.specs.Contents.{starting_of}
 use Rattle.rt_stream.specs.Log.{messages_of}
-
--- ---- a segment's number
-
-abbrev number_in : Partition → Seen → ℕ
-number_in p w = past_key p w.key - 1
-
-key_number : (p : Partition) (q : ℕ) (w : Seen) → w.key ≡ node_key p q → q ≡ number_in p w
-key_number p q w of = omega (arith, ap (past_key p) of, cond-true (eqb p.0 p.0) (q + 1) 0 (eq-eqb p.0 p.0 refl))
-
-has_number : (p : Partition) (q : ℕ) (h : List Seen) (w : Seen) → Has h w → q ≡ number_in p w → list_any (eqb q) (map (number_in p) h) ≡ true
-has_number p q [] w has e = absurd has
-has_number p q (v ∷ h) w (inl same) e =
-    ap (λ (b : Bool). b || list_any (eqb q) (map (number_in p) h)) (eq-eqb q (number_in p v) (e ∙ ap (number_in p) (sym same)))
-has_number p q (v ∷ h) w (inr has) e = by_test (eqb q (number_in p v)) (has_number p q h w has e)
-  where
-    by_test : (b : Bool) → list_any (eqb q) (map (number_in p) h) ≡ true → (b || list_any (eqb q) (map (number_in p) h)) ≡ true
-    by_test true further = refl
-    by_test false further = further
-
--- each number below it was written, so that a segment's is less than the length of the history
-pub number_within : (s : Starting) (h : List Seen) (p : Partition) (q : ℕ) (w : Seen) → IsLawfulHistory s h → p.0 < s.partitions → Has h w → w.key ≡ node_key p q
-    → q < length h
-number_within s h p q w lawful within has of =
-    let chain = has_chains s h lawful p within in
-    let lt : q < sequences_of h p = ⊎_elim (λ k. k) (λ k. absurd (chain.uncreated q w k has of)) (cases_lt q (sequences_of h p)) in
-    let few = le-length_from_below (map (number_in p) h) (sequences_of h p)
-    (λ n below. let made = chain.created n below in has_number p n h made.0 made.1.has (key_number p n made.0 made.1.is_of)) in
-    omega (arith, lt, few, length-map h (number_in p))
 
 -- ---- an answer
 

@@ -39,7 +39,6 @@ use Rattle.rt_model.specs.declared.status.Status.{Status}
 use Rattle.rt_model.specs.declared.status.Status.TheVariants.{Abandoned, Done, InProgress}
 use Rattle.rt_nodes.specs.declared.chore.Chore.TheVariants.{Retire}
 use Rattle.rt_nodes.specs.declared.controller_node.ControllerNode.{ControllerNode}
-use Rattle.rt_play.proofs.AnswerWords.{number_within}
 use Rattle.rt_play.proofs.Deleted.{was_deleted}
 use Rattle.rt_play.proofs.Known.{taken}
 use Rattle.rt_play.specs.AnswerTexts.{IsWord}
@@ -55,6 +54,7 @@ use Rattle.rt_safety.specs.Runs.{happens}
 use Rattle.rt_state.proofs.Bounds.{few_sent, few_writes}
 use Rattle.rt_state.proofs.NeedsNodes.{chore_needs}
 use Rattle.rt_state.proofs.Possible.{only_passed}
+use Rattle.rt_state.proofs.Sequences.{number_within}
 use Rattle.rt_state.specs.Applying.{Next}
 use Rattle.rt_state.specs.Finding.{has_partition, request_at}
 use Rattle.rt_state.specs.IsSafe.{past_of}

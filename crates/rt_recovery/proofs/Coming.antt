@@ -22,6 +22,7 @@ use Rattle.rt_repair.specs.Retired.{retire_by}
 use Rattle.rt_repair.specs.Retirement.{beginning, retiring_at, Retirement}
 use Rattle.rt_safety.proofs.Later.{runs_are_safe}
 use Rattle.rt_safety.specs.Runs.{Runs, Turn}
+use Rattle.rt_state.proofs.Bounds.{few_sequences}
 use Rattle.rt_state.specs.IsSafeWorld.{IsSafeWorld}
 use Rattle.rt_state.specs.declared.state.State.{State}
 use Rattle.rt_store.proofs.Listing.{value_has}
@@ -30,7 +31,7 @@ use Rattle.rt_heal.proofs.Quiet.{then_parts, told_same}
 use Rattle.rt_recovery.specs.Retiring.{goes_on_by, nothing_by, retirements_enough, Goes, LeavesOldOnes, RetireTurn, Retires, RetiresIn, RetiresOf, RetiresUntil, Until}
 use Rattle.rt_recovery.proofs.Emptying.{counted, decided_lessens, left_most, left_to_retire}
 use Rattle.rt_recovery.proofs.Leaving.{leads_leave, runs_leave}
-use Rattle.rt_recovery.proofs.Mending.{few_sequences, mending_still, mending_then, GoesMending}
+use Rattle.rt_recovery.proofs.Mending.{mending_still, mending_then, GoesMending}
 use Rattle.rt_recovery.proofs.Retiring.{any_runs, listing_runs, of_runs, steppable, Busy, IsFree, IsUnder}
 use Rattle.rt_recovery.proofs.Turns.{from_notes}
 
@@ -137,4 +138,4 @@ pub retirements_always_come : (setup : Setup) (turns : List Turn) (w : State) (v
 retirements_always_come setup turns w v c times told is run none many h =
     let safe = runs_are_safe setup turns w is run in
     comes_all c times w safe none (runs_leave setup turns w is run)
-    (λ p within. omega (arith, counted (starting_of w.setup) w.store.writes p safe.safe.past.lawful within, few_sequences c p w safe within, many)) v told h
+    (λ p within. omega (arith, counted (starting_of w.setup) w.store.writes p safe.safe.past.lawful within, few_sequences w p safe within, many)) v told h

@@ -83,7 +83,7 @@ use Rattle.rt_state.specs.IsSafe.{past_of}
 use Rattle.rt_state.specs.IsSafeWorld.{IsSafeWorld}
 use Rattle.rt_state.specs.Messages.{after_step, handed, DeliversAt}
 use Rattle.rt_state.specs.declared.state.State.{State}
-use Rattle.rt_state.proofs.Bounds.{few_writes}
+use Rattle.rt_state.proofs.Bounds.{few_sequences, few_writes}
 use Rattle.rt_store.specs.Contents.{starting_of}
 use Rattle.rt_store.specs.Meaning.{Told}
 use Rattle.rt_store.specs.Memory.{means}
@@ -94,7 +94,6 @@ use Rattle.rt_world.specs.Reading.{events_left_in}
 use Rattle.rt_world.specs.Step.{Steps}
 use Rattle.rt_world.proofs.KeepsMessages.{request_sent}
 use Rattle.rt_heal.proofs.Quiet.{then_parts, told_not, told_same, IsThen}
-use Rattle.rt_heal.proofs.Sequences.{few_contents, few_segments}
 use Rattle.rt_calm.specs.Again.{machine_of, machines_in}
 use Rattle.rt_calm.specs.Waiting.{WaitsFor}
 use Rattle.rt_calm.proofs.Awaited.{unless_ended}
@@ -170,17 +169,7 @@ few_numbers w q safe right = by_order (cases_lt q.sequence.0 (sequences_of w.sto
   where
     by_order : (q.sequence.0 < sequences_of w.store.writes q.partition) ⊎ (sequences_of w.store.writes q.partition ≤ q.sequence.0) → q.sequence.0 < LAST_NUMBER
     by_order (inl lt) =
-        let st = starting_of w.setup in
-        omega (
-          arith,
-          lt,
-          few_segments st w.store.writes q.partition safe.safe.past.lawful right.partition,
-          safe.few.written,
-          safe.few.events,
-          few_contents st,
-          safe.safe.setup.few_servers,
-          safe.safe.setup.few_partitions,
-        )
+        omega (arith, lt, few_sequences w q.partition safe right.partition)
     by_order (inr le) =
         let begun = right.begun in
         let order = nodes_are_in_order (starting_of w.setup) w.store.writes safe.safe.past.lawful q.partition right.partition in

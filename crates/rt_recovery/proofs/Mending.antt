@@ -21,7 +21,7 @@ use Rattle.rt_model.proofs.Lawful.{has_ideal_state}
 use Rattle.rt_model.proofs.Listings.{listed_has}
 use Rattle.rt_model.specs.Entries.{entries_by, entries_of}
 use Rattle.rt_model.specs.Ideal.{has_entry}
-use Rattle.rt_model.specs.Metadata.{metadata_of, sequences_of, IsInProgress}
+use Rattle.rt_model.specs.Metadata.{metadata_of, IsInProgress}
 use Rattle.rt_model.specs.Moments.{later}
 use Rattle.rt_model.specs.Repair.{are_offline, decide_by, decide_last, last_listed}
 use Rattle.rt_model.specs.Setup.{IsSetup}
@@ -61,6 +61,7 @@ use Rattle.rt_safety.proofs.JobsOn.{own_slot}
 use Rattle.rt_safety.proofs.Later.{runs_are_safe}
 use Rattle.rt_safety.proofs.Runs.{leads_safe}
 use Rattle.rt_safety.specs.Runs.{happens, Leads, Runs, Turn}
+use Rattle.rt_state.proofs.Bounds.{few_sequences}
 use Rattle.rt_state.proofs.Possible.{then_passed}
 use Rattle.rt_state.specs.Clock.{ticked}
 use Rattle.rt_state.specs.IsSafe.{past_of}
@@ -73,7 +74,6 @@ use Rattle.rt_store.specs.Meaning.{Told}
 use Rattle.rt_world.proofs.KeepsRepairs.{found_within, upkeep_there}
 use Rattle.rt_world.specs.Step.{Steps}
 use Rattle.rt_heal.proofs.Quiet.{then_parts}
-use Rattle.rt_heal.proofs.Sequences.{few_contents, few_segments}
 use Rattle.rt_heal.specs.Mended.{NeedsNoRepair}
 use Rattle.rt_calm.proofs.Keeping.{leads_then as turns_then, servers_up}
 use Rattle.rt_calm.proofs.Leading.{leads_put, leads_still, leads_then, KeepsLeads}
@@ -673,19 +673,6 @@ module _ (c : ControllerId) (p : Partition) where
       subst (HasMendedOne w) (sym (ap (λ (z : Reached). z.world) t.whole))
       (record { on = on_then p w y t.last.world x.on rest.on; needs = rest.needs })
 
-  -- a partition has far fewer segments than there are numbers
-  pub few_sequences : (w : State) → IsSafeWorld w → p.0 < w.setup.partitions → sequences_of w.store.writes p ≤ 4294967290
-  few_sequences w s within =
-      omega (
-        arith,
-        few_segments (starting_of w.setup) w.store.writes p s.safe.past.lawful within,
-        s.few.written,
-        s.few.events,
-        few_contents (starting_of w.setup),
-        s.safe.setup.few_servers,
-        s.safe.setup.few_partitions,
-      )
-
   mends_one : (w : State) (v : Reached) (told : Unit {0}) → IsSafeWorld w → w.store.faults.plan ≡ [] → IsWrittenBefore w
       → RepairTurns c p 5 w v (Ok told) → HasMendedOne w v.world
   mends_one w v told safe none before h =
@@ -694,7 +681,7 @@ module _ (c : ControllerId) (p : Partition) where
       let x = turn_any w t.between t.told safe none t.came in
       let g = x.0.on.goes in
       let within : p.0 < y.setup.partitions = subst (λ (s : Setup). p.0 < s.partitions) (sym g.setup) x.1 in
-      let settles = past_settles y.setup (past_of y) y.store p g.safe.safe.setup g.safe.safe.past within (few_sequences y g.safe within) (g.unplanned none) in
+      let settles = past_settles y.setup (past_of y) y.store p g.safe.safe.setup g.safe.safe.past within (few_sequences y p g.safe within) (g.unplanned none) in
       let rest = turns_mend 3 y t.last told g.safe (g.unplanned none) (g.before before) within x.0.free (inr settles) t.further in
       subst (HasMendedOne w) (sym (ap (λ (z : Reached). z.world) t.whole))
       (record { on = on_then p w y t.last.world x.0.on rest.on; needs = rest.needs })

@@ -1,5 +1,5 @@
 -- What is known of a segment's rows by the values of one column, and what of it a query asks for.
-use Rattle.std.specs.Prelude.{◌≡◌, ℕ, ◌+◌, ◌*◌, nat_le, Bool, true, false, ◌&&◌, ◌==◌, List, [], ◌∷◌, Option, Some, None, is_some, length, slice_get}
+use Rattle.std.specs.Prelude.{◌≡◌, ℕ, ◌+◌, ◌*◌, ◌/◌, nat_le, Bool, true, false, ◌&&◌, ◌==◌, List, [], ◌∷◌, Option, Some, None, is_some, length, slice_get}
 use Rattle.rt_schema.specs.declared.column.Kind.{Kind}
 use Rattle.rt_schema.specs.declared.value.Value.{Value}
 use Rattle.rt_model.specs.declared.query.Query.{Query}
@@ -23,8 +23,7 @@ IsSummary segment groups = (over : Query) × Holds over (rows_of segment) groups
 -- whether there is a summary of so many aggregates by a column of a segment of so many rows
 abbrev pub is_summarized : ℕ → ℕ → SealedColumn → Bool
 is_summarized rows aggregates column =
-    column.indexed
-    && (nat_le (count_in column.dictionary) 1024 && (nat_le (count_in column.dictionary * 4) rows && nat_le (count_in column.dictionary * aggregates) rows))
+    column.indexed && (nat_le (count_in column.dictionary) 1024 && nat_le (count_in column.dictionary * aggregates) (rows / 32))
 
 -- how many aggregates some groups have together
 abbrev pub aggregates_in : List Grouped → ℕ

@@ -17,8 +17,9 @@ use std::alloc::{AllocError, Global};
 // A column is summarized where it has at most so many values,
 const MOST_VALUES: u32 = 1_024;
 
-// and at least so many rows a value.
-const LEAST_ROWS: u32 = 4;
+// and there are at least so many rows for each aggregate of each value: so a summary takes about a byte a row, and a segment
+// that is read in no time has none.
+const LEAST_ROWS: u32 = 32;
 
 // All summaries of a segment have at most so many aggregates together, so that a row takes a bounded time.
 const MOST_AGGREGATES: usize = 256;
@@ -44,15 +45,14 @@ pub(crate) fn summaries_of(alloc: Global, file: &Sealed) -> Result<Items<Groups>
     Ok(summaries)
 }
 
-// Whether there is a summary of so many aggregates by a column. It has no more of them than there are rows.
+// Whether there is a summary of so many aggregates by a column.
 fn is_summarized(rows: u32, aggregates: usize, column: &SegmentColumn) -> bool
     ensures { result ≡ is_summarized rows aggregates column.now }
 {
     let values = column.dictionary().len();
     column.is_indexed()
         && values <= MOST_VALUES
-        && values.saturating_mul(LEAST_ROWS) <= rows
-        && (values as usize).saturating_mul(aggregates) <= rows as usize
+        && (values as usize).saturating_mul(aggregates) <= (rows / LEAST_ROWS) as usize
 }
 
 // The groups of all rows by the column at a place.

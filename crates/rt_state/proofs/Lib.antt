@@ -8,4 +8,5 @@ pub mod NeedsQueries
 pub mod NeedsServers
 pub mod Pieces
 pub mod Possible
+pub mod Sequences
 pub mod Taking
