@@ -1,8 +1,7 @@
 -- Groups that don't tell of a query's.
-use Rattle.std.proofs.Common.{◌≡◌, ℕ, zero, suc, ◌<◌, ◌≤◌, ◌+◌, Bool, List, [], ◌∷◌, length, map, Some, refl, sym, ◌∙◌, subst, arith, inl, inr, slice_get}
+use Rattle.std.proofs.Common.{◌≡◌, ℕ, zero, suc, ◌<◌, ◌≤◌, Bool, List, [], ◌∷◌, length, map, Some, refl, subst, arith, slice_get}
 use Rattle.std.specs.Prelude.{slice_index_or}
 use Rattle.std.specs.List.{AllByRecursion, Contains}
-use Rattle.std.proofs.lemmas.Bool.{cases_order}
 use Rattle.std.proofs.lemmas.List.Elements.{All-from_recursion}
 use Rattle.std.proofs.lemmas.Option.{slice_get-get_or}
 use Rattle.rt_model.specs.declared.query.Query.{Query}
@@ -13,7 +12,6 @@ use Rattle.rt_agg.specs.Picking.{AreOneColumn, IsAmong, Tells, TellsKeys, kept}
 use Rattle.rt_agg.specs.ResultHolder.{item_of}
 use Rattle.rt_agg.specs.Sharing.{idle, spread}
 use Rattle.rt_agg.specs.declared.result_holder.ResultHolder.{ResultHolder}
-use Rattle.rt_agg.proofs.Spreading.{some_one}
 
 module _ (holders : List ResultHolder) (item : Item) where
   -- the holder at a place isn't for the item
@@ -23,16 +21,6 @@ module _ (holders : List ResultHolder) (item : Item) where
   -- none of the first places, so many, has a holder for the item
   abbrev pub AreOthers : List ℕ → ℕ → Type 0
   AreOthers places count = (j p : ℕ) → j < count → slice_get places j ≡ Some p → IsOther p
-
-  -- nor has one more
-  pub others_more : (places : List ℕ) (count place : ℕ) → AreOthers places count → slice_get places count ≡ Some place → IsOther place → AreOthers places (count + 1)
-  others_more places count place before here other j p lt there = elim (cases_order j count) [
-    | inl is ↦ subst IsOther (some_one (sym here ∙ subst (λ k. slice_get places k ≡ Some p) is there)) other
-    | inr apart ↦ elim apart [
-      | inl less ↦ before j p less there
-      | inr more ↦ absurd (omega (arith, lt, more))
-    ]
-  ]
 
   none_at : (places : List ℕ) → ((j p : ℕ) → slice_get places j ≡ Some p → IsOther p) → (k : ℕ) → k < length (map item_of (spread places holders))
       → slice_index_or (map item_of (spread places holders)) k item ≡ item → ⊥

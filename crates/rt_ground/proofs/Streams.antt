@@ -85,9 +85,6 @@ pub record StreamClosed (n : ℕ) (log : List (Entry Appended)) (t : Log) (Says 
   pub holds : t ≡ log_of n (whats log)
   pub says : Says
 
-abbrev message_in : Partition → List ℕ → Appended
-message_in p m = record { partition = p; message = m }
-
 pub append_closed : (n : ℕ) (v old : List (Entry Appended)) (t0 t : Log) (before after : Known Appended) (a : Appended) (m : List ℕ) (r_old r_new : List (Entry Appended)) (answer result : Result Offset FeedRefused)
     → old ≡ v → t0 ≡ log_of n (whats old) → r_old ≡ old → m ≡ a.message → Appends t0 t a.partition m answer → SettledBy a r_old r_new before after answer → result ≡ answer
     → StreamClosed n r_new t (AppendsOnce n v r_new before after a result)
@@ -100,11 +97,6 @@ append_closed n v old t0 t before after a m r_old r_new answer result view holds
       says = subst (λ (x : List (Entry Appended)). AppendsOnce n x r_new before after a result) view
           (subst (λ y. AppendsOnce n old r_new before after a y) (sym given) done.appends);
     }
-
--- the same, of a copy of the message
-pub copy_appended : (n : ℕ) (old new : List (Entry Appended)) (before after : Known Appended) (p : Partition) (m copy : List ℕ) (result : Result Offset FeedRefused) → copy ≡ m
-    → AppendsOnce n old new before after (message_in p copy) result → AppendsOnce n old new before after (message_in p m) result
-copy_appended n old new before after p m copy result copied w = subst (λ x. AppendsOnce n old new before after (message_in p x) result) copied w
 
 pub look_closed : (n : ℕ) (v old new : List (Entry Appended)) (before after : Known Appended) → old ≡ v → new ≡ old → Tells old before after → Looks n v new before after
 look_closed n v old new before after view same told =
