@@ -4,11 +4,14 @@ use std::alloc::{AllocError, Global};
 use std::sync::atomic::{AtomicBool, AtomicU64, Ordering};
 use std::thread;
 
-/// The turn at which all nodes meet.
-const TURN: u64 = 1_000;
+/// The turn to which the broker comes before any other node begins.
+const AHEAD: u64 = 1_000;
+
+/// The turn at which the others meet. Before it no run is over that has a row: its segment takes more turns to commit.
+const MEETING: u64 = 2;
 
 /// The turn to which the others have come before the repairer goes on. By then all is answered, as a rule, so that they post
-/// nothing more, and wait for the repairer.
+/// nothing more, and wait for the repairer, without which no run ends.
 const LAST: u64 = 20_000;
 
 /// How often one who waits looks whether the others have come.
@@ -18,8 +21,8 @@ const TRIES: u64 = 100_000_000;
 const SINGLE: u32 = 3;
 
 /// A gate at which the nodes of a cluster wait for each other, and which notes whether each comes to one turn after the other
-/// by its own name. The broker goes ahead: the others begin once it has come to turn 1,000. There all wait until all
-/// have come. The repairer waits in its next turn until all others have come to turn 20,000.
+/// by its own name. The broker goes ahead: the others begin once it has come to turn 1,000, where it waits until they have
+/// come to their turn 2. There each waits until all have come, and the repairer until all others have come to turn 20,000.
 #[derive(Drop)]
 pub(crate) struct Meeting {
     nodes: u64,
@@ -95,14 +98,13 @@ impl Meeting {
 impl Gate for Meeting {
     fn pass(&self, node: NodeId, turn: u64) {
         self.come(node, turn);
-        if turn == 0 && node != NodeId::Broker {
-            self.wait(1, TURN);
-        }
-        if turn == TURN {
-            self.wait(self.nodes, TURN);
-        }
-        if turn == TURN + 1 && node == NodeId::Repairer {
-            self.wait(self.others(), LAST);
+        match (node, turn) {
+            (NodeId::Broker, AHEAD) => self.wait(self.nodes, MEETING),
+            (NodeId::Broker, _) => (),
+            (_, 0) => self.wait(1, AHEAD),
+            (NodeId::Repairer, MEETING) => self.wait(self.others(), LAST),
+            (_, MEETING) => self.wait(self.nodes, MEETING),
+            _ => (),
         }
     }
 }
