@@ -262,6 +262,10 @@ class Query:
         self.filter = predicate(random, columns, pools) if random.random() < 0.85 else None
         count = random.choice([0, 0, 1, 1, 2, 3])
         self.groups = random.sample(columns, min(count, len(columns)))
+        self.choose(random, columns)
+
+    def choose(self, random, columns):
+        """Chooses what is shown of the groups, in which order, and how many."""
         self.items = [(None, column) for column in self.groups if random.random() < 0.8]
         self.items += random.choices(aggregates(columns), k=random.randint(1, 4))
         random.shuffle(self.items)
