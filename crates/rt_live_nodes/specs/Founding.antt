@@ -1,5 +1,5 @@
 -- What the nodes of a cluster are given as it is founded.
-use Rattle.std.specs.Prelude.{◌≡◌, ◌+◌, ◌≤◌, ℕ, List, [], Some, get_or, slice_get}
+use Rattle.std.specs.Prelude.{◌≡◌, ◌+◌, ◌%◌, ◌≤◌, ◌==◌, ℕ, List, [], Option, Some, None, get_or, slice_get, if◌then◌else◌}
 use Rattle.atomic_table.specs.Seated.{TableId}
 use Rattle.rt_front.specs.Rules.{no_chronicle}
 use Rattle.rt_ground.specs.Callers.{new_caller}
@@ -7,6 +7,7 @@ use Rattle.rt_ground.specs.declared.blanks.Blanks.{Blanks}
 use Rattle.rt_ground.specs.declared.caller.Caller.{Caller}
 use Rattle.rt_link.specs.Ends.{taking}
 use Rattle.rt_live_input.specs.declared.chaos.Chaos.{Chaos}
+use Rattle.rt_live_input.specs.declared.chaos.Crash.{Crash}
 use Rattle.rt_live_input.specs.declared.input.Input.{Input}
 use Rattle.rt_live_links.specs.Linked.{lines_of}
 use Rattle.rt_live_links.specs.declared.all_links.Links.{Links}
@@ -14,6 +15,7 @@ use Rattle.rt_live_links.specs.declared.node_links.NodeLinks.{NodeLinks}
 use Rattle.rt_live_names.specs.Fronts.{controller_line, server_line}
 use Rattle.rt_live_names.specs.Names.{Names}
 use Rattle.rt_live_names.specs.Sending.{ArePosts}
+use Rattle.rt_live_server.specs.Seat.{Seated}
 use Rattle.rt_model.specs.Setup.{IsSetup}
 use Rattle.rt_model.specs.Starting.{Starting}
 use Rattle.rt_model.specs.declared.setup.Setup.{Setup}
@@ -65,3 +67,16 @@ pub record IsOfCluster (starting : Starting) (n : Names) (setup : Setup) (chaos 
   pub starts : starting_of setup ≡ starting
   pub some_leader : 1 ≤ chaos.leaders
   pub few_leaders : chaos.leaders ≤ setup.controllers
+
+-- the turn in which the server of a number crashes, where it does
+abbrev pub crash_at : Option Crash → ℕ → Option ℕ
+crash_at None number = None
+crash_at (Some crash) number = if crash.instance.0 == number then Some crash.turn else None
+
+-- a server's seat as the chaos line has it: the controller that it asks, when it crashes, and which messages it loses and repeats
+pub record IsSeatedBy (chaos : Chaos) (k : ℕ) (seat : Seated) : Type 0 where
+  pub number : seat.acting.number ≡ k
+  pub controller : seat.controller ≡ k % chaos.leaders
+  pub crash : seat.crash ≡ crash_at chaos.crash k
+  pub drop : seat.posts.drop ≡ chaos.drop
+  pub repeat : seat.posts.repeat ≡ chaos.repeat

@@ -1,5 +1,5 @@
 //! The servers and the controllers are put into their seats.
-ghost use Rattle.std.specs.Prelude.{◌≡◌, ◌<◌, [], ◌∷◌, All, OnOk};
+ghost use Rattle.std.specs.Prelude.{◌≡◌, ◌<◌, [], ◌∷◌, All, IfOk, OnOk};
 ghost use Rattle.rt_front.specs.Histories.{history};
 ghost use Rattle.rt_live_broker.specs.Feeds.{AreFeeds};
 ghost use Rattle.rt_live_names.specs.Fronts.{broker_caller, controller_caller, repairer_caller, server_caller};
@@ -9,7 +9,9 @@ ghost use Rattle.rt_live_nodes.specs.Founding.{
   IsCaller,
   IsControllerPlace,
   IsOfCluster,
+  IsSeatedBy,
   IsServerPlace,
+  crash_at,
 };
 ghost use Rattle.rt_model.specs.Checked.{IsQuery};
 ghost use Rattle.rt_model.specs.Setup.{IsSetup};
@@ -81,6 +83,7 @@ fn seat_server<R: Wait + Copy, J: Naming, K: Cluster>(
     requires caller { IsCaller J.names (server_caller number) caller }
     requires node { IsServerPlace K.names number node }
     requires pieces { pieces ≡ history (K.names.asked number) [] 1 }
+    ensures { IfOk result (IsSeatedBy chaos.now number) }
 {
     let NodeLinks { inbox, posts } = node;
     ServerSeat::make(
@@ -97,7 +100,9 @@ fn seat_server<R: Wait + Copy, J: Naming, K: Cluster>(
 }
 
 // The turn in which a server crashes, where it does.
-fn crash_of(chaos: &Chaos, number: u32) -> Option<u64> {
+fn crash_of(chaos: &Chaos, number: u32) -> Option<u64>
+    ensures { result ≡ crash_at chaos.now.crash number }
+{
     match chaos.crash {
         Some(crash) if crash.instance.0 == number => Some(crash.turn),
         _ => None,

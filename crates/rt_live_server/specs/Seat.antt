@@ -1,5 +1,5 @@
 -- A server's seat: the server that acts, its inbox, its posts, and the history of what it gave the broker.
-use Rattle.std.specs.Prelude.{◌≡◌, ℕ, Bool, List, [], map}
+use Rattle.std.specs.Prelude.{◌≡◌, ℕ, Bool, List, [], map, Option}
 use Rattle.rt_broker.specs.declared.piece_given.PieceGiven.{PieceGiven}
 use Rattle.rt_front.specs.Histories.{History}
 use Rattle.rt_ground.specs.Histories.{whats}
@@ -7,7 +7,7 @@ use Rattle.rt_link.specs.Ends.{Sending, Taking}
 use Rattle.rt_link.specs.declared.envelope.Envelope.TheVariants.{Asks}
 use Rattle.rt_live_names.specs.Fronts.{Fronts, controller_line, server_line}
 use Rattle.rt_live_names.specs.Names.{Names}
-use Rattle.rt_live_names.specs.Sending.{ArePosts}
+use Rattle.rt_live_names.specs.Sending.{ArePosts, PostsNow}
 use Rattle.rt_model.specs.Starting.{Starting}
 use Rattle.rt_server.specs.Table.{ServerState}
 use Rattle.rt_live_server.specs.Acting.{ActingNow, IsActing}
@@ -31,6 +31,16 @@ pub record IsSeat (n : Names) (a : SeatNow) : Type 0 where
   pub asked : a.pieces.chronicle ≡ n.asked a.acting.number
   -- what the broker is told that it gave is what it gave, in order
   pub gave : whats a.pieces.log ≡ given_of a.acting.did
+
+-- a seat that takes its turns: with which of its messages are lost or come twice, the controller that it asks, and the turn in
+-- which it crashes
+pub record Seated : Type 0 where
+  pub acting : ActingNow
+  pub inbox : Taking
+  pub posts : PostsNow
+  pub pieces : History PieceGiven
+  pub controller : ℕ
+  pub crash : Option ℕ
 
 -- ---- a seat whose server has ended
 

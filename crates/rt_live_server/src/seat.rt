@@ -1,4 +1,4 @@
-ghost use Rattle.std.specs.Prelude.{◌≡◌, ◌<◌, [], IfOk};
+ghost use Rattle.std.specs.Prelude.{◌≡◌, ◌<◌, ◌≤◌, ◌%◌, [], IfOk};
 ghost use Rattle.rt_front.specs.Histories.{history};
 ghost use Rattle.rt_ground.specs.Callers.{new_caller};
 ghost use Rattle.rt_link.specs.Ends.{taking};
@@ -40,13 +40,13 @@ pub struct ServerSeat<R, J: Naming, K: Cluster> {
 }
 
 impl<R, J: Naming, K: Cluster> Model for ServerSeat<R, J, K> {
-    ghost use Rattle.rt_live_server.specs.Seat.{SeatNow};
+    ghost use Rattle.rt_live_server.specs.Seat.{Seated};
 
-    ghost Value = { SeatNow };
+    ghost Value = { Seated };
 
     ghost use Rattle.rt_live_server.specs.Seat.{IsSeat, seat_now};
 
-    ghost view = { λ s. seat_now s.acting s.inbox s.posts.posts s.pieces };
+    ghost view = { λ s. record { acting = s.acting; inbox = s.inbox; posts = s.posts; pieces = s.pieces; controller = s.controller; crash = s.crash } };
 
     ghost invariant = { λ s. IsSeat K.names (seat_now s.acting s.inbox s.posts.posts s.pieces) };
 }
@@ -74,7 +74,11 @@ impl<R: Copy, J: Naming, K: Cluster> ServerSeat<R, J, K> {
         requires inbox { inbox ≡ taking (K.names.lines (server_line number)) 1024 setup.now.controllers [] [] }
         requires posts { ArePosts K.names number (controller_line setup.now) [] posts.posts }
         requires pieces { pieces ≡ history (K.names.asked number) [] 1 }
-        ensures { IfOk result (λ seat. seat.acting.number ≡ number) }
+        requires leaders { 1 ≤ leaders }
+        ensures number { IfOk result (λ seat. seat.acting.number ≡ number) }
+        ensures posts { IfOk result (λ seat. seat.posts ≡ posts) }
+        ensures controller { IfOk result (λ seat. seat.controller ≡ number % leaders) }
+        ensures crash { IfOk result (λ seat. seat.crash ≡ crash) }
     {
         let acting = Acting::make(alloc, setup, number, caller)?;
         Ok(ServerSeat {
@@ -85,7 +89,7 @@ impl<R: Copy, J: Naming, K: Cluster> ServerSeat<R, J, K> {
             agenda: Agenda::new(alloc),
             patience: Patience::new(alloc),
             start: setup.start,
-            controller: number.checked_rem(leaders).unwrap_or(0),
+            controller: number % leaders,
             crash,
         })
     }
