@@ -34,7 +34,7 @@ use Rattle.rt_entry.specs.declared.entry.Entry.TheVariants.{Committed}
 use Rattle.rt_server.specs.Lasting.{IsCommittedOver}
 use Rattle.rt_server.specs.Table.{entry_of, file_at}
 use Rattle.rt_server.proofs.LastingCopies.{loaded_right}
-use Rattle.rt_server.proofs.LastingPuts.{found_over}
+use Rattle.rt_server.proofs.LastingEntries.{found_over}
 use Rattle.rt_nodes.specs.declared.server_node.ServerNode.{ServerNode}
 use Rattle.rt_nodes.specs.Reading.{file_bytes, file_in}
 use Rattle.rt_state.specs.IsSafe.{past_of}

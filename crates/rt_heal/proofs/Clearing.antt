@@ -44,10 +44,10 @@ use Rattle.rt_segment.specs.Reading.{read_file}
 use Rattle.rt_segment.specs.Segment.{SealedSegment}
 use Rattle.rt_segment.specs.Spelling.{header_of}
 use Rattle.rt_segment.specs.declared.segment_refused.SegmentRefused.{SegmentRefused}
-use Rattle.rt_server.proofs.LastingPuts.{comes_keep, segment}
-use Rattle.rt_server.proofs.LastingTransits.{stepped}
+use Rattle.rt_server.proofs.LastingEntries.{segment}
 use Rattle.rt_server.proofs.Listed.{lookup_put as lookup_new}
 use Rattle.rt_server.proofs.Merge.{is_it, it_is, Ascending}
+use Rattle.rt_server.proofs.Stepped.{comes_keep, stepped}
 use Rattle.rt_server.specs.Calls.{stepped_by, Transits, TransitsIf, TransitsTo}
 use Rattle.rt_server.specs.Download.{committed_at, Downloads, DownloadsAt}
 use Rattle.rt_server.specs.Table.{entry_of, is_segment, put_back, target_of, wants_at, with_entry, without, Segment, Segments, ServerState}

@@ -40,7 +40,7 @@ use Rattle.rt_server.specs.Table.{entry_of, is_segment, put_back, replica_of, ta
 use Rattle.rt_server.specs.Transition.{transit_due}
 use Rattle.rt_server.proofs.EachEntry.{found_each, put_each}
 use Rattle.rt_server.proofs.Kept.{replica_found}
-use Rattle.rt_server.proofs.LastingPuts.{replica_held}
+use Rattle.rt_server.proofs.LastingEntries.{replica_held}
 use Rattle.rt_state.specs.Finding.{replica_at, replica_in}
 use Rattle.rt_state.specs.IsSafe.{past_of}
 use Rattle.rt_state.specs.IsSafeWorld.{IsSafeWorld}

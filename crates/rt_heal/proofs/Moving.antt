@@ -50,9 +50,9 @@ use Rattle.rt_nodes.specs.declared.server_node.ServerNode.{ServerNode}
 use Rattle.rt_safety.proofs.JobsOn.{own_slot}
 use Rattle.rt_safety.proofs.Later.{runs_are_safe}
 use Rattle.rt_safety.specs.Runs.{Runs, Turn}
-use Rattle.rt_server.proofs.LastingTransits.{stepped}
 use Rattle.rt_server.proofs.Listed.{lookup_put, targets_tell}
 use Rattle.rt_server.proofs.Merge.{first_below, it_is, itself, later_ascend, lookup_below, Ascending, Below}
+use Rattle.rt_server.proofs.Stepped.{stepped}
 use Rattle.rt_server.specs.Calls.{stepped_by, targets_of, TransitsIf, TransitsTo}
 use Rattle.rt_server.specs.Table.{entry_of, is_segment, put_back, target_of, with_entry, without, Segment, Segments, ServerState}
 use Rattle.rt_server.specs.Transition.{committed, moved_by, moved_if, moved_to, opened, transit_due, transited, transition}

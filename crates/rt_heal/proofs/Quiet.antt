@@ -33,8 +33,8 @@ use Rattle.rt_replica.specs.Lasting.{IsReplica}
 use Rattle.rt_server.specs.Calls.{targets_of, with_targets}
 use Rattle.rt_server.specs.Due.{held_of}
 use Rattle.rt_server.specs.Table.{Segment, ServerState, replica_of, segment_of}
+use Rattle.rt_server.proofs.LastingEntries.{replica_held, segment}
 use Rattle.rt_server.proofs.Listed.{held_has}
-use Rattle.rt_server.proofs.LastingPuts.{replica_held, segment}
 use Rattle.rt_state.specs.Finding.{find_server, is_server_up, is_up, replica_at, replica_in}
 use Rattle.rt_state.specs.IsSafe.{past_of}
 use Rattle.rt_state.specs.IsSafeWorld.{IsSafeWorld}

@@ -35,10 +35,8 @@ use Rattle.rt_msgs.specs.Numbered.{Numbered}
 use Rattle.rt_schema.specs.declared.schema.Schema.{Schema}
 use Rattle.rt_server.proofs.EachEntry.{add_each, Each, leave_each, put_each}
 use Rattle.rt_server.proofs.Kept.{replica_found}
-use Rattle.rt_server.proofs.LastingCalls.{came, come, saw}
-use Rattle.rt_server.proofs.LastingPuts.{comes_keep}
 use Rattle.rt_server.proofs.LastingTables.{at, lookup-Has, segment_exact}
-use Rattle.rt_server.proofs.LastingTransits.{stepped}
+use Rattle.rt_server.proofs.Stepped.{came, come, comes_keep, saw, stepped}
 use Rattle.rt_server.specs.Calls.{answered_by, replied_at, replied_in, Restarts, restarted_by, seen_by, SeesIdeal, stepped_by, Through, ThroughAt, Transits, TransitsIf, TransitsTo}
 use Rattle.rt_server.specs.Download.{committed_at, Downloads, DownloadsAt}
 use Rattle.rt_server.specs.Table.{entry_of, put_back, replica_of, Segment, segment_cmp, Segments, ServerState, target_of, without}

@@ -62,7 +62,7 @@ use Rattle.rt_server.specs.Lasting.{IsCommittedOver, IsLoaded, IsServerOver}
 use Rattle.rt_server.specs.Serving.{serve, serve_at}
 use Rattle.rt_server.specs.Table.{Segment, ServerState, segment_of, entry_of, is_segment, replica_at, target_of, wants_at}
 use Rattle.rt_server.proofs.Kept.{replica_found}
-use Rattle.rt_server.proofs.LastingPuts.{found_over, replica_held, segment}
+use Rattle.rt_server.proofs.LastingEntries.{found_over, replica_held, segment}
 use Rattle.rt_server.proofs.LastingServes.{serves_right}
 use Rattle.rt_server.proofs.LastingTargets.{done_stored}
 use Rattle.rt_server.proofs.Listed.{targets_tell}

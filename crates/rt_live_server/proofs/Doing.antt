@@ -281,7 +281,7 @@ module _ (n : Names) (s : Starting) (a : ActingNow) (k : IsActing n s a) (did : 
           did = noted;
           sees = sees;
           own = λ view own.
-              let kept = transits_own n.setup (view_at n new) before after a.server server p q now result (shown_store new) view within own h in
+              let kept = transits_own n.setup (view_at n new) before after a.server server p q now result (shown_store new) view (λ mode target. within) own h in
               (kept.0, ap (λ (x : Numbered). x.instance) kept.1);
           asks = no_asks new;
           gives = no_gives new;

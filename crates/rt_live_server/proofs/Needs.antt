@@ -13,7 +13,7 @@ use Rattle.rt_past.specs.Segments.{IsBegun}
 use Rattle.rt_server.specs.Logs.{HasMessages}
 use Rattle.rt_server.specs.Past.{HasHistory, StartsWithItsNode}
 use Rattle.rt_server.specs.Table.{Segment, segment_of}
-use Rattle.rt_server.proofs.LastingTransits.{at_segment}
+use Rattle.rt_server.proofs.LastingEntries.{at_segment}
 use Rattle.rt_server.proofs.OwnPuts.{replica_own}
 use Rattle.rt_store.specs.Contents.{starting_of}
 use Rattle.rt_stream.specs.Log.{Log, messages_of}

@@ -30,9 +30,7 @@ use Rattle.rt_msgs.specs.Numbered.{Numbered}
 use Rattle.rt_schema.specs.declared.schema.Schema.{Schema}
 use Rattle.rt_server.proofs.EachEntry.{Each, add_each, found_each, leave_each, put_each}
 use Rattle.rt_server.proofs.Kept.{found_is, replica_found}
-use Rattle.rt_server.proofs.LastingCalls.{came, saw}
-use Rattle.rt_server.proofs.LastingPuts.{comes_keep}
-use Rattle.rt_server.proofs.LastingTransits.{stepped}
+use Rattle.rt_server.proofs.Stepped.{came, comes_keep, saw, stepped}
 use Rattle.rt_server.specs.Calls.{Asks, AsksFor, Forces, Restarts, Seals, SeesIdeal, Stops, Takes, ThroughAt, Transits, TransitsIf, TransitsTo, answered_by, replied_at, replied_in, restarted_by, seen_by, stepped_by}
 use Rattle.rt_server.specs.Download.{Downloads, DownloadsAt, committed_at}
 use Rattle.rt_server.specs.Kept.{IsServer}

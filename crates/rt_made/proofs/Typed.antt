@@ -35,7 +35,7 @@ use Rattle.rt_schema.specs.declared.row.Row.{Row}
 use Rattle.rt_schema.specs.declared.schema.Schema.{Schema}
 use Rattle.rt_server.proofs.EachEntry.{found_each}
 use Rattle.rt_server.proofs.Kept.{replica_found}
-use Rattle.rt_server.proofs.LastingPuts.{replica_held}
+use Rattle.rt_server.proofs.LastingEntries.{replica_held}
 use Rattle.rt_server.specs.Table.{entry_of, replica_of}
 use Rattle.rt_entry.specs.declared.entry.Entry.TheVariants.{Replica}
 use Rattle.rt_state.proofs.Bounds.{contents_length}

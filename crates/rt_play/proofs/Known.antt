@@ -37,7 +37,7 @@ use Rattle.rt_replica.specs.Lasting.{HasUploaded, ToldAt, ToldIn}
 use Rattle.rt_safety.proofs.JobsOn.{own_slot}
 use Rattle.rt_safety.specs.GoesOn.{GoesOn}
 use Rattle.rt_segment.specs.Segment.{SealedSegment}
-use Rattle.rt_server.proofs.LastingPuts.{replica_held}
+use Rattle.rt_server.proofs.LastingEntries.{replica_held}
 use Rattle.rt_server.specs.Calls.{replied_in}
 use Rattle.rt_server.specs.Table.{replica_of}
 use Rattle.rt_state.specs.Finding.{reply_at}

@@ -57,11 +57,10 @@ use Rattle.rt_safety.proofs.Later.{runs_are_safe}
 use Rattle.rt_safety.specs.Runs.{Runs, Turn}
 use Rattle.rt_schema.specs.Row.{row_of}
 use Rattle.rt_server.proofs.EachEntry.{add_each, leave_each, put_each, Each}
-use Rattle.rt_server.proofs.LastingPuts.{comes_keep}
 use Rattle.rt_server.proofs.LastingTables.{at}
-use Rattle.rt_server.proofs.LastingTransits.{stepped}
 use Rattle.rt_server.proofs.Listed.{lookup_put, targets_tell}
 use Rattle.rt_server.proofs.Merge.{itself}
+use Rattle.rt_server.proofs.Stepped.{comes_keep, stepped}
 use Rattle.rt_server.specs.Calls.{stepped_by, targets_of, Transits as MovesBy, TransitsIf, TransitsTo}
 use Rattle.rt_server.specs.Download.{committed_at, DownloadsAt}
 use Rattle.rt_server.specs.Table.{entry_of, is_segment, target_of, without, Segment, Segments, ServerState}

@@ -39,7 +39,7 @@ use Rattle.rt_replica.proofs.Holding.{taken_held}
 use Rattle.rt_schema.specs.Row.{rows_in}
 use Rattle.rt_segment.specs.Segment.{SealedSegment}
 use Rattle.rt_server.specs.Table.{replica_of, Segment}
-use Rattle.rt_server.proofs.LastingPuts.{replica_held}
+use Rattle.rt_server.proofs.LastingEntries.{replica_held}
 use Rattle.rt_state.specs.Finding.{replica_at, replica_in}
 use Rattle.rt_state.specs.IsSafe.{past_of}
 use Rattle.rt_state.specs.IsSafeWorld.{IsSafeWorld}

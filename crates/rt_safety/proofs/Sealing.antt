@@ -43,7 +43,7 @@ use Rattle.rt_segment.specs.Column.{AreShort, AreValues, count_in, IsColumn, IsD
 use Rattle.rt_segment.specs.Segment.{SealedSegment}
 use Rattle.rt_segment.specs.declared.dictionary.Dictionary.TheVariants.{Int, Long, Text, Bool as Truth, Time}
 use Rattle.rt_segment.specs.declared.dictionary.Dictionary.{Dictionary}
-use Rattle.rt_server.proofs.LastingPuts.{replica_held}
+use Rattle.rt_server.proofs.LastingEntries.{replica_held}
 use Rattle.rt_server.specs.Table.{replica_of}
 use Rattle.rt_state.specs.IsSafe.{past_of}
 use Rattle.rt_state.specs.IsSafeWorld.{IsSafeWorld}

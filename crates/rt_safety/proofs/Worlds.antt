@@ -38,7 +38,7 @@ use Rattle.rt_server.specs.Serving.{serve}
 use Rattle.rt_server.specs.Table.{entry_of, file_at}
 use Rattle.rt_server.proofs.LastingCommits.{commits_right}
 use Rattle.rt_server.proofs.LastingCopies.{copies_right}
-use Rattle.rt_server.proofs.LastingPuts.{replica_held}
+use Rattle.rt_server.proofs.LastingEntries.{replica_held}
 use Rattle.rt_server.proofs.LastingServes.{serves_right}
 use Rattle.rt_server.proofs.LastingTargets.{done_stored}
 use Rattle.rt_store.specs.Contents.{starting_of}

@@ -30,7 +30,7 @@ use Rattle.rt_server.specs.Serving.{serve, serve_at}
 use Rattle.rt_server.specs.Table.{Segment, ServerState, entry_of, segment_of}
 use Rattle.rt_server.proofs.LastingCommits.{of_setup_entry}
 use Rattle.rt_server.proofs.LastingServes.{file_whole, replica_served, rows_back, served}
-use Rattle.rt_server.proofs.LastingTransits.{at_segment}
+use Rattle.rt_server.proofs.LastingEntries.{at_segment}
 use Rattle.rt_server.proofs.OwnPuts.{found_own}
 use Rattle.rt_server.proofs.Trues.{had_loaded, told_was}
 

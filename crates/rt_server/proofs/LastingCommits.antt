@@ -39,7 +39,7 @@ use Rattle.rt_server.specs.LastingRows.{CommittedRows, IsRightCommitted, IsToldO
 use Rattle.rt_server.specs.Own.{IsOwnServer}
 use Rattle.rt_server.specs.Table.{Segment, ServerState, entry_of}
 use Rattle.rt_server.proofs.Kept.{found_is}
-use Rattle.rt_server.proofs.LastingPuts.{found_over}
+use Rattle.rt_server.proofs.LastingEntries.{found_over}
 use Rattle.rt_server.proofs.LastingTargets.{commit_past}
 use Rattle.rt_server.proofs.OwnPuts.{found_own}
 use Rattle.rt_server.proofs.Trues.{AnyUp, IsTrueEntry, IsTrueReplica, entry_true, own_true, replica_true}

@@ -34,7 +34,7 @@ use Rattle.rt_server.specs.Lasting.{IsCommittedOver, IsLoaded, IsServerOver}
 use Rattle.rt_server.specs.LastingRows.{IsLoadedCopy, IsRightCopy}
 use Rattle.rt_server.specs.Table.{Segment, ServerState, entry_of, file_at}
 use Rattle.rt_server.proofs.Kept.{found_is}
-use Rattle.rt_server.proofs.LastingPuts.{found_over}
+use Rattle.rt_server.proofs.LastingEntries.{found_over}
 use Rattle.rt_server.proofs.LastingTargets.{commit_past, done_stored}
 use Rattle.rt_server.proofs.Trues.{AnyUp, replica_true}
 

@@ -38,16 +38,12 @@ use Rattle.rt_entry.specs.declared.entry.Entry.{Entry}
 use Rattle.rt_entry.specs.declared.entry.Entry.TheVariants.{Replica, Committed}
 use Rattle.rt_entry.specs.declared.refused.ServerRefused.{ServerRefused}
 use Rattle.rt_entry.specs.declared.refused.ServerRefused.TheVariants.{NotDue, StoreFault, BadFile, Memory}
-use Rattle.rt_entry.specs.Calls.{Comes}
 use Rattle.rt_entry.specs.Download.{LoadsOf, checked, got, header_by, is_right, loaded_by, same_header}
 use Rattle.rt_entry.specs.Entry.{wanted_by}
-use Rattle.rt_server.specs.Calls.{InTable}
 use Rattle.rt_server.specs.Download.{Downloads, DownloadsAt, committed_at}
-use Rattle.rt_server.specs.Kept.{IsServer}
 use Rattle.rt_server.specs.Lasting.{IsCommittedOver, IsLoaded, IsServerOver}
-use Rattle.rt_server.specs.Table.{ServerState, entry_of, with_table}
-use Rattle.rt_server.proofs.Loaded.{downloaded_is}
-use Rattle.rt_server.proofs.LastingPuts.{found_over, in_table, put_over}
+use Rattle.rt_server.specs.Table.{ServerState, entry_of}
+use Rattle.rt_server.proofs.LastingEntries.{found_over}
 use Rattle.rt_server.proofs.LastingTargets.{done_stored}
 
 -- ---- what is got
@@ -165,31 +161,11 @@ module _ (setup : Setup) (past : Past) (p : Partition) (q : Sequence) (done : Se
 abbrev came : SealedSegment → CommittedSegment → Result (ℕ × CommittedSegment) ServerRefused
 came file c = Ok (file.rows, record c { file = Some file })
 
-abbrev comes : ℕ → CommittedSegment → Result (ℕ × CommittedSegment) ServerRefused
-comes rows next = Ok (rows, next)
-
 abbrev refuse : ServerRefused → Result (ℕ × CommittedSegment) ServerRefused
 refuse e = Err e
 
 abbrev pub with_it : CommittedSegment → SealedSegment → CommittedSegment
 with_it c file = record c { file = Some file }
-
-abbrev next_in : CommittedSegment → Result (ℕ × CommittedSegment) ServerRefused → CommittedSegment
-next_in c (Ok x) = x.1
-next_in c (Err e) = c
-
-same_next : (file : SealedSegment) (c : CommittedSegment) (rows : ℕ) (next : CommittedSegment) → came file c ≡ comes rows next → with_it c file ≡ next
-same_next file c rows next e = ap (next_in c) e
-
-no_next : (e : ServerRefused) (rows : ℕ) (next : CommittedSegment) → refuse e ≡ comes rows next → ⊥
-no_next e rows next h = cc
-
--- the file has been loaded
-becomes : (file : SealedSegment) (c next : CommittedSegment) (rows : ℕ) (g : Result SealedSegment ServerRefused) → LoadsAs file g → loaded_by c g ≡ comes rows next
-    → next ≡ with_it c file
-becomes file c next rows (Ok found) same e =
-    sym (same_next found c rows next e) ∙ ap (with_it c) same
-becomes file c next rows (Err r) are e = absurd (no_next r rows next e)
 
 abbrev answer_by : ServerRefused → Result ℕ ServerRefused
 answer_by e = Err e
@@ -238,26 +214,6 @@ module _ (setup : Setup) (past : Past) (before after : Meaning) (right : IsPast 
       loads_as setup past p q c.done commit stored answer
       (gives before after commit.path stored.bytes answer gets (subst (λ (fs : List DeepPut). Stands fs commit.path stored.bytes) shown stored.stands))
 
-  with_file : (file : SealedSegment) → IsLoaded setup past p q c.done file → IsCommittedOver setup past i p q (record c { file = Some file })
-  with_file file loaded = record { partition = k.partition; assigned = k.assigned; entered = k.entered; done = k.done; loaded = loaded }
-
-  comes_with : (commit : Commit) (stored : IsStored setup past p q c.done.meta.start commit) → c.done.meta.status ≡ Done commit → (next : CommittedSegment) (result : Result ℕ ServerRefused)
-      (g : Result SealedSegment ServerRefused) → LoadsAs stored.right.file.segment g → Comes (loaded_by c g) c next result → IsCommittedOver setup past i p q next
-  comes_with commit stored status next (Ok rows) g are h =
-      let file = stored.right.file.segment in
-      subst (IsCommittedOver setup past i p q) (sym (becomes file c next rows g are h)) (with_file file (file_loaded setup past p q c.done commit stored status))
-  comes_with commit stored status next (Err NotDue) g are h = subst (IsCommittedOver setup past i p q) (sym h.1) k
-  comes_with commit stored status next (Err StoreFault) g are h = subst (IsCommittedOver setup past i p q) (sym h.1) k
-  comes_with commit stored status next (Err (BadFile wanted found)) g are h = subst (IsCommittedOver setup past i p q) (sym h.1) k
-  comes_with commit stored status next (Err Memory) g are h = subst (IsCommittedOver setup past i p q) (sym h.1) k
-
-  loads_over : (o : Option Commit) → wanted_by c.file c.done.meta.status ≡ o → (next : CommittedSegment) (result : Result ℕ ServerRefused)
-      → LoadsOf o before after setup.schema p q c next result → IsCommittedOver setup past i p q next
-  loads_over None is next result h = subst (IsCommittedOver setup past i p q) (sym h.2) k
-  loads_over (Some commit) is next result h =
-      let w = wanted_stands setup past i p q c commit right k is in
-      comes_with commit w.1 w.0 next result (got setup.schema (header_by p q c.done commit) h.0) (got_as commit w.1 h.0 h.1) h.2
-
   loads_never_bad : (o : Option Commit) → wanted_by c.file c.done.meta.status ≡ o → (next : CommittedSegment) (wanted : Header) (found : Option Header)
       → LoadsOf o before after setup.schema p q c next (Err (BadFile wanted found)) → ⊥
   loads_never_bad None is next wanted found h = bad_due wanted found h.1
@@ -269,16 +225,6 @@ module _ (setup : Setup) (past : Past) (before after : Meaning) (right : IsPast 
 
 module _ (setup : Setup) (past : Past) (before after : Meaning) (old new : ServerState) (p : Partition) (q : Sequence)
     (shown : past.files ≡ after.seen) (right : IsPast setup past) (k : IsServerOver setup past old) where
-  at_over : (o : Option Entry) (result : Result ℕ ServerRefused) → entry_of old.table p q ≡ o → DownloadsAt (committed_at o) before after setup.schema old.table new.table p q result
-      → IsServer old.setup new.table → IsServerOver setup past (with_table old new.table)
-  at_over None result found h kept = subst (λ t. IsServerOver setup past (with_table old t)) (sym h.2) k
-  at_over (Some (Replica r)) result found h kept = subst (λ t. IsServerOver setup past (with_table old t)) (sym h.2) k
-  at_over (Some (Committed c)) result found h kept =
-      let over : IsCommittedOver setup past old.numbers.instance p q c = found_over setup past old k p q (Committed c) found in
-      let next = loads_over setup past before after right shown old.numbers.instance p q c over (wanted_by c.file c.done.meta.status) refl h.0 result h.1 in
-      subst (λ t. IsServerOver setup past (with_table old t)) (sym h.2)
-      (put_over setup past old k p q (Committed h.0) (subst (IsServer old.setup) h.2 kept) next)
-
   at_never_bad : (o : Option Entry) (wanted : Header) (found : Option Header) → entry_of old.table p q ≡ o
       → DownloadsAt (committed_at o) before after setup.schema old.table new.table p q (Err (BadFile wanted found)) → ⊥
   at_never_bad None wanted found there h = bad_due wanted found h.1
@@ -289,11 +235,6 @@ module _ (setup : Setup) (past : Past) (before after : Meaning) (old new : Serve
 
   of_schema : (result : Result ℕ ServerRefused) → Downloads before after old.setup.schema old.table new.table p q result → Downloads before after setup.schema old.table new.table p q result
   of_schema result h = subst (λ (x : Setup). Downloads before after x.schema old.table new.table p q result) k.of_setup h
-
-  pub downloads_over : (result : Result ℕ ServerRefused) → Downloads before after old.setup.schema old.table new.table p q result → InTable old new → IsServerOver setup past new
-  downloads_over result h only =
-      subst (IsServerOver setup past) (in_table old new only)
-      (at_over (entry_of old.table p q) result refl (of_schema result h) (downloaded_is old.setup before after old.table new.table p q result h k.kept))
 
   -- no download meets a file that isn't the one that is wanted
   pub downloads_never_bad : (wanted : Header) (found : Option Header) → Downloads before after old.setup.schema old.table new.table p q (Err (BadFile wanted found)) → ⊥

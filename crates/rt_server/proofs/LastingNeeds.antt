@@ -17,9 +17,10 @@ use Rattle.rt_store.specs.Calls.{Bumps, told_on}
 use Rattle.rt_store.specs.Contents.{starting_of}
 use Rattle.rt_store.specs.Meaning.{Meaning, Told}
 use Rattle.rt_store.proofs.Told.{answered_took, leaves_on}
+use Rattle.rt_msgs.specs.Numbered.{Numbered, number_at}
 use Rattle.rt_past.specs.Past.{Past, Grows, with_history, with_request}
 use Rattle.rt_past.specs.IsPast.{IsPast}
-use Rattle.rt_past.specs.Requests.{AreDrawn, IsFresh}
+use Rattle.rt_past.specs.Requests.{AreDrawn, IsFresh, IsRequest}
 use Rattle.rt_past.specs.Segments.{IsBegun, IsIncarnation}
 use Rattle.rt_past.proofs.Growth.{incarnation_grows}
 use Rattle.rt_past.proofs.Numbers.{drawn_anew, drawn_next, next_is_fresh}
@@ -35,10 +36,9 @@ use Rattle.rt_server.specs.Calls.{Restarts, answered_by, restarted_in}
 use Rattle.rt_server.specs.Lasting.{HasAsked, IsServerOver}
 use Rattle.rt_server.specs.Logs.{HasMessages}
 use Rattle.rt_server.specs.Past.{HasHistory, StartsWithItsNode}
-use Rattle.rt_server.specs.Table.{ServerState}
-use Rattle.rt_server.proofs.LastingCalls.{answered_ok, came}
-use Rattle.rt_server.proofs.LastingPuts.{replica_held}
-use Rattle.rt_server.proofs.LastingTransits.{begun_at}
+use Rattle.rt_server.specs.Table.{ServerState, segment_of}
+use Rattle.rt_server.proofs.LastingEntries.{at_segment, replica_held, segment}
+use Rattle.rt_server.proofs.Stepped.{answered_ok, came}
 
 -- a replica is within the log
 held_within : (schema : Schema) (ms : List (List ℕ)) (start : Offset) (ph : Phase) → HoldsIn schema ms start ph → (cur_in ph).0 ≤ length ms
@@ -57,7 +57,8 @@ module _ (setup : Setup) (past : Past) (s : ServerState) (right : IsPast setup p
   -- a replica starts where its node was created
   pub start_needed : (m : Meaning) (p : Partition) (q : Sequence) → past.history ≡ m.seen → StartsWithItsNode s m p q
   start_needed m p q shown r found =
-      let at = begun_at setup past s right k p q r found in
+      let held = replica_held setup past s k p q r found in
+      let at = at_segment (λ a b. (a.0 < setup.partitions) × IsBegun past.history a b r.start) (segment_of r) (segment p q) held.0 (held.2.partition, held.2.begun) in
       (subst (λ (x : Setup). p.0 < x.partitions) (sym k.of_setup) at.0, subst (λ (h : List Seen). IsBegun h p q r.start) shown at.1)
 
   -- the stream has all that a replica took
@@ -72,13 +73,18 @@ numbers_needed setup past s k few = omega (arith, few, k.counted)
 
 -- ---- numbers
 
--- what was asked has a fresh number, may be sent, and leaves all numbers drawn
+-- a right request with the next number may be sent
+pub request_sends : (setup : Setup) (past : Past) (request : Request) (numbers : Numbered) → IsPast setup past → AreDrawn past.sent numbers → IsRequest setup past request
+    → request.number ≡ number_at numbers numbers.made → Grows past (with_request past request) × IsPast setup (with_request past request)
+request_sends setup past request numbers right drawn asks is =
+    past_requests setup past request asks (subst (IsFresh past.sent) (sym is) (next_is_fresh past.sent numbers drawn)) right
+
+-- so may what was asked, and all numbers stay drawn
 pub asked_grows : (setup : Setup) (past : Past) (old new : ServerState) (p : Partition) (q : Sequence) (request : Request) → IsPast setup past
     → AreDrawn past.sent old.numbers → HasAsked setup past old new p q request
     → Grows past (with_request past request) × IsPast setup (with_request past request) × AreDrawn (with_request past request).sent new.numbers
 asked_grows setup past old new p q request right drawn asked =
-    let fresh : IsFresh past.sent request.number = subst (IsFresh past.sent) (sym asked.number) (next_is_fresh past.sent old.numbers drawn) in
-    let grown = past_requests setup past request asked.right fresh right in
+    let grown = request_sends setup past request old.numbers right drawn asked.right asked.number in
     (grown.0, grown.1, subst (AreDrawn (with_request past request).sent) (sym asked.numbers) (drawn_next past.sent old.numbers request drawn asked.number))
 
 -- a restart begins a later incarnation, so that all numbers stay drawn

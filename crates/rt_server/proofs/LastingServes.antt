@@ -41,7 +41,7 @@ use Rattle.rt_server.specs.Own.{IsOwnServer}
 use Rattle.rt_server.specs.Serving.{serve, serve_at}
 use Rattle.rt_server.specs.Table.{Segment, ServerState, entry_of}
 use Rattle.rt_server.proofs.LastingCommits.{of_setup_entry}
-use Rattle.rt_server.proofs.LastingPuts.{found_over}
+use Rattle.rt_server.proofs.LastingEntries.{found_over}
 use Rattle.rt_server.proofs.OwnPuts.{found_own}
 use Rattle.rt_server.proofs.Trues.{IsTrueEntry, entry_true, own_true}
 

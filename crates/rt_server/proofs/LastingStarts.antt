@@ -25,7 +25,8 @@ use Rattle.rt_past.specs.Past.{Past}
 use Rattle.rt_past.specs.IsPast.{fresh_past}
 use Rattle.rt_past.specs.Segments.{HadEntry, IsAssignedTo, IsBegun, IsBegunAs}
 use Rattle.rt_past.proofs.Starts.{past_starts}
-use Rattle.rt_replica.proofs.KeepsLasting.{started_lasts}
+use Rattle.rt_replica.proofs.KeepsOwn.{started_own}
+use Rattle.rt_replica.proofs.ReadBack.{replica_back}
 use Rattle.rt_entry.specs.declared.entry.Entry.{Entry}
 use Rattle.rt_entry.specs.declared.entry.Entry.TheVariants.{Replica}
 use Rattle.rt_server.specs.Calls.{targets_of}
@@ -34,7 +35,7 @@ use Rattle.rt_server.specs.Lasting.{AreEntriesOver, IsEntryOver, IsServerOver}
 use Rattle.rt_server.specs.Table.{Segment, Segments, entry_of, segment_cmp, target_of}
 use Rattle.rt_server.proofs.Kept.{fresh_is}
 use Rattle.rt_server.proofs.EachEntry.{add_each}
-use Rattle.rt_server.proofs.LastingPuts.{segment}
+use Rattle.rt_server.proofs.LastingEntries.{segment}
 use Rattle.rt_server.proofs.Listed.{lookup_put}
 use Rattle.rt_server.proofs.Merge.{is_it, it_is}
 use Rattle.rt_server.proofs.LastingTables.{put_again, put_commutes, segment_exact, segment_total}
@@ -179,7 +180,8 @@ module _ (setup : Setup) (i : Instance) where
   first_over : (p : Partition) → p.0 < setup.partitions → is_assigned setup p i ≡ true → IsEntryOver setup past i 0 (segment p first_sequence) (Replica (first_replica setup p))
   first_over p lt mine =
       let assigned : IsAssignedTo setup p i = any_has i (replicas_of p setup.table.replication setup.servers) mine in
-      (refl, started_lasts setup past i 0 p first_sequence (first_meta setup p) setup.start (past_starts setup) lt assigned (first_entered p lt assigned) (first_begun p lt) (first_named p lt))
+      let own = started_own setup past i 0 p first_sequence (first_meta setup p) setup.start lt (inr (assigned, first_entered p lt assigned)) (first_begun p lt) (first_named p lt) in
+      (refl, replica_back setup past (past_starts setup) i 0 (first_replica setup p) own)
 
   record IsFirst (n : ℕ) (t : Segments) : Type 0 where
     targets : t.targets ≡ targets_of i (starting_entries start n)

@@ -19,10 +19,9 @@ use Rattle.rt_model.specs.declared.seg_meta.SeenMeta.{SeenMeta}
 use Rattle.rt_model.specs.declared.setup.Setup.{Setup}
 use Rattle.rt_model.specs.declared.status.Status.{Status}
 use Rattle.rt_model.specs.declared.status.Status.TheVariants.{InProgress, Done, Abandoned}
-use Rattle.rt_model.specs.Entries.{IsIdealWrite, entries_by}
+use Rattle.rt_model.specs.Entries.{entries_by}
 use Rattle.rt_model.specs.Lawful.{IsLawfulHistory}
 use Rattle.rt_model.specs.Metadata.{IsDoneStatus, listed_write}
-use Rattle.rt_model.proofs.Entries.{names_entry}
 use Rattle.rt_model.proofs.Histories.{same_instance}
 use Rattle.rt_store.specs.Contents.{starting_of}
 use Rattle.rt_past.specs.Past.{Past}
@@ -31,11 +30,12 @@ use Rattle.rt_past.specs.IsPast.{IsPast}
 use Rattle.rt_past.specs.Segments.{HadEntry, IsAssignedTo, IsBegun, WasDone}
 use Rattle.rt_past.specs.Writes.{AreRightEntries, IsRightNode, IsRightStatus}
 use Rattle.rt_consumer.specs.Consumer.{end_in, end_of}
+use Rattle.rt_replica.proofs.ReadBack.{placed_back}
 use Rattle.rt_replica.specs.Own.{HadPlace}
 use Rattle.rt_server.specs.Calls.{targets_of}
 use Rattle.rt_server.specs.Lasting.{AreTargets, IsServerOver}
 use Rattle.rt_server.specs.Table.{Segment, ServerState, is_segment, segment_cmp, target_of}
-use Rattle.rt_server.proofs.LastingPuts.{segment}
+use Rattle.rt_server.proofs.LastingEntries.{segment}
 use Rattle.rt_server.proofs.Past.{meta_past}
 use Rattle.rt_server.proofs.LastingTables.{Has-insert_entry, at, lookup-Has, segment_exact}
 
@@ -74,35 +74,11 @@ pub record IsPlace (setup : Setup) (past : Past) (i : Instance) (s : Segment) : 
   pub assigned : IsAssignedTo setup s.0 i
   pub entered : HadEntry past.history s.0 s.1
 
-place_by : (setup : Setup) (past : Past) (i : Instance) (w : Seen) (x : Segment × Mode) → IsPast setup past → IsIdealWrite past.history w → Comes i (entries_by w.node) x
-    → IsPlace setup past i x.0
-place_by setup past i w x right is (e, has, mine, same) =
-    let entry = right_entries setup past w.key w.node (right.writes w is.has) e has in
-    subst (IsPlace setup past i) same
-    (record {
-      partition = entry.0;
-      assigned = subst (IsAssignedTo setup e.partition) mine entry.1;
-      entered = (w, is, names_entry (entries_by w.node) e.partition e.sequence (e, has, refl, refl));
-    })
-
 abbrev a_mode : Mode → Option Mode
 a_mode m = Some m
 
 no_mode : (m : Mode) → None ≡ a_mode m → ⊥
 no_mode m e = cc
-
-place_of : (setup : Setup) (past : Past) (i : Instance) (targets : List (Segment × Mode)) (x : Segment × Mode) → IsPast setup past → AreTargets past.history i targets
-    → Has targets x → IsPlace setup past i x.0
-place_of setup past i targets x right (inl none) has = absurd (subst (λ (ts : List (Segment × Mode)). Has ts x) none has)
-place_of setup past i targets x right (inr (w, is, e)) has =
-    place_by setup past i w x right is (target_comes i (entries_by w.node) x (subst (λ (ts : List (Segment × Mode)). Has ts x) e has))
-
--- a server's targets are segments that it is assigned to
-pub target_place : (setup : Setup) (past : Past) (s : ServerState) (p : Partition) (q : Sequence) (mode : Mode) → IsPast setup past → IsServerOver setup past s
-    → target_of s.table p q ≡ Some mode → IsPlace setup past s.numbers.instance (segment p q)
-target_place setup past s p q mode right k found =
-    place_of setup past s.numbers.instance s.table.targets (at (segment p q) mode) right k.targets
-    (lookup-Has segment_cmp segment_exact s.table.targets (segment p q) mode found)
 
 -- a target comes of an entry that the instance had in an ideal state
 pub target_had : (h : List Seen) (i : Instance) (targets : List (Segment × Mode)) (p : Partition) (q : Sequence) (mode : Mode) → AreTargets h i targets
@@ -120,6 +96,19 @@ target_had h i targets p q mode (inr (w, is, e)) found =
       entry = entry;
       has = has;
       names = (ap (λ (s : Segment). s.0) same, ap (λ (s : Segment). s.1) same, mine);
+    }
+
+-- a server's targets are segments that it is assigned to
+pub target_place : (setup : Setup) (past : Past) (s : ServerState) (p : Partition) (q : Sequence) (mode : Mode) → IsPast setup past → IsServerOver setup past s
+    → target_of s.table p q ≡ Some mode → IsPlace setup past s.numbers.instance (segment p q)
+target_place setup past s p q mode right k found =
+    let had = target_had past.history s.numbers.instance s.table.targets p q mode k.targets found in
+    let place = placed_back setup past right s.numbers.instance p q (inl had) in
+    let entry = right_entries setup past had.write.key had.write.node (right.writes had.write had.is.has) had.entry had.has in
+    record {
+      partition = subst (λ (x : Partition). x.0 < setup.partitions) had.names.0 entry.0;
+      assigned = place.0;
+      entered = place.1;
     }
 
 -- ---- metadata that tells of a commit

@@ -9,6 +9,7 @@ use Rattle.rt_base.specs.declared.numbers.Moment.{Moment}
 use Rattle.rt_base.specs.declared.numbers.Partition.{Partition}
 use Rattle.rt_base.specs.declared.numbers.Sequence.{Sequence}
 use Rattle.rt_base.specs.Faults.{fault_of, left_under}
+use Rattle.rt_lists.specs.Members.{Has}
 use Rattle.rt_schema.specs.declared.schema.Schema.{Schema}
 use Rattle.rt_stream.specs.Feed.{FeedMeaning, log_meaning}
 use Rattle.rt_stream.specs.Log.{Log}
@@ -20,6 +21,7 @@ use Rattle.rt_model.specs.declared.node.Seen.{Seen}
 use Rattle.rt_model.specs.declared.replica_state.ReplicaState.{ReplicaState}
 use Rattle.rt_model.specs.declared.reply.Reply.{Reply}
 use Rattle.rt_model.specs.declared.request.Request.{Request}
+use Rattle.rt_model.specs.declared.sent.Sent.TheVariants as sent
 use Rattle.rt_model.specs.declared.setup.Setup.{Setup}
 use Rattle.rt_model.specs.Lawful.{bump}
 use Rattle.rt_msgs.specs.Numbered.{Numbered}
@@ -39,7 +41,6 @@ use Rattle.rt_deep.specs.Memory.{means as deep_means}
 use Rattle.rt_deep.proofs.Seeing.{told_exact as deep_exact}
 use Rattle.rt_past.specs.Past.{Past, with_files, with_history, with_log}
 use Rattle.rt_past.specs.IsPast.{IsPast}
-use Rattle.rt_past.specs.Replies.{IsReply}
 use Rattle.rt_past.specs.Requests.{AreDrawn}
 use Rattle.rt_past.proofs.Growth.{grows_same}
 use Rattle.rt_past.proofs.Ways.{past_called}
@@ -57,13 +58,12 @@ use Rattle.rt_server.specs.Download.{Downloads, DownloadsAt, committed_at}
 use Rattle.rt_server.specs.Lasting.{HasAsked, IsEmpty, IsServerOver, SendsRight, StepsRight}
 use Rattle.rt_server.specs.Table.{Segments, ServerState, entry_of, replica_of, target_of, with_table}
 use Rattle.rt_server.specs.Transition.{transit_due}
-use Rattle.rt_server.proofs.LastingAsks.{asks_over, asks_for_over}
-use Rattle.rt_server.proofs.LastingCalls.{came, crashed_over, forces_over, replies_over, restarts_over, seals_over, sees_keep, stops_over, takes_over}
-use Rattle.rt_server.proofs.LastingDownloads.{downloads_never_bad, downloads_over}
+use Rattle.rt_server.proofs.LastingCalls.{asks_for_over, asks_over, crashed_over, downloads_over, forces_over, replies_over, restarts_over, seals_over, sees_keep, stops_over, takes_over, transits_keep}
+use Rattle.rt_server.proofs.LastingDownloads.{downloads_never_bad}
+use Rattle.rt_server.proofs.LastingEntries.{Keeps}
 use Rattle.rt_server.proofs.LastingGrows.{server_grows}
 use Rattle.rt_server.proofs.LastingNeeds.{asked_grows, numbers_needed, restarts_drawn}
-use Rattle.rt_server.proofs.LastingPuts.{Keeps, comes_keep}
-use Rattle.rt_server.proofs.LastingTransits.{transits_keep}
+use Rattle.rt_server.proofs.Stepped.{came, comes_keep}
 
 -- ---- a past that stays
 
@@ -95,7 +95,7 @@ pub sees_right : (setup : Setup) (past : Past) (t u : Told) (old new : ServerSta
     → past.history ≡ t.writes → SeesIdeal (means t) (means u) old new result → StepsRight setup past (with_history past u.writes) old new
 sees_right setup past t u old new result right k told h =
     let shown : past.history ≡ u.writes = told ∙ sym (told_read t u key.Ideal h.0 h.1) in
-    after_read setup past old new u.writes shown (stays setup past old new right (sees_keep setup past (means t) (means u) old new result shown k h))
+    after_read setup past old new u.writes shown (stays setup past old new right (sees_keep setup past right old k (means t) (means u) new shown result h))
 
 module _ (t u : Told) (old new : ServerState) (p : Partition) (q : Sequence) (now : Moment) (result : Result ReplicaState ServerRefused) where
   same_writes : means u ≡ means t → u.writes ≡ t.writes
@@ -115,7 +115,7 @@ pub transits_right : (setup : Setup) (past : Past) (t u : Told) (old new : Serve
 transits_right setup past t u old new p q now result right k told h =
     let shown : past.history ≡ u.writes = told ∙ sym (if_writes t u old new p q now result (transit_due old.table p q) h) in
     after_read setup past old new u.writes shown
-    (stays setup past old new right (transits_keep setup past (means t) (means u) old new p q now result shown right k h))
+    (stays setup past old new right (transits_keep setup past right old k (means t) (means u) new shown p q now result h))
 
 -- a bump that may have met a fault
 bumped_leaves : (t u : Told) (i : Instance) (answer : Result ℕ StoreRefused) → Bumps (means t) (means u) i answer → Leaves (bump i) t.writes u.writes
@@ -139,12 +139,12 @@ restarts_right setup past t u old new result right k told empty h =
           (λ version step. ap (λ (s : ServerState). s.numbers.instance) (came old new (answered_by h.0) version step).3) h.2;
       drawn = λ ms drawn. restarts_drawn setup past (means t) (means u) old new ms k told drawn result h;
       server =
-          restarts_over setup (with_history past u.writes) (means t) (means u) old new result refl empty
-          (server_grows setup past (with_history past u.writes) old grown.0 k) h;
+          restarts_over setup (with_history past u.writes) grown.1 old (server_grows setup past (with_history past u.writes) old grown.0 k)
+          (means t) (means u) new refl result empty h;
     }
 
 pub crashes_right : (setup : Setup) (past : Past) (s : ServerState) → IsPast setup past → IsServerOver setup past s → StepsRight setup past past s (crashed s) × IsEmpty (crashed s)
-crashes_right setup past s right k = (stays setup past s (crashed s) right (crashed_over setup past s k, refl), refl)
+crashes_right setup past s right k = (stays setup past s (crashed s) right (crashed_over setup past right s k, refl), refl)
 
 -- ---- the deep store
 
@@ -179,7 +179,7 @@ pub downloads_right : (setup : Setup) (past : Past) (d e : DeepTold) (old new : 
 downloads_right setup past d e old new p q result right k told h only =
     let shown : past.files ≡ e.files = told ∙ sym (downloads_files d e old.setup.schema p q result (committed_at (entry_of old.table p q)) old.table new.table h) in
     subst (λ (x : List DeepPut). StepsRight setup past (with_files past x) old new) shown
-    (stays setup past old new right (downloads_over setup past (deep_means d) (deep_means e) old new p q shown right k result h only, only.1))
+    (stays setup past old new right (downloads_over setup past right old k (deep_means d) (deep_means e) new p q shown result h only, only.1))
 
 -- a download finds the file that its segment's commit names
 pub download_finds : (setup : Setup) (past : Past) (d e : DeepTold) (s : ServerState) (t : Segments) (p : Partition) (q : Sequence) (wanted : Header) (found : Option Header)
@@ -212,22 +212,22 @@ pub takes_right : (setup : Setup) (past : Past) (a b : Log) (old new : ServerSta
 takes_right setup past a b old new p q max now result right k told h only =
     let shown : past.log ≡ b = told ∙ sym (taken_log a b max now old.table new.table p q result (replica_of old.table p q) h) in
     subst (λ (x : Log). StepsRight setup past (with_log past x) old new) shown
-    (stays setup past old new right (takes_over setup past old new p q only k (log_meaning a) (log_meaning b) max now result shown h, only.1))
+    (stays setup past old new right (takes_over setup past right old k new only p q result (log_meaning a) (log_meaning b) max now shown h, only.1))
 
 -- ---- a replica's own calls
 
 module _ (setup : Setup) (past : Past) (old new : ServerState) (right : IsPast setup past) (k : IsServerOver setup past old) (only : InTable old new) where
   pub forces_right : (p : Partition) (q : Sequence) (result : Result (Unit {0}) ServerRefused) → Forces old.table new.table p q result → StepsRight setup past past old new
-  forces_right p q result h = stays setup past old new right (forces_over setup past old new p q only k result h, only.1)
+  forces_right p q result h = stays setup past old new right (forces_over setup past right old k new only p q result h, only.1)
 
   pub stops_right : (p : Partition) (q : Sequence) (result : Result (Unit {0}) ServerRefused) → Stops old.table new.table p q result → StepsRight setup past past old new
-  stops_right p q result h = stays setup past old new right (stops_over setup past old new p q only k result h, only.1)
+  stops_right p q result h = stays setup past old new right (stops_over setup past right old k new only p q result h, only.1)
 
   pub seals_right : (p : Partition) (q : Sequence) (result : Result (Unit {0}) ServerRefused) → Seals old.table new.table p q result → StepsRight setup past past old new
-  seals_right p q result h = stays setup past old new right (seals_over setup past old new p q only k result h, only.1)
+  seals_right p q result h = stays setup past old new right (seals_over setup past right old k new only p q result h, only.1)
 
-  pub replies_right : (reply : Reply) (result : Bool) → IsReply past reply → (result, new.table) ≡ replied_in old.table reply → StepsRight setup past past old new
-  replies_right reply result y h = stays setup past old new right (replies_over setup past old new reply result only k right y h, only.1)
+  pub replies_right : (reply : Reply) (result : Bool) → Has past.sent (sent.Reply reply) → (result, new.table) ≡ replied_in old.table reply → StepsRight setup past past old new
+  replies_right reply result y h = stays setup past old new right (replies_over setup past right old k new only reply result y h, only.1)
 
 -- ---- requests
 
@@ -239,7 +239,7 @@ module _ (setup : Setup) (past : Past) (old new : ServerState) (p : Partition) (
       record { asked = asked; grows = grown.0; right = grown.1; same = ap (λ (n : Numbered). n.instance) asked.numbers; drawn = grown.2 }
 
   pub asks_right : Asks old.numbers new.numbers old.table new.table p q (Ok request) → SendsRight setup past old new p q request
-  asks_right h = sends (asks_over setup past old new p q request k (numbers_needed setup past old k few) of h)
+  asks_right h = sends (asks_over setup past right old k new p q request drawn (numbers_needed setup past old k few) of h)
 
   pub asks_for_right : (millis : ℕ) → AsksFor old.numbers new.numbers millis old.table new.table p q (Ok request) → SendsRight setup past old new p q request
-  asks_for_right millis h = sends (asks_for_over setup past old new p q request k (numbers_needed setup past old k few) of millis h)
+  asks_for_right millis h = sends (asks_for_over setup past right old k new p q request drawn (numbers_needed setup past old k few) of millis h)

@@ -7,16 +7,14 @@ pub mod LastingCalls
 pub mod LastingCommits
 pub mod LastingCopies
 pub mod LastingDownloads
+pub mod LastingEntries
 pub mod LastingGrows
 pub mod LastingNeeds
-pub mod LastingPuts
-pub mod LastingReplicas
 pub mod LastingServes
 pub mod LastingStarts
 pub mod LastingTables
 pub mod LastingTargets
 pub mod LastingTold
-pub mod LastingTransits
 pub mod Listed
 pub mod Loaded
 pub mod Merge
@@ -32,8 +30,8 @@ pub mod ReadBack
 pub mod SeesLawfully
 pub mod Scans
 pub mod SameSegment
+pub mod Stepped
 pub mod Steps
-pub mod TablePuts
 pub mod Targets
 pub mod Through
 pub mod Told

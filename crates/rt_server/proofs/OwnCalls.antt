@@ -1,5 +1,5 @@
 -- Each call of a server keeps what is its own, over a view that has what the call left.
-use Rattle.std.proofs.Common.{◌≡◌, ◌+◌, inl, inr, ℕ, Bool, List, Option, Some, None, Result, refl, sym, ap, subst, ◌∙◌, arith}
+use Rattle.std.proofs.Common.{◌≡◌, ◌+◌, inl, inr, ℕ, Bool, List, [], Option, Some, None, Result, refl, sym, ap, subst, ◌∙◌, arith}
 use Rattle.rt_base.specs.declared.numbers.Moment.{Moment}
 use Rattle.rt_base.specs.declared.numbers.Partition.{Partition}
 use Rattle.rt_base.specs.declared.numbers.Sequence.{Sequence}
@@ -29,12 +29,12 @@ use Rattle.rt_server.specs.Lasting.{IsEmpty}
 use Rattle.rt_server.specs.Own.{IsOwnServer}
 use Rattle.rt_server.specs.Table.{Segments, ServerState, replica_of, with_table}
 use Rattle.rt_server.proofs.Kept.{crashed_is, forces_keep, replies_keep, seals_keep, stops_keep, takes_keep, targets_are}
-use Rattle.rt_server.proofs.LastingCalls.{answered_ok, blank, bumped, came, come, saw}
-use Rattle.rt_server.proofs.LastingPuts.{comes_keep, in_table}
+use Rattle.rt_server.proofs.LastingEntries.{in_table}
 use Rattle.rt_server.proofs.OwnPuts.{put_own, replica_own, through_own}
 use Rattle.rt_server.proofs.OwnReplicas.{builds_own, consumes_own, forces_own, replies_own, stops_own}
 use Rattle.rt_server.proofs.OwnTransits.{KeepsOwn}
 use Rattle.rt_server.proofs.SameSegment.{builds_segment, consumes_segment, does_segment, replies_segment}
+use Rattle.rt_server.proofs.Stepped.{answered_ok, bumped, came, come, comes_keep, saw}
 
 -- ---- the replicas' calls
 
@@ -128,6 +128,9 @@ sees_own setup view before after old new result e k h =
         subst (KeepsOwn setup view old) (sym is) (own, refl)
 
 -- ---- a crash, and a restart after it
+
+abbrev blank : Segments
+blank = record { targets = []; entries = [] }
 
 empty_own : (setup : Setup) (view : Past) (s : ServerState) → s.setup ≡ setup → IsServer s.setup blank
     → IsIncarnation view.history s.numbers.instance s.numbers.incarnation → IsOwnServer setup view (with_table s blank)

@@ -29,7 +29,7 @@ use Rattle.rt_server.specs.Kept.{IsServer}
 use Rattle.rt_server.specs.Own.{IsGot, IsOwnCommitted, IsOwnServer}
 use Rattle.rt_server.specs.Table.{ServerState, entry_of, with_table}
 use Rattle.rt_server.proofs.LastingDownloads.{wanted_is, with_it}
-use Rattle.rt_server.proofs.LastingPuts.{in_table}
+use Rattle.rt_server.proofs.LastingEntries.{in_table}
 use Rattle.rt_server.proofs.Loaded.{downloaded_is}
 use Rattle.rt_server.proofs.OwnPuts.{found_own, put_own}
 

@@ -32,13 +32,13 @@ use Rattle.rt_server.specs.Past.{MayLearn, MayLearnOf}
 use Rattle.rt_server.specs.Table.{ServerState, entry_of, segment_of, target_of, with_table}
 use Rattle.rt_server.specs.Transition.{committed, moved_by, moved_to, opened, transit_due, transited, transition}
 use Rattle.rt_server.proofs.Kept.{transited_is, without_is}
-use Rattle.rt_server.proofs.LastingPuts.{comes_keep, segment}
+use Rattle.rt_server.proofs.LastingEntries.{at_segment, segment}
 use Rattle.rt_server.proofs.LastingTargets.{target_had}
-use Rattle.rt_server.proofs.LastingTransits.{WasRead, at_segment, stepped, was_read}
 use Rattle.rt_server.proofs.OwnPuts.{add_own, found_own, leave_own, put_own, replica_own}
 use Rattle.rt_replica.proofs.KeepsOwn.{started_own}
 use Rattle.rt_server.proofs.OwnReplicas.{learned_entry}
 use Rattle.rt_server.proofs.Past.{meta_past}
+use Rattle.rt_server.proofs.Stepped.{WasRead, comes_keep, stepped, was_read}
 
 -- what is its own is kept, and no number is made
 abbrev pub KeepsOwn : Setup → Past → ServerState → ServerState → Type 0
@@ -107,15 +107,16 @@ module _ (setup : Setup) (view : Past) (s : ServerState) (is : IsView setup view
 -- ---- the call
 
 module _ (setup : Setup) (view : Past) (before after : Meaning) (old new : ServerState) (p : Partition) (q : Sequence) (now : Moment) (result : Result ReplicaState ServerRefused)
-    (shown : view.history ≡ after.seen) (is : IsView setup view) (within : p.0 < setup.partitions) (k : IsOwnServer setup view old) where
+    (shown : view.history ≡ after.seen) (is : IsView setup view) (within : (mode : Mode) → target_of old.table p q ≡ Some mode → p.0 < setup.partitions) (k : IsOwnServer setup view old) where
   moves : (mode : Mode) → target_of old.table p q ≡ Some mode → (seen : Option SeenMeta) → WasRead after.seen p q seen
       → new ≡ with_table old (transition old.setup old.table p q now mode seen).1 → KeepsOwn setup view old new
   moves mode target seen was to_this =
       let here : WasRead view.history p q seen = subst (λ (h : List Seen). WasRead h p q seen) (sym shown) was in
       let to = transition old.setup old.table p q now mode seen in
-      let kept = transited_is old.setup old.table to.1 p q now mode seen to.0 refl (may_learn setup view old is k p q within seen here) k.kept in
+      let known = within mode target in
+      let kept = transited_is old.setup old.table to.1 p q now mode seen to.0 refl (may_learn setup view old is k p q known seen here) k.kept in
       let place = target_had view.history old.numbers.instance old.table.targets p q mode k.targets target in
-      subst (KeepsOwn setup view old) (sym to_this) (transition_own setup view old is k p q within now place mode seen here kept, refl)
+      subst (KeepsOwn setup view old) (sym to_this) (transition_own setup view old is k p q known now place mode seen here kept, refl)
 
   to_own : (o : Option Mode) → target_of old.table p q ≡ o → TransitsTo o before after old new p q now result → KeepsOwn setup view old new
   to_own None target h = subst (KeepsOwn setup view old) (sym h.2) (leave_own setup view old k p q (without_is old.setup old.table p q k.kept), refl)

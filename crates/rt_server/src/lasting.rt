@@ -7,6 +7,7 @@ ghost use Rattle.rt_base.specs.declared.numbers.Instance.{Instance};
 ghost use Rattle.rt_base.specs.declared.numbers.Moment.{Moment};
 ghost use Rattle.rt_base.specs.declared.numbers.Partition.{Partition};
 ghost use Rattle.rt_base.specs.declared.numbers.Sequence.{Sequence};
+ghost use Rattle.rt_lists.specs.Members.{Has};
 ghost use Rattle.rt_segment.specs.Segment.{SealedSegment};
 ghost use Rattle.rt_stream.specs.Feed.{FeedMeaning};
 ghost use Rattle.rt_stream.specs.Log.{messages_of};
@@ -17,6 +18,7 @@ ghost use Rattle.rt_model.specs.declared.reply.Reply.{Reply};
 ghost use Rattle.rt_model.specs.declared.request.Request.{Request};
 ghost use Rattle.rt_model.specs.declared.seg_meta.SeenMeta.{SeenMeta};
 ghost use Rattle.rt_model.specs.declared.sent.Sent.{Sent};
+ghost use Rattle.rt_model.specs.declared.sent.Sent.TheVariants as sent;
 ghost use Rattle.rt_model.specs.declared.setup.Setup.{Setup};
 ghost use Rattle.rt_model.specs.declared.status.Status.TheVariants.{Done};
 ghost use Rattle.rt_model.specs.Lawful.{bump};
@@ -28,7 +30,6 @@ ghost use Rattle.rt_deep.specs.Meaning.{Meaning as DeepMeaning};
 ghost use Rattle.rt_past.specs.Past.{Past, Grows, with_history, with_request};
 ghost use Rattle.rt_past.specs.Files.{IsStored};
 ghost use Rattle.rt_past.specs.IsPast.{IsPast, fresh_past};
-ghost use Rattle.rt_past.specs.Replies.{IsReply};
 ghost use Rattle.rt_past.specs.Requests.{AreDrawn};
 ghost use Rattle.rt_consumer.specs.declared.consumer.Consumer.{Consumer};
 ghost use Rattle.rt_consumer.specs.Consumer.{IsConsumer, cur, state_of};
@@ -64,7 +65,7 @@ pub fn what_lasts_of_a_server_stays_true()
 /// crash.
 pub fn each_call_of_a_server_keeps_what_lasts()
     ensures sees { (setup : Setup) (past : Past) (before after : Meaning) (old new : ServerState) (result : Result ℕ ServerRefused)
-        → past.history ≡ after.seen → IsServerOver setup past old → SeesIdeal before after old new result
+        → past.history ≡ after.seen → IsPast setup past → IsServerOver setup past old → SeesIdeal before after old new result
         → IsServerOver setup past new × (new.numbers ≡ old.numbers) }
     ensures transits { (setup : Setup) (past : Past) (before after : Meaning) (old new : ServerState) (p : Partition) (q : Sequence) (now : Moment)
         (result : Result ReplicaState ServerRefused) → past.history ≡ after.seen → IsPast setup past → IsServerOver setup past old
@@ -72,24 +73,25 @@ pub fn each_call_of_a_server_keeps_what_lasts()
     ensures downloads { (setup : Setup) (past : Past) (before after : DeepMeaning) (old new : ServerState) (p : Partition) (q : Sequence)
         (result : Result ℕ ServerRefused) → past.files ≡ after.seen → IsPast setup past → IsServerOver setup past old
         → Downloads before after old.setup.schema old.table new.table p q result → InTable old new → IsServerOver setup past new }
-    ensures crashes { (setup : Setup) (past : Past) (s : ServerState) → IsServerOver setup past s → IsServerOver setup past (crashed s) × IsEmpty (crashed s) }
+    ensures crashes { (setup : Setup) (past : Past) (s : ServerState) → IsPast setup past → IsServerOver setup past s
+        → IsServerOver setup past (crashed s) × IsEmpty (crashed s) }
     ensures restarts { (setup : Setup) (past : Past) (before after : Meaning) (old new : ServerState) (result : Result ℕ ServerRefused)
-        → past.history ≡ after.seen → IsEmpty old → IsServerOver setup past old → Restarts before after old new result → IsServerOver setup past new }
+        → past.history ≡ after.seen → IsPast setup past → IsEmpty old → IsServerOver setup past old → Restarts before after old new result → IsServerOver setup past new }
 {}
 
-/// So do the calls of its replicas: as one consumes, is forced, is stopped, seals its rows, and takes the answer to a request.
+/// So do the calls of its replicas: as one consumes, is forced, is stopped, seals its rows, and takes an answer that was sent.
 pub fn each_call_of_a_replica_keeps_what_lasts()
     ensures takes { (setup : Setup) (past : Past) (before after : FeedMeaning) (old new : ServerState) (p : Partition) (q : Sequence) (max : ℕ) (now : Moment)
-        (result : Result (Unit {0}) ServerRefused) → past.log ≡ after.seen → IsServerOver setup past old
+        (result : Result (Unit {0}) ServerRefused) → past.log ≡ after.seen → IsPast setup past → IsServerOver setup past old
         → Takes before after old.table new.table p q max now result → InTable old new → IsServerOver setup past new }
     ensures forces { (setup : Setup) (past : Past) (old new : ServerState) (p : Partition) (q : Sequence) (result : Result (Unit {0}) ServerRefused)
-        → IsServerOver setup past old → Forces old.table new.table p q result → InTable old new → IsServerOver setup past new }
+        → IsPast setup past → IsServerOver setup past old → Forces old.table new.table p q result → InTable old new → IsServerOver setup past new }
     ensures stops { (setup : Setup) (past : Past) (old new : ServerState) (p : Partition) (q : Sequence) (result : Result (Unit {0}) ServerRefused)
-        → IsServerOver setup past old → Stops old.table new.table p q result → InTable old new → IsServerOver setup past new }
+        → IsPast setup past → IsServerOver setup past old → Stops old.table new.table p q result → InTable old new → IsServerOver setup past new }
     ensures seals { (setup : Setup) (past : Past) (old new : ServerState) (p : Partition) (q : Sequence) (result : Result (Unit {0}) ServerRefused)
-        → IsServerOver setup past old → Seals old.table new.table p q result → InTable old new → IsServerOver setup past new }
+        → IsPast setup past → IsServerOver setup past old → Seals old.table new.table p q result → InTable old new → IsServerOver setup past new }
     ensures replies { (setup : Setup) (past : Past) (old new : ServerState) (reply : Reply) (result : Bool)
-        → IsPast setup past → IsReply past reply → IsServerOver setup past old → (result, new.table) ≡ replied_in old.table reply
+        → IsPast setup past → Has past.sent (sent.Reply reply) → IsServerOver setup past old → (result, new.table) ≡ replied_in old.table reply
         → InTable old new → IsServerOver setup past new }
 {}
 
@@ -97,10 +99,10 @@ pub fn each_call_of_a_replica_keeps_what_lasts()
 /// changes nothing.
 pub fn a_server_asks_what_is_right()
     ensures asks { (setup : Setup) (past : Past) (old new : ServerState) (p : Partition) (q : Sequence) (request : Request)
-        → IsServerOver setup past old → old.numbers.made < 2 ^ 63 → new.setup ≡ old.setup
+        → IsPast setup past → IsServerOver setup past old → AreDrawn past.sent old.numbers → old.numbers.made < 2 ^ 63 → new.setup ≡ old.setup
         → Asks old.numbers new.numbers old.table new.table p q (Ok request) → HasAsked setup past old new p q request }
     ensures extends { (setup : Setup) (past : Past) (old new : ServerState) (p : Partition) (q : Sequence) (request : Request) (millis : ℕ)
-        → IsServerOver setup past old → old.numbers.made < 2 ^ 63 → new.setup ≡ old.setup
+        → IsPast setup past → IsServerOver setup past old → AreDrawn past.sent old.numbers → old.numbers.made < 2 ^ 63 → new.setup ≡ old.setup
         → AsksFor old.numbers new.numbers millis old.table new.table p q (Ok request) → HasAsked setup past old new p q request }
     ensures sent { (setup : Setup) (past : Past) (old new : ServerState) (p : Partition) (q : Sequence) (request : Request) → IsPast setup past
         → AreDrawn past.sent old.numbers → HasAsked setup past old new p q request

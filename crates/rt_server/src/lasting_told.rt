@@ -5,11 +5,13 @@ ghost use Rattle.rt_base.specs.declared.header.Header.{Header};
 ghost use Rattle.rt_base.specs.declared.numbers.Moment.{Moment};
 ghost use Rattle.rt_base.specs.declared.numbers.Partition.{Partition};
 ghost use Rattle.rt_base.specs.declared.numbers.Sequence.{Sequence};
+ghost use Rattle.rt_lists.specs.Members.{Has};
 ghost use Rattle.rt_stream.specs.Feed.{log_meaning};
 ghost use Rattle.rt_stream.specs.Log.{Log};
 ghost use Rattle.rt_model.specs.declared.replica_state.ReplicaState.{ReplicaState};
 ghost use Rattle.rt_model.specs.declared.reply.Reply.{Reply};
 ghost use Rattle.rt_model.specs.declared.request.Request.{Request};
+ghost use Rattle.rt_model.specs.declared.sent.Sent.TheVariants as sent;
 ghost use Rattle.rt_model.specs.declared.setup.Setup.{Setup};
 ghost use Rattle.rt_store.specs.Meaning.{Told};
 ghost use Rattle.rt_store.specs.Memory.{means};
@@ -17,7 +19,6 @@ ghost use Rattle.rt_deep.specs.Meaning.{Told as DeepTold};
 ghost use Rattle.rt_deep.specs.Memory.{means as deep_means};
 ghost use Rattle.rt_past.specs.Past.{Past, with_files, with_history, with_log};
 ghost use Rattle.rt_past.specs.IsPast.{IsPast};
-ghost use Rattle.rt_past.specs.Replies.{IsReply};
 ghost use Rattle.rt_past.specs.Requests.{AreDrawn};
 ghost use Rattle.rt_entry.specs.declared.refused.ServerRefused.{ServerRefused};
 ghost use Rattle.rt_entry.specs.declared.refused.ServerRefused.TheVariants.{BadFile};
@@ -49,8 +50,7 @@ pub fn a_server_steps_right()
         → StepsRight setup past (with_history past u.writes) old new }
 {}
 
-/// The calls of its replicas step right: one consumes, is forced, is stopped, seals its rows, and takes the answer to a
-/// request.
+/// The calls of its replicas step right: one consumes, is forced, is stopped, seals its rows, and takes an answer that was sent.
 pub fn a_servers_replicas_step_right()
     ensures takes { (setup : Setup) (past : Past) (a b : Log) (old new : ServerState) (p : Partition) (q : Sequence) (max : ℕ) (now : Moment)
         (result : Result (Unit {0}) ServerRefused) → IsPast setup past → IsServerOver setup past old → past.log ≡ a
@@ -66,7 +66,7 @@ pub fn a_servers_replicas_step_right()
         → IsPast setup past → IsServerOver setup past old → InTable old new → Seals old.table new.table p q result
         → StepsRight setup past past old new }
     ensures replies { (setup : Setup) (past : Past) (old new : ServerState) (reply : Reply) (result : Bool) → IsPast setup past
-        → IsServerOver setup past old → InTable old new → IsReply past reply → (result, new.table) ≡ replied_in old.table reply
+        → IsServerOver setup past old → InTable old new → Has past.sent (sent.Reply reply) → (result, new.table) ≡ replied_in old.table reply
         → StepsRight setup past past old new }
 {}
 

@@ -9,13 +9,15 @@ use Rattle.rt_events.specs.declared.outcome.Outcome.{Outcome}
 use Rattle.rt_events.specs.declared.outcome.Outcome.TheVariants as told
 use Rattle.rt_events.specs.declared.refusal.Refusal.TheVariants.{NoSuchNode, NothingToDo}
 use Rattle.rt_model.specs.Lawful.{bump}
+use Rattle.rt_past.specs.IsPast.{IsPast}
 use Rattle.rt_past.specs.Past.{with_history}
 use Rattle.rt_server.specs.Calls.{Restarts}
 use Rattle.rt_server.specs.Lasting.{IsEmpty}
 use Rattle.rt_server.specs.Table.{ServerState}
-use Rattle.rt_server.proofs.LastingCalls.{came, crashed_over, restarts_over}
+use Rattle.rt_server.proofs.LastingCalls.{crashed_over, restarts_over}
 use Rattle.rt_server.proofs.LastingGrows.{server_grows}
 use Rattle.rt_server.proofs.LastingNeeds.{restarts_drawn}
+use Rattle.rt_server.proofs.Stepped.{came}
 use Rattle.rt_store.specs.Meaning.{Meaning, Told}
 use Rattle.rt_store.specs.Memory.{means}
 use Rattle.rt_state.specs.Applying.{Next}
@@ -35,10 +37,10 @@ use Rattle.rt_world.proofs.Stores.{wrote_told, writes_called}
 
 -- ---- crashes
 
-node_crash_keeps : (w : State) (i : ℕ) (n : ServerNode) → IsServerOf w (past_of w) i n → IsServerOf w (past_of w) i (node_crashed n)
-node_crash_keeps w i n k =
+node_crash_keeps : (w : State) (i : ℕ) (n : ServerNode) → IsPast w.setup (past_of w) → IsServerOf w (past_of w) i n → IsServerOf w (past_of w) i (node_crashed n)
+node_crash_keeps w i n right k =
     record {
-      at = record { over = crashed_over w.setup (past_of w) n.server k.at.over; placed = k.at.placed; down = λ e. refl };
+      at = record { over = crashed_over w.setup (past_of w) right n.server k.at.over; placed = k.at.placed; down = λ e. refl };
       drawn = k.drawn;
     }
 
@@ -46,7 +48,7 @@ pub crash_server_keeps : (w : State) (i : Instance) (cost : Cost) (x : Next) →
     → IsSafeWorld x.0
 crash_server_keeps w i cost x s room h =
     server_does_keeps w i NodeCrashes cost x s room
-    (λ old new o e k step. subst (IsServerOf w (past_of w) i.0) (sym step.0) (node_crash_keeps w i.0 old k))
+    (λ old new o e k step. subst (IsServerOf w (past_of w) i.0) (sym step.0) (node_crash_keeps w i.0 old s.safe.past k))
     h
 
 pub crash_controller_keeps : (w : State) (c : ControllerId) (cost : Cost) (x : Next) → IsSafeWorld w → priced w no_cost ≡ Ok cost
@@ -103,8 +105,8 @@ node_restart_keeps w i old new store o s there down k (answer, restarts, told, u
             at =
                 record {
                   over =
-                      restarts_over w.setup b (means w.store) (means store) old.server new.server answer refl empty
-                      (server_grows w.setup a b old.server past.grows k.at.over) restarts;
+                      restarts_over w.setup b past.right old.server (server_grows w.setup a b old.server past.grows k.at.over)
+                      (means w.store) (means store) new.server refl answer empty restarts;
                   placed = ap (λ (j : Instance). j.0) same.instance ∙ k.at.placed;
                   down = λ e. same.table ∙ empty;
                 };

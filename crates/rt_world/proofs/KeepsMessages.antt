@@ -166,7 +166,7 @@ node_took_keeps w r n s has k =
     record {
       at =
           record {
-            over = replies_over w.setup (past_of w) n.server new r answer.0 (refl, refl) k.at.over s.past (s.past.replies r has) refl;
+            over = replies_over w.setup (past_of w) s.past n.server k.at.over new (refl, refl) r answer.0 has refl;
             placed = k.at.placed;
             down = λ e. still_empty (k.at.down e);
           };

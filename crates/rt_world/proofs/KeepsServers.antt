@@ -12,10 +12,8 @@ use Rattle.rt_past.specs.IsPast.{IsPast}
 use Rattle.rt_past.specs.Past.{Past, with_history}
 use Rattle.rt_past.specs.Requests.{AreDrawn}
 use Rattle.rt_server.specs.Lasting.{IsServerOver}
-use Rattle.rt_server.proofs.LastingCalls.{forces_over, seals_over, sees_keep, stops_over, takes_over}
-use Rattle.rt_server.proofs.LastingDownloads.{downloads_over}
-use Rattle.rt_server.proofs.LastingPuts.{Keeps}
-use Rattle.rt_server.proofs.LastingTransits.{transits_keep}
+use Rattle.rt_server.proofs.LastingCalls.{downloads_over, forces_over, seals_over, sees_keep, stops_over, takes_over, transits_keep}
+use Rattle.rt_server.proofs.LastingEntries.{Keeps}
 use Rattle.rt_store.specs.Meaning.{Told}
 use Rattle.rt_store.specs.Memory.{means}
 use Rattle.rt_stream.specs.Feed.{log_meaning}
@@ -94,7 +92,7 @@ module _ (w : State) (i : Instance) (p : Partition) (q : Sequence) (cost : Cost)
       let same = takes_looks w.log log old.server.table new.server.table p q max w.moment (Ok tt) step.0 in (
         same,
         stays_at w (past_of w) i.0 old new k (up_there w i old d.there.up e) step.2 step.1.1
-            (takes_over w.setup (past_of w) old.server new.server p q step.1 k.at.over (log_meaning w.log) (log_meaning log) max w.moment (Ok tt) (sym same) step.0),
+            (takes_over w.setup (past_of w) s.safe.past old.server k.at.over new.server step.1 p q (Ok tt) (log_meaning w.log) (log_meaning log) max w.moment (sym same) step.0),
       ))
       h
 
@@ -104,7 +102,7 @@ module _ (w : State) (i : Instance) (p : Partition) (q : Sequence) (cost : Cost)
       server_does_keeps w i (NodeForces p q) cost x s d.priced
       (λ old new o e k step.
       stays_at w (past_of w) i.0 old new k (up_there w i old d.there.up e) step.2 step.1.1
-      (forces_over w.setup (past_of w) old.server new.server p q step.1 k.at.over (Ok tt) step.0))
+      (forces_over w.setup (past_of w) s.safe.past old.server k.at.over new.server step.1 p q (Ok tt) step.0))
       h
 
   pub stop_keeps : stop_due w i p q ≡ Ok cost → Stops w i p q cost x → IsSafeWorld x.0
@@ -113,7 +111,7 @@ module _ (w : State) (i : Instance) (p : Partition) (q : Sequence) (cost : Cost)
       server_does_keeps w i (NodeStops p q) cost x s d.priced
       (λ old new o e k step.
       stays_at w (past_of w) i.0 old new k (up_there w i old d.there.up e) step.2 step.1.1
-      (stops_over w.setup (past_of w) old.server new.server p q step.1 k.at.over (Ok tt) step.0))
+      (stops_over w.setup (past_of w) s.safe.past old.server k.at.over new.server step.1 p q (Ok tt) step.0))
       h
 
   pub build_keeps : build_due w i p q ≡ Ok cost → Builds w i p q cost x → IsSafeWorld x.0
@@ -122,7 +120,7 @@ module _ (w : State) (i : Instance) (p : Partition) (q : Sequence) (cost : Cost)
       server_does_keeps w i (NodeBuilds p q) cost x s d.priced
       (λ old new o e k step.
       stays_at w (past_of w) i.0 old new k (up_there w i old d.there.up e) step.2 step.1.1
-      (seals_over w.setup (past_of w) old.server new.server p q step.1 k.at.over (Ok tt) step.0))
+      (seals_over w.setup (past_of w) s.safe.past old.server k.at.over new.server step.1 p q (Ok tt) step.0))
       h
 
 -- ---- servers
@@ -152,7 +150,7 @@ module _ (w : State) (i : Instance) (cost : Cost) (x : Next) (s : IsSafeWorld w)
       server_calls_keeps w i NodeSees cost x s up.1
       (λ old new store o e k step.
       looks_on w i.0 old new store s (unwritten w.store store (sees_looks w.store store old.server new.server step.0 step.1)) k (up_there w i old up.0 e) step.3
-      (λ over right. sees_keep w.setup (with_history (past_of w) store.writes) (means w.store) (means store) old.server new.server step.0 refl over step.1))
+      (λ over right. sees_keep w.setup (with_history (past_of w) store.writes) right old.server over (means w.store) (means store) new.server refl step.0 step.1))
       h
 
   pub transit_keeps : (p : Partition) (q : Sequence) → transit_due w i p q ≡ Ok cost → Moves w i p q cost x → IsSafeWorld x.0
@@ -164,7 +162,7 @@ module _ (w : State) (i : Instance) (cost : Cost) (x : Next) (s : IsSafeWorld w)
       looks_on w i.0 old new store s (unwritten w.store store (transits_looks w.store store old.server new.server p q w.moment step.0 step.1)) k
       (up_there w i old (server_there w i p there.0).up e) step.3
       (λ over right.
-      transits_keep w.setup (with_history (past_of w) store.writes) (means w.store) (means store) old.server new.server p q w.moment step.0 refl right over step.1))
+      transits_keep w.setup (with_history (past_of w) store.writes) right old.server over (means w.store) (means store) new.server refl p q w.moment step.0 step.1))
       h
 
   pub download_keeps : (p : Partition) (q : Sequence) → download_due w i p q ≡ Ok cost → Loads w i p q cost x → IsSafeWorld x.0
@@ -176,6 +174,6 @@ module _ (w : State) (i : Instance) (cost : Cost) (x : Next) (s : IsSafeWorld w)
       let same = unput w.deep deep (downloads_looks w.deep deep old.server.setup.schema old.server.table new.server.table p q step.0 step.1) in (
         same,
         stays_at w (past_of w) i.0 old new k (up_there w i old (server_there w i p there.0).up e) step.4 step.2.1
-            (downloads_over w.setup (past_of w) (deep_means w.deep) (deep_means deep) old.server new.server p q (sym same) s.safe.past k.at.over step.0 step.1 step.2),
+            (downloads_over w.setup (past_of w) s.safe.past old.server k.at.over (deep_means w.deep) (deep_means deep) new.server p q (sym same) step.0 step.1 step.2),
       ))
       h

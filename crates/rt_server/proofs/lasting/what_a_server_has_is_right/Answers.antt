@@ -1,6 +1,6 @@
 use Rattle.rt_server.proofs.LastingCommits.{commits_right, told_right}
 use Rattle.rt_server.proofs.LastingCopies.{copies_right, loaded_right}
-use Rattle.rt_server.proofs.LastingPuts.{replica_held}
+use Rattle.rt_server.proofs.LastingEntries.{replica_held}
 use Rattle.rt_server.proofs.LastingServes.{serves_right}
 use Rattle.rt_server.proofs.lasting.what_a_server_has_is_right.Goals as goal
 

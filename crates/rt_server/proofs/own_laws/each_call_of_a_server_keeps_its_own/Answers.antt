@@ -7,7 +7,7 @@ pub returns-clause-sees : goal.returns-clause-sees
 returns-clause-sees c = sees_own
 
 pub returns-clause-transits : goal.returns-clause-transits
-returns-clause-transits c = λ setup view before after old new p q now result shown is within k h. transits_own setup view before after old new p q now result shown is within k h
+returns-clause-transits c = λ setup view before after old new p q now result shown is within k h. transits_own setup view before after old new p q now result shown is (λ mode target. within) k h
 
 pub returns-clause-downloads : goal.returns-clause-downloads
 returns-clause-downloads c = λ setup view before after old new p q result shown k h only. downloads_own setup view before after old new p q shown k result h only
