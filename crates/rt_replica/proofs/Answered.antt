@@ -1,4 +1,4 @@
--- What lasts of a replica is kept by an answer.
+-- What an answer makes of what a replica was told, and of what it waits for.
 use Rattle.std.proofs.Common.{◌≡◌, ◌<◌, ◌==◌, ℕ, Bool, true, false, cond, nat_lt, List, Option, Some, None, refl, sym, ap, subst, ◌∙◌}
 use Rattle.rt_base.specs.declared.numbers.Instance.{Instance}
 use Rattle.rt_base.specs.declared.numbers.Offset.{Offset}
@@ -7,15 +7,10 @@ use Rattle.rt_base.specs.declared.numbers.Sequence.{Sequence}
 use Rattle.rt_mutable.specs.Consuming.{Consuming}
 use Rattle.rt_segment.specs.Segment.{SealedSegment}
 use Rattle.rt_segment.specs.Spelling.{file_of}
-use Rattle.rt_model.specs.Messages.{same_number}
-use Rattle.rt_model.specs.declared.asked.Asked.{Asked}
-use Rattle.rt_model.proofs.Messages.{same_number_true}
 use Rattle.rt_model.specs.declared.node.Seen.{Seen}
-use Rattle.rt_model.specs.declared.reply.Reply.{Reply}
 use Rattle.rt_model.specs.declared.reply.ReplyStatus.{ReplyStatus}
 use Rattle.rt_model.specs.declared.reply.ReplyStatus.TheVariants.{Hold, CatchUp, Keep, Discard, Commit, NotLeader, CommitContinue, UploadSuccess, CommitSuccess, Processed, Failed}
 use Rattle.rt_model.specs.declared.request.Reason.{Reason}
-use Rattle.rt_model.specs.declared.request.Request.{Request}
 use Rattle.rt_model.specs.declared.request.RequestKind.{RequestKind}
 use Rattle.rt_model.specs.declared.request.RequestKind.TheVariants as kind
 use Rattle.rt_model.specs.declared.request.RequestNumber.{RequestNumber}
@@ -27,9 +22,9 @@ use Rattle.rt_model.proofs.Lawful.{has_chains}
 use Rattle.rt_past.specs.Past.{Past}
 use Rattle.rt_past.specs.Files.{IsRightFile, Stands}
 use Rattle.rt_past.specs.IsPast.{IsPast}
-use Rattle.rt_past.specs.Replies.{IsReply, IsStatus}
+use Rattle.rt_past.specs.Replies.{IsStatus}
 use Rattle.rt_past.specs.Requests.{IsKind}
-use Rattle.rt_past.specs.Segments.{IsBegun, WasDone}
+use Rattle.rt_past.specs.Segments.{IsBegun}
 use Rattle.rt_consumer.specs.declared.phase.Discarded.{Discarded}
 use Rattle.rt_consumer.specs.declared.phase.Phase.{Phase}
 use Rattle.rt_consumer.specs.declared.phase.Phase.TheVariants as phase
@@ -39,14 +34,9 @@ use Rattle.rt_consumer.specs.declared.stage.Stage.{Stage}
 use Rattle.rt_consumer.specs.declared.stage.Stage.TheVariants.{InitialConsuming, CatchingUp, Holding, ConsumingToOnline, Retaining, Building, Starting, Uploading, Ending}
 use Rattle.rt_consumer.specs.declared.waited.Waited.{Waited}
 use Rattle.rt_consumer.specs.declared.waited.Waited.TheVariants.{Step, Extend}
-use Rattle.rt_consumer.specs.declared.consumer.Consumer.{Consumer}
-use Rattle.rt_consumer.specs.Consumer.{IsConsumer, at, cur_in, ends_at, number_of}
-use Rattle.rt_consumer.specs.Requests.{kind_at}
-use Rattle.rt_msgs.specs.Numbered.{upload_path}
-use Rattle.rt_consumer.specs.Replies.{consumed, continued, uploaded, ended, answered_at, answered, extended_at, extended, is_processed, turned, turn_by, replied_to, replied}
-use Rattle.rt_replica.specs.Held.{IsHeld}
-use Rattle.rt_replica.specs.Lasting.{HasUploaded, IsAskedIn, IsReplica, ToldAt, ToldIn, WaitsFor, WasAsked}
-use Rattle.rt_replica.proofs.Holding.{replied_held}
+use Rattle.rt_consumer.specs.Consumer.{at, cur_in, ends_at, number_of}
+use Rattle.rt_consumer.specs.Replies.{consumed, continued, uploaded, ended, answered_at, answered, extended_at, extended, is_processed, turn_by}
+use Rattle.rt_replica.specs.Lasting.{HasUploaded, IsAskedIn, ToldAt, ToldIn, WaitsFor, WasAsked}
 
 -- what an answer may carry: a commit that was written, and the path of an upload
 abbrev pub MayBear : (SeenMeta → Type 0) → (List ℕ → Type 0) → ReplyStatus → Type 0
@@ -104,13 +94,13 @@ same_kind k l e = cc
 -- over a right past the answer to an upload of the segment tells that the file stands at the path that it carries
 module _ (setup : Setup) (past : Past) (k : IsPast setup past) (i : Instance) (incarnation : ℕ) (p : Partition) (s : Sequence) (start : Offset)
     (within : p.0 < setup.partitions) (begun : IsBegun past.history p s start) where
-  pub uploaded_at : (x : Offset) (number : RequestNumber) (built : SealedSegment) (own path : List ℕ) (asks : RequestKind)
-      (asked : WasAsked past i incarnation p s x number asks) → asks ≡ kind.Upload own (file_of built)
+  pub uploaded_at : (x : Offset) (number : RequestNumber) (built : SealedSegment) (own path : List ℕ)
+      (asked : WasAsked past i incarnation p s x number (kind.Upload own (file_of built)))
       → IsStatus past asked.request (UploadSuccess path) → HasUploaded setup past i incarnation p s start x built path
-  uploaded_at x number built own path asks asked is (bytes, uploads, stands) =
+  uploaded_at x number built own path asked (bytes, uploads, stands) =
       let q = asked.request in
       let r = k.requests q asked.was_sent in
-      let both : kind.Upload path bytes ≡ kind.Upload own (file_of built) = sym uploads ∙ asked.kind ∙ is in
+      let both : kind.Upload path bytes ≡ kind.Upload own (file_of built) = sym uploads ∙ asked.kind in
       let of_file : bytes ≡ file_of built = upload_bytes path own bytes (file_of built) both in
       let right : IsKind setup past q r.start (kind.Upload path bytes) = subst (IsKind setup past q r.start) uploads r.kind in
       let begun_here : IsBegun past.history p s r.start =
@@ -127,58 +117,8 @@ module _ (setup : Setup) (past : Past) (k : IsPast setup past) (i : Instance) (i
         number = number;
         asked =
             subst (WasAsked past i incarnation p s x number)
-            (is ∙ ap (λ z. kind.Upload z (file_of built)) (sym (upload_paths path own bytes (file_of built) both))) asked;
+            (ap (λ z. kind.Upload z (file_of built)) (sym (upload_paths path own bytes (file_of built) both))) asked;
       }
-
-  up_at : (name : List ℕ) (rows : Consuming) (stage : Stage) (number : RequestNumber) (asks : RequestKind) (asked : WasAsked past i incarnation p s rows.end number asks)
-      → kind_at name number stage ≡ some_kind asks → (path : List ℕ) → IsStatus past asked.request (UploadSuccess path)
-      → UpAt (HasUploaded setup past i incarnation p s start) rows.end stage path
-  up_at name rows (Uploading reason built) number asks asked is path status =
-      uploaded_at rows.end number built (upload_path name number) path asks asked
-      (sym (same_kind (kind.Upload (upload_path name number) (file_of built)) asks is)) status
-  up_at name rows InitialConsuming number asks asked is path status = tt
-  up_at name rows (CatchingUp target reason) number asks asked is path status = tt
-  up_at name rows (Holding reason) number asks asked is path status = tt
-  up_at name rows (ConsumingToOnline end done) number asks asked is path status = tt
-  up_at name rows (Retaining done) number asks asked is path status = tt
-  up_at name rows (Building reason) number asks asked is path status = tt
-  up_at name rows (Starting reason built) number asks asked is path status = tt
-  up_at name rows (Ending reason built old) number asks asked is path status = tt
-
-  up_in : (name : List ℕ) (ph : Phase) (w : Waited) (asks : RequestKind) (asked : WasAsked past i incarnation p s (cur_in ph) (number_of w) asks)
-      → IsAskedIn name ph w asks → (path : List ℕ) → IsStatus past asked.request (UploadSuccess path)
-      → UpIn (HasUploaded setup past i incarnation p s start) ph w path
-  up_in name (phase.Unsealed o) (Step number) asks asked is path status = up_at name o.rows o.stage number asks asked is path status
-  up_in name (phase.Unsealed o) (Extend number) asks asked is path status = tt
-  up_in name (phase.Retained kept) w asks asked is path status = tt
-  up_in name (phase.Committed kept) w asks asked is path status = tt
-  up_in name (phase.Discarded d) w asks asked is path status = tt
-
-  carried : (q : Request) → q.partition ≡ p → q.sequence ≡ s → (At : List ℕ → Type 0) (status : ReplyStatus)
-      → ((path : List ℕ) → status ≡ UploadSuccess path → At path) → IsStatus past q status → MayBear (WasDone past.history p s) At status
-  carried q ep es At (Keep seen) up t = subst (λ z. WasDone past.history p z seen) es (subst (λ z. WasDone past.history z q.sequence seen) ep t)
-  carried q ep es At (CommitSuccess seen) up t = subst (λ z. WasDone past.history p z seen) es (subst (λ z. WasDone past.history z q.sequence seen) ep t)
-  carried q ep es At (UploadSuccess path) up t = up path refl
-  carried q ep es At Hold up t = tt
-  carried q ep es At (CatchUp o) up t = tt
-  carried q ep es At Discard up t = tt
-  carried q ep es At (Commit o) up t = tt
-  carried q ep es At NotLeader up t = tt
-  carried q ep es At CommitContinue up t = tt
-  carried q ep es At Processed up t = tt
-  carried q ep es At (Failed cause) up t = tt
-
-  -- the answer to what was asked carries what the request is about
-  may_carry : (name : List ℕ) (ph : Phase) (w : Waited) (reply : Reply) → IsReply past reply → (asks : RequestKind)
-      → WasAsked past i incarnation p s (cur_in ph) (number_of w) asks → IsAskedIn name ph w asks → same_number (number_of w) reply.number ≡ true
-      → MayBear (WasDone past.history p s) (UpIn (HasUploaded setup past i incarnation p s start) ph w) reply.status
-  may_carry name ph w reply y asks asked is same =
-      let number : number_of w ≡ reply.number = same_number_true (number_of w) reply.number same in
-      let answers : y.request.number ≡ reply.number = ap (λ (a : Asked). a.number) y.answers in
-      let one : y.request ≡ asked.request = k.unique y.request asked.request y.was_sent asked.was_sent (answers ∙ sym number ∙ sym asked.numbered) in
-      let status : IsStatus past asked.request reply.status = subst (λ z. IsStatus past z reply.status) one y.status in
-      carried asked.request asked.segment.0 asked.segment.1 (UpIn (HasUploaded setup past i incarnation p s start) ph w) reply.status
-      (λ path e. up_in name ph w asks asked is path (subst (IsStatus past asked.request) e status)) status
 
 either : (T : Turn → Type 0) (b : Bool) (x y : Turn) → T x → T y → T (cond b x y)
 either T true x y h k = h
@@ -311,48 +251,3 @@ module _ (Was : SeenMeta → Type 0) (Up : Offset → SealedSegment → List ℕ
       → ToldAfter ph (turn_by ph w status)
   turn_told ph (Step number) status c t = answered_told ph number status c t
   turn_told ph (Extend number) status c t = extended_told ph status t
-
-module _ (setup : Setup) (past : Past) (i : Instance) (incarnation : ℕ) (r : Consumer) (k : IsReplica setup past i incarnation r) where
-  abbrev Tells : Turn → Type 0
-  Tells t = ToldAfter (WasDone past.history r.partition r.sequence) (HasUploaded setup past i incarnation r.partition r.sequence r.start) r.phase t
-
-  turned_lasts : (t : Turn) → Tells t → IsHeld past.log (turned r t) → IsReplica setup past i incarnation (turned r t)
-  turned_lasts (Stays ph) told held = record {
-    settings = k.settings;
-    partition = k.partition;
-    assigned = k.assigned;
-    entered = k.entered;
-    begun = k.begun;
-    named = k.named;
-    held = held;
-    told = told.0;
-    waited = waits_on past i incarnation r.partition r.sequence r.name r.phase ph r.waited told.1 k.waited;
-  }
-  turned_lasts (Goes ph) told held = record {
-    settings = k.settings;
-    partition = k.partition;
-    assigned = k.assigned;
-    entered = k.entered;
-    begun = k.begun;
-    named = k.named;
-    held = held;
-    told = told;
-    waited = tt;
-  }
-
-  turned_if : (b : Bool) (t : Turn) → (b ≡ true → Tells t) → IsHeld past.log (cond b (turned r t) r) → IsReplica setup past i incarnation (cond b (turned r t) r)
-  turned_if true t told held = turned_lasts t (told refl) held
-  turned_if false t told held = k
-
-  replied_to_lasts : (w : Option Waited) (reply : Reply) → IsPast setup past → IsReply past reply → WaitsFor past i incarnation r.partition r.sequence r.name r.phase w
-      → IsHeld past.log (replied_to r w reply) → IsReplica setup past i incarnation (replied_to r w reply)
-  replied_to_lasts None reply p y waits held = k
-  replied_to_lasts (Some w) reply p y waits held =
-      turned_if (same_number (number_of w) reply.number) (turn_by r.phase w reply.status)
-      (λ same.
-      turn_told (WasDone past.history r.partition r.sequence) (HasUploaded setup past i incarnation r.partition r.sequence r.start) r.phase w reply.status
-      (may_carry setup past p i incarnation r.partition r.sequence r.start k.partition k.begun r.name r.phase w reply y waits.0 waits.1 waits.2 same) k.told)
-      held
-
-  pub replied_lasts : (reply : Reply) → IsConsumer r → IsPast setup past → IsReply past reply → IsReplica setup past i incarnation (replied r reply)
-  replied_lasts reply c p y = replied_to_lasts r.waited reply p y k.waited (replied_held r reply past.log c k.held)

@@ -1,5 +1,5 @@
--- What a replica asks is right, and is waited for.
-use Rattle.std.proofs.Common.{◌≡◌, ◌≤◌, ◌<◌, ◌^◌, ℕ, Bool, true, false, cond, List, [], ◌∷◌, length, map, All, Some, None, refl, sym, ap, subst, ◌∙◌, arith}
+-- What a replica asks is right by what its server has itself, and is waited for.
+use Rattle.std.proofs.Common.{◌≡◌, ◌≤◌, ◌<◌, ℕ, Bool, true, false, cond, List, [], ◌∷◌, map, All, Some, None, refl, sym, ap, subst, ◌∙◌, arith}
 use Rattle.std.proofs.lemmas.Bool.{false≢true}
 use Rattle.std.proofs.lemmas.List.Elements.{All-nil, All-cons}
 use Rattle.rt_base.specs.declared.numbers.Instance.{Instance}
@@ -15,7 +15,6 @@ use Rattle.rt_segment.specs.Segment.{SealedSegment, are_columns}
 use Rattle.rt_segment.specs.Spelling.{file_of}
 use Rattle.rt_build.specs.Sealing.{marked, shape_in}
 use Rattle.rt_stream.specs.Log.{messages_of}
-use Rattle.rt_model.specs.declared.request.Reason.{Reason}
 use Rattle.rt_model.specs.declared.request.RequestKind.{RequestKind}
 use Rattle.rt_model.specs.declared.request.RequestKind.TheVariants as kind
 use Rattle.rt_model.specs.declared.request.RequestNumber.{RequestNumber}
@@ -24,32 +23,21 @@ use Rattle.rt_model.specs.declared.sent.Sent.TheVariants as sent
 use Rattle.rt_model.specs.declared.setup.Setup.{Setup}
 use Rattle.rt_msgs.specs.Numbered.{upload_path}
 use Rattle.rt_past.specs.Files.{IsIndexed, IsRightFile}
-use Rattle.rt_past.specs.Past.{Past, Grows, with_request}
-use Rattle.rt_past.specs.Requests.{IsKind, IsRequest, IsUploadPath}
-use Rattle.rt_past.specs.Segments.{IsAssignedTo, IsBegun, IsBegunAs, IsIncarnation, WasDone}
+use Rattle.rt_past.specs.Past.{Past, with_request}
 use Rattle.rt_consumer.specs.declared.phase.Phase.{Phase}
 use Rattle.rt_consumer.specs.declared.phase.Phase.TheVariants as phase
 use Rattle.rt_consumer.specs.declared.settings.Settings.{Settings}
 use Rattle.rt_consumer.specs.declared.stage.Stage.{Stage}
 use Rattle.rt_consumer.specs.declared.stage.Stage.TheVariants.{InitialConsuming, CatchingUp, Holding, ConsumingToOnline, Retaining, Building, Starting, Uploading, Ending}
-use Rattle.rt_consumer.specs.declared.waited.Waited.{Waited}
 use Rattle.rt_consumer.specs.declared.waited.Waited.TheVariants.{Step}
 use Rattle.rt_consumer.specs.declared.consumer.Consumer.{Consumer}
-use Rattle.rt_consumer.specs.Consumer.{IsConsumer, IsPhase, IsStage, IsBuilt, AreRows, cur, cur_in, extends_at, extends_in, number_of, settings_of}
+use Rattle.rt_consumer.specs.Consumer.{IsPhase, IsStage, IsBuilt, AreRows, cur, cur_in, extends_at, extends_in}
 use Rattle.rt_consumer.specs.Requests.{kind_at, kind_in, request_with}
-use Rattle.rt_replica.specs.Held.{HoldsIn}
 use Rattle.rt_replica.specs.HeldSoFar.{HoldsInSoFar, HoldsSoFar}
-use Rattle.rt_replica.specs.Lasting.{HasUploaded, IsAskedIn, IsReplica, ToldAt, ToldIn, WasAsked}
+use Rattle.rt_replica.specs.Lasting.{IsAskedIn, ToldAt, ToldIn, WasAsked}
+use Rattle.rt_replica.specs.Own.{IsOwnKind, IsOwnReplica, IsUp, WasTold}
 use Rattle.rt_replica.proofs.Answered.{same_kind, some_kind}
 use Rattle.rt_replica.proofs.HoldingSoFar.{file_held}
-use Rattle.rt_replica.proofs.Lasts.{replica_grows}
-use Rattle.rt_replica.proofs.SoFar.{forget}
-
-held_within : (schema : Schema) (ms : List (List ℕ)) (start : Offset) (ph : Phase) → HoldsIn schema ms start ph → (start.0 ≤ (cur_in ph).0) × ((cur_in ph).0 ≤ length ms)
-held_within schema ms start (phase.Unsealed o) h = (h.ordered, h.within)
-held_within schema ms start (phase.Retained kept) h = (h.ordered, h.within)
-held_within schema ms start (phase.Committed kept) h = (h.ordered, h.within)
-held_within schema ms start (phase.Discarded d) h = h
 
 no_kind : (k : RequestKind) → None ≡ some_kind k → ⊥
 no_kind k e = cc
@@ -76,26 +64,27 @@ all_indexed names (c ∷ cs) (x ∷ xs) e =
     (ap (λ (y : Shape). y.indexed) first ∙ ap (λ (n : List ℕ). is_among n names) named)
     (all_indexed names cs xs (other_shapes (shape_in c) (marked names x) (map shape_in cs) (map (marked names) xs) e))
 
--- what is due: K says of a kind, at an offset, that it is right to ask
-module _ (setup : Setup) (past : Past) (r : Consumer) (c : IsConsumer r) (set : r.settings ≡ settings_of setup)
-    (begun : IsBegun past.history r.partition r.sequence r.start) (named : IsBegunAs past.history r.partition r.sequence r.name)
-    (number : RequestNumber) (Was : SeenMeta → Type 0) (Up : Offset → SealedSegment → List ℕ → Type 0) (K : Offset → RequestKind → Type 0)
-    (stops : (x : Offset) → r.start.0 ≤ x.0 → K x kind.Stopped)
-    (consumes : (x : Offset) (reason : Reason) → r.start.0 < x.0 → K x (kind.Consumed reason))
-    (commits : (x : Offset) → r.start.0 < x.0 → K x kind.CommitStart)
-    (lengthens : (x : Offset) (millis : ℕ) → r.start.0 < x.0 → K x (kind.Extend millis))
-    (uploads : (x : Offset) (path bytes : List ℕ) → IsUploadPath past.history r.partition r.sequence number path
-    → IsRightFile setup past r.partition r.sequence r.start x bytes → K x (kind.Upload path bytes))
-    (ends : (x : Offset) (built : SealedSegment) (path : List ℕ) → Up x built path → K x (kind.CommitEnd path)) where
+module _ (setup : Setup) (view : Past) (i : Instance) (incarnation : ℕ) (r : Consumer) (k : IsOwnReplica setup view i incarnation r) (number : RequestNumber)
+    (mine : number.instance ≡ i) (now : number.incarnation ≡ incarnation) where
+  abbrev Was : SeenMeta → Type 0
+  Was = WasTold view r.partition r.sequence
+
+  abbrev Up : Offset → SealedSegment → List ℕ → Type 0
+  Up = IsUp setup view i incarnation r.partition r.sequence r.start
+
+  -- it is right to ask this at an offset
+  abbrev IsRight : Offset → RequestKind → Type 0
+  IsRight x q = IsOwnKind setup view (record { number = number; partition = r.partition; sequence = r.sequence; offset = x; kind = q }) r.start q
+
   abbrev ms : List (List ℕ)
-  ms = messages_of past.log r.partition
+  ms = messages_of view.log r.partition
 
   file_right : (rows : Consuming) (built : SealedSegment) → AreRows r.settings r.start rows → rows.start.0 < rows.end.0 → IsBuilt r.settings r.partition r.sequence rows built
-      → HoldsSoFar r.settings.schema ms r.start rows → IsRightFile setup past r.partition r.sequence r.start rows.end (file_of built)
+      → HoldsSoFar r.settings.schema ms r.start rows → IsRightFile setup view r.partition r.sequence r.start rows.end (file_of built)
   file_right rows built a past_start b h =
       let f = file_held r.settings r.partition r.sequence ms r.start rows built b h in
       let end : built.range.end ≡ rows.end = ap (λ g. g.end) b.seals.range in
-      let schema_is : r.settings.schema ≡ setup.schema = ap (λ (s : Settings). s.schema) set in
+      let schema_is : r.settings.schema ≡ setup.schema = ap (λ (s : Settings). s.schema) k.settings in
       let first = ap (λ (x : Offset). x.0) a.first in
       record {
         file = record {
@@ -107,46 +96,53 @@ module _ (setup : Setup) (past : Past) (r : Consumer) (c : IsConsumer r) (set : 
           columns = subst (λ (s : Schema). are_columns built.columns s.columns ≡ true) schema_is b.columns;
           rows = f.rows ∙ ap (λ (n : Offset). rows_in r.settings.schema ms r.start.0 n.0) end ∙ ap (λ s. rows_in s ms r.start.0 rows.end.0) schema_is;
         };
-        begun = begun;
-        format = b.seals.format ∙ ap (λ (s : Settings). s.format) set;
-        indexed = subst (λ (names : List (List ℕ)). All (IsIndexed names) built.columns) (ap (λ (s : Settings). s.indexed) set)
+        begun = k.begun;
+        format = b.seals.format ∙ ap (λ (s : Settings). s.format) k.settings;
+        indexed = subst (λ (names : List (List ℕ)). All (IsIndexed names) built.columns) (ap (λ (s : Settings). s.indexed) k.settings)
             (all_indexed r.settings.indexed built.columns rows.columns b.seals.columns);
       }
 
   past_first : (rows : Consuming) → AreRows r.settings r.start rows → rows.start.0 < rows.end.0 → r.start.0 < rows.end.0
   past_first rows a lt = omega (arith, lt, ap (λ (x : Offset). x.0) a.first)
 
+  end_right : (x : Offset) (built : SealedSegment) (path : List ℕ) → Up x built path → IsRight x (kind.CommitEnd path)
+  end_right x built path up = (
+    built,
+    subst (λ n. IsUp setup view number.instance n r.partition r.sequence r.start x built path) (sym now)
+        (subst (λ j. IsUp setup view j incarnation r.partition r.sequence r.start x built path) (sym mine) up),
+  )
+
   kind_at_right : (rows : Consuming) (stage : Stage) (q : RequestKind) → kind_at r.name number stage ≡ some_kind q → AreRows r.settings r.start rows
       → IsStage r.settings r.partition r.sequence rows stage → HoldsSoFar r.settings.schema ms r.start rows
-      → ToldAt Was Up rows.end stage → K rows.end q
-  kind_at_right rows (Holding reason) q e a s h t = subst (K rows.end) (same_kind (kind.Consumed reason) q e) (consumes rows.end reason (past_first rows a s))
-  kind_at_right rows (Starting reason built) q e a s h t = subst (K rows.end) (same_kind kind.CommitStart q e) (commits rows.end (past_first rows a s.0))
+      → ToldAt Was Up rows.end stage → IsRight rows.end q
+  kind_at_right rows (Holding reason) q e a s h t = subst (IsRight rows.end) (same_kind (kind.Consumed reason) q e) (past_first rows a s)
+  kind_at_right rows (Starting reason built) q e a s h t = subst (IsRight rows.end) (same_kind kind.CommitStart q e) (past_first rows a s.0)
   kind_at_right rows (Uploading reason built) q e a s h t =
       let path = upload_path r.name number in
-      subst (K rows.end) (same_kind (kind.Upload path (file_of built)) q e)
-      (uploads rows.end path (file_of built) (record { name = r.name; begun = named; spelled = refl }) (file_right rows built a s.0 s.1 h))
-  kind_at_right rows (Ending reason built path) q e a s h t = subst (K rows.end) (same_kind (kind.CommitEnd path) q e) (ends rows.end built path t)
+      subst (IsRight rows.end) (same_kind (kind.Upload path (file_of built)) q e)
+      (record { name = r.name; begun = k.named; spelled = refl }, file_right rows built a s.0 s.1 h)
+  kind_at_right rows (Ending reason built path) q e a s h t = subst (IsRight rows.end) (same_kind (kind.CommitEnd path) q e) (end_right rows.end built path t)
   kind_at_right rows InitialConsuming q e a s h t = absurd (no_kind q e)
   kind_at_right rows (CatchingUp target reason) q e a s h t = absurd (no_kind q e)
   kind_at_right rows (ConsumingToOnline end done) q e a s h t = absurd (no_kind q e)
   kind_at_right rows (Retaining done) q e a s h t = absurd (no_kind q e)
   kind_at_right rows (Building reason) q e a s h t = absurd (no_kind q e)
 
-  stopped_right : (b : Bool) (x : Offset) (q : RequestKind) → cond b (some_kind kind.Stopped) None ≡ some_kind q → r.start.0 ≤ x.0 → K x q
-  stopped_right true x q e le = subst (K x) (same_kind kind.Stopped q e) (stops x le)
+  stopped_right : (b : Bool) (x : Offset) (q : RequestKind) → cond b (some_kind kind.Stopped) None ≡ some_kind q → r.start.0 ≤ x.0 → IsRight x q
+  stopped_right true x q e le = subst (IsRight x) (same_kind kind.Stopped q e) le
   stopped_right false x q e le = absurd (no_kind q e)
 
   pub kind_in_right : (ph : Phase) (q : RequestKind) → kind_in r.name number ph ≡ some_kind q → IsPhase r.settings r.partition r.sequence r.start ph
-      → HoldsInSoFar r.settings.schema ms r.start ph → ToldIn Was Up ph → K (cur_in ph) q
+      → HoldsInSoFar r.settings.schema ms r.start ph → ToldIn Was Up ph → IsRight (cur_in ph) q
   kind_in_right (phase.Unsealed o) q e p h t = kind_at_right o.rows o.stage q e p.0 p.1 h t
   kind_in_right (phase.Discarded d) q e p h t = stopped_right d.stopped d.cur q e h.0
   kind_in_right (phase.Retained kept) q e p h t = absurd (no_kind q e)
   kind_in_right (phase.Committed kept) q e p h t = absurd (no_kind q e)
 
   extend_at_right : (rows : Consuming) (stage : Stage) (millis : ℕ) → extends_at stage ≡ true → AreRows r.settings r.start rows
-      → IsStage r.settings r.partition r.sequence rows stage → K rows.end (kind.Extend millis)
-  extend_at_right rows (Building reason) millis e a s = lengthens rows.end millis (past_first rows a s)
-  extend_at_right rows (Starting reason built) millis e a s = lengthens rows.end millis (past_first rows a s.0)
+      → IsStage r.settings r.partition r.sequence rows stage → IsRight rows.end (kind.Extend millis)
+  extend_at_right rows (Building reason) millis e a s = past_first rows a s
+  extend_at_right rows (Starting reason built) millis e a s = past_first rows a s.0
   extend_at_right rows InitialConsuming millis e a s = absurd (false≢true e)
   extend_at_right rows (CatchingUp target reason) millis e a s = absurd (false≢true e)
   extend_at_right rows (Holding reason) millis e a s = absurd (false≢true e)
@@ -155,62 +151,11 @@ module _ (setup : Setup) (past : Past) (r : Consumer) (c : IsConsumer r) (set : 
   extend_at_right rows (Uploading reason built) millis e a s = absurd (false≢true e)
   extend_at_right rows (Ending reason built path) millis e a s = absurd (false≢true e)
 
-  pub extend_in_right : (ph : Phase) (millis : ℕ) → extends_in ph ≡ true → IsPhase r.settings r.partition r.sequence r.start ph → K (cur_in ph) (kind.Extend millis)
+  pub extend_in_right : (ph : Phase) (millis : ℕ) → extends_in ph ≡ true → IsPhase r.settings r.partition r.sequence r.start ph → IsRight (cur_in ph) (kind.Extend millis)
   extend_in_right (phase.Unsealed o) millis e p = extend_at_right o.rows o.stage millis e p.0 p.1
   extend_in_right (phase.Retained kept) millis e p = absurd (false≢true e)
   extend_in_right (phase.Committed kept) millis e p = absurd (false≢true e)
   extend_in_right (phase.Discarded d) millis e p = absurd (false≢true e)
-
--- ---- over what lasts
-
-module _ (setup : Setup) (past : Past) (i : Instance) (incarnation : ℕ) (r : Consumer) (c : IsConsumer r) (k : IsReplica setup past i incarnation r) (number : RequestNumber)
-    (mine : number.instance ≡ i) (now : number.incarnation ≡ incarnation) where
-  abbrev IsKindAt : Offset → RequestKind → Type 0
-  IsKindAt x q = IsKind setup past (record { number = number; partition = r.partition; sequence = r.sequence; offset = x; kind = q }) r.start q
-
-  right_of : (q : RequestKind) → IsKindAt (cur r) q → IsIncarnation past.history i incarnation → number.count < 2 ^ 64
-      → IsRequest setup past (request_with r number q)
-  right_of q right lived small =
-      let within = held_within r.settings.schema (messages_of past.log r.partition) r.start r.phase k.held in
-      record {
-        partition = k.partition;
-        assigned = subst (IsAssignedTo setup r.partition) (sym mine) k.assigned;
-        incarnation = subst (λ n. IsIncarnation past.history number.instance n) (sym now) (subst (λ j. IsIncarnation past.history j incarnation) (sym mine) lived);
-        count = small;
-        entered = k.entered;
-        start = r.start;
-        begun = k.begun;
-        within = within.1;
-        kind = right;
-      }
-
-  abbrev Was : SeenMeta → Type 0
-  Was = WasDone past.history r.partition r.sequence
-
-  abbrev Up : Offset → SealedSegment → List ℕ → Type 0
-  Up = HasUploaded setup past i incarnation r.partition r.sequence r.start
-
-  up_right : (x : Offset) (built : SealedSegment) (path : List ℕ) → Up x built path → IsKindAt x (kind.CommitEnd path)
-  up_right x built path t = (file_of built, t.stands, t.right)
-
-  -- what is due is right to ask
-  pub request_right : (q : RequestKind) → kind_in r.name number r.phase ≡ Some q → IsIncarnation past.history i incarnation → number.count < 2 ^ 64
-      → IsRequest setup past (request_with r number q)
-  request_right q e lived small =
-      right_of q
-      (kind_in_right setup past r c k.settings k.begun k.named number Was Up IsKindAt
-      (λ x le. le) (λ x reason lt. lt) (λ x lt. lt) (λ x millis lt. lt) (λ x path bytes of right. (of, right)) up_right
-      r.phase q e c.phase (forget past.log r k.held) k.told)
-      lived small
-
-  pub extend_right : (millis : ℕ) → extends_in r.phase ≡ true → IsIncarnation past.history i incarnation → number.count < 2 ^ 64
-      → IsRequest setup past (request_with r number (kind.Extend millis))
-  extend_right millis e lived small =
-      right_of (kind.Extend millis)
-      (extend_in_right setup past r c k.settings k.begun k.named number Was Up IsKindAt
-      (λ x le. le) (λ x reason lt. lt) (λ x lt. lt) (λ x millis lt. lt) (λ x path bytes of right. (of, right)) up_right
-      r.phase millis e c.phase)
-      lived small
 
 -- ---- once it is asked it is waited for
 
@@ -236,26 +181,3 @@ just_asked past i incarnation r number q mine now = record {
   offset = refl;
   kind = refl;
 }
-
-pub asked_lasts : (setup : Setup) (past : Past) (i : Instance) (incarnation : ℕ) (r : Consumer) (number : RequestNumber) (q : RequestKind) (w : Waited)
-    → IsReplica setup past i incarnation r → number.instance ≡ i → number.incarnation ≡ incarnation → number_of w ≡ number → IsAskedIn r.name r.phase w q
-    → Grows past (with_request past (request_with r number q))
-    → IsReplica setup (with_request past (request_with r number q)) i incarnation (record r { waited = Some w })
-asked_lasts setup past i incarnation r number q w k mine now e is g =
-    let later = with_request past (request_with r number q) in
-    let l = replica_grows setup past later i incarnation r g k in
-    record {
-      settings = l.settings;
-      partition = l.partition;
-      assigned = l.assigned;
-      entered = l.entered;
-      begun = l.begun;
-      named = l.named;
-      held = l.held;
-      told = l.told;
-      waited = (
-        q,
-        subst (λ n. WasAsked later i incarnation r.partition r.sequence (cur r) n q) (sym e) (just_asked past i incarnation r number q mine now),
-        is,
-      );
-    }

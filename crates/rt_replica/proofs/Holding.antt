@@ -1,11 +1,8 @@
 -- What is held of a log stays held: it is held so far, and no step moves the start.
-use Rattle.std.proofs.Common.{◌≡◌, ◌≤◌, ℕ, Bool, true, false, cond, List, length, Option, Some, None, option_map, ap, arith}
+use Rattle.std.proofs.Common.{◌≡◌, ◌≤◌, ℕ, Bool, true, false, cond, List, length, Option, Some, None, ap, arith}
 use Rattle.std.proofs.lemmas.List.{length-append}
 use Rattle.rt_base.specs.declared.numbers.Moment.{Moment}
 use Rattle.rt_base.specs.declared.numbers.Offset.{Offset}
-use Rattle.rt_base.specs.declared.numbers.Partition.{Partition}
-use Rattle.rt_base.specs.declared.numbers.Sequence.{Sequence}
-use Rattle.rt_mutable.specs.Consuming.{Consuming}
 use Rattle.rt_segment.specs.Segment.{SealedSegment}
 use Rattle.rt_stream.specs.Feed.{Grows}
 use Rattle.rt_stream.specs.Log.{Log, messages_of}
@@ -16,16 +13,15 @@ use Rattle.rt_consumer.specs.declared.phase.Phase.{Phase}
 use Rattle.rt_consumer.specs.declared.phase.Phase.TheVariants as phase
 use Rattle.rt_consumer.specs.declared.replies.Turn.{Turn}
 use Rattle.rt_consumer.specs.declared.replies.Turn.TheVariants.{Stays, Goes}
-use Rattle.rt_consumer.specs.declared.settings.Settings.{Settings}
 use Rattle.rt_consumer.specs.declared.waited.Waited.{Waited}
 use Rattle.rt_consumer.specs.declared.consumer.Consumer.{Consumer}
-use Rattle.rt_consumer.specs.Consumer.{IsConsumer, IsBuilt, cur, number_of}
+use Rattle.rt_consumer.specs.Consumer.{IsConsumer, cur, number_of}
 use Rattle.rt_consumer.specs.Batch.{asked_in, messages_from, taken, taken_in, consumed as consuming}
 use Rattle.rt_consumer.specs.Replies.{turned, turn_by, replied_to, replied}
 use Rattle.rt_consumer.specs.Requests.{filed, IsSealedOf, learned}
-use Rattle.rt_replica.specs.Held.{IsHeld, HoldsRows, HoldsFile}
+use Rattle.rt_replica.specs.Held.{IsHeld}
 use Rattle.rt_replica.proofs.HoldingSoFar as so_far
-use Rattle.rt_replica.proofs.SoFar.{rows_forget, file_back, forget, back, starts}
+use Rattle.rt_replica.proofs.SoFar.{forget, back, starts}
 
 -- a replica starts within the log
 abbrev Starts : Log → Consumer → Type 0
@@ -46,13 +42,6 @@ pub taken_held : (r : Consumer) (log : Log) (count : ℕ) (now : Moment) → IsH
 taken_held r log count now h =
     let ms = messages_from log r.partition (cur r) count in
     back log (taken r now ms) (taken_starts r r.phase log now ms (starts log r h)) (so_far.taken_held r log count now (forget log r h))
-
--- the file of the rows that are held
-pub file_held : (settings : Settings) (p : Partition) (q : Sequence) (ms : List (List ℕ)) (start : Offset) (rows : Consuming) (file : SealedSegment)
-    → IsBuilt settings p q rows file → HoldsRows settings.schema ms start rows → HoldsFile settings.schema ms start file
-file_held settings p q ms start rows file b h =
-    file_back settings.schema ms start file (omega (arith, h.ordered, h.within))
-    (so_far.file_held settings p q ms start rows file b (rows_forget settings.schema ms start rows h))
 
 either_starts : (log : Log) (b : Bool) (x y : Consumer) → Starts log x → Starts log y → Starts log (cond b x y)
 either_starts log true x y h k = h
@@ -86,8 +75,5 @@ learned_held r done end log h = back log (learned r r.phase done end) (learned_s
 
 -- ---- a batch, from a log
 
-batch_by : (log : Log) (o : Option ℕ) (f : ℕ → Consumer) (new : Consumer) → ((count : ℕ) → IsHeld log (f count)) → option_map f o ≡ Some new → IsHeld log new
-batch_by = so_far.some_kept IsHeld
-
 pub batch_held : (r : Consumer) (max : ℕ) (now : Moment) (log : Log) (new : Consumer) → IsHeld log r → consuming r max now log ≡ Some new → IsHeld log new
-batch_held r max now log new h e = batch_by log (asked_in r.phase max) (λ count. taken r now (messages_from log r.partition (cur r) count)) new (λ count. taken_held r log count now h) e
+batch_held r max now log new h e = so_far.some_kept IsHeld log (asked_in r.phase max) (λ count. taken r now (messages_from log r.partition (cur r) count)) new (λ count. taken_held r log count now h) e

@@ -170,23 +170,7 @@ held_reached schema ms start (phase.Discarded d) h = h.1
 
 module _ (setup : Setup) (view : Past) (i : Instance) (incarnation : ℕ) (r : Consumer) (c : IsConsumer r) (k : IsOwnReplica setup view i incarnation r) (number : RequestNumber)
     (mine : number.instance ≡ i) (now : number.incarnation ≡ incarnation) where
-  abbrev Told : SeenMeta → Type 0
-  Told = WasTold view r.partition r.sequence
-
-  abbrev IsUpHere : Offset → SealedSegment → List ℕ → Type 0
-  IsUpHere = IsUp setup view i incarnation r.partition r.sequence r.start
-
-  abbrev IsKindAt : Offset → RequestKind → Type 0
-  IsKindAt x q = IsOwnKind setup view (record { number = number; partition = r.partition; sequence = r.sequence; offset = x; kind = q }) r.start q
-
-  up_own : (x : Offset) (built : SealedSegment) (path : List ℕ) → IsUpHere x built path → IsKindAt x (kind.CommitEnd path)
-  up_own x built path up = (
-    built,
-    subst (λ n. IsUp setup view number.instance n r.partition r.sequence r.start x built path) (sym now)
-        (subst (λ j. IsUp setup view j incarnation r.partition r.sequence r.start x built path) (sym mine) up),
-  )
-
-  own_of : (q : RequestKind) → IsKindAt (cur r) q → IsOwnRequest setup view (request_with r number q)
+  own_of : (q : RequestKind) → IsOwnKind setup view (request_with r number q) r.start q → IsOwnRequest setup view (request_with r number q)
   own_of q own = record {
     partition = k.partition;
     placed = subst (λ j. IsPlaced setup view.history j r.partition r.sequence) (sym mine) k.placed;
@@ -198,17 +182,11 @@ module _ (setup : Setup) (view : Past) (i : Instance) (incarnation : ℕ) (r : C
 
   pub request_own : (q : RequestKind) → kind_in r.name number r.phase ≡ Some q → IsOwnRequest setup view (request_with r number q)
   request_own q e =
-      own_of q
-      (kind_in_right setup view r c k.settings k.begun k.named number Told IsUpHere IsKindAt
-      (λ x le. le) (λ x reason lt. lt) (λ x lt. lt) (λ x millis lt. lt) (λ x path bytes of right. (of, right)) up_own
-      r.phase q e c.phase k.held k.told)
+      own_of q (kind_in_right setup view i incarnation r k number mine now r.phase q e c.phase k.held k.told)
 
   pub extend_own : (millis : ℕ) → extends_in r.phase ≡ true → IsOwnRequest setup view (request_with r number (kind.Extend millis))
   extend_own millis e =
-      own_of (kind.Extend millis)
-      (extend_in_right setup view r c k.settings k.begun k.named number Told IsUpHere IsKindAt
-      (λ x le. le) (λ x reason lt. lt) (λ x lt. lt) (λ x millis lt. lt) (λ x path bytes of right. (of, right)) up_own
-      r.phase millis e c.phase)
+      own_of (kind.Extend millis) (extend_in_right setup view i incarnation r k number mine now r.phase millis e c.phase)
 
 -- once it is sent, it is waited for
 pub waits_own : (setup : Setup) (view : Past) (i : Instance) (incarnation : ℕ) (r : Consumer) (number : RequestNumber) (q : RequestKind) (w : Waited)

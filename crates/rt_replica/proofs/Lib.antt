@@ -6,7 +6,6 @@ pub mod Due
 pub mod Holding
 pub mod HoldingSoFar
 pub mod Keeps
-pub mod KeepsLasting
 pub mod KeepsOwn
 pub mod Lasts
 pub mod Others

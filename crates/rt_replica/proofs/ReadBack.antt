@@ -1,5 +1,5 @@
 -- Over a right past, what a replica has of its own is all that lasts of it.
-use Rattle.std.proofs.Common.{◌≡◌, ◌<◌, ◌^◌, inl, inr, ℕ, List, refl, sym, ap, subst, ◌∙◌, arith}
+use Rattle.std.proofs.Common.{◌≡◌, ◌<◌, ◌^◌, inl, inr, ℕ, List, sym, ap, subst, ◌∙◌, arith}
 use Rattle.rt_base.specs.declared.numbers.Instance.{Instance}
 use Rattle.rt_base.specs.declared.numbers.Offset.{Offset}
 use Rattle.rt_base.specs.declared.numbers.Partition.{Partition}
@@ -70,7 +70,7 @@ module _ (setup : Setup) (past : Past) (k : IsPast setup past) where
       let y = k.replies a.reply a.taken in
       let asked = a.asked in
       let one : y.request ≡ asked.request = k.unique y.request asked.request y.was_sent asked.was_sent (ap (λ (z : Asked). z.number) y.answers ∙ sym asked.numbered) in
-      uploaded_at setup past k i incarnation p s start within begun x a.reply.number built a.own path (kind.Upload a.own (file_of built)) asked refl
+      uploaded_at setup past k i incarnation p s start within begun x a.reply.number built a.own path asked
       (subst (IsStatus past asked.request) a.status (subst (λ z. IsStatus past z a.reply.status) one y.status))
 
   pub replica_back : (i : Instance) (incarnation : ℕ) (r : Consumer) → IsOwnReplica setup past i incarnation r → IsReplica setup past i incarnation r
