@@ -77,6 +77,7 @@ module _ (setup : Setup) (past : Past) (right : IsPast setup past) (old : Server
         (λ version step. subst NoMore (sym (came old new (answered_by h.0) version step).3) (refl, omega arith)) h.2 in
         server_back setup past right new (restarts_own setup past before after old new result shown empty own h)
         (subst (λ (i : Instance). i.0 < setup.servers) (sym numbers.0) k.exists) (omega (arith, numbers.1, k.counted))
+
   pub downloads_over : (before after : DeepMeaning) (new : ServerState) (p : Partition) (q : Sequence) → past.files ≡ after.seen → (result : Result ℕ ServerRefused)
       → Downloads before after old.setup.schema old.table new.table p q result → InTable old new → IsServerOver setup past new
   downloads_over before after new p q shown result h only =

@@ -3,8 +3,8 @@
 A line names neither its segment nor its sender, unless it has a path, and no line names its moment. So all that a controller may be is
 followed at once, as a set of possibilities: in each, each segment has a machine or none, and it is known which replica was told to commit
 and to go on. A line must be possible in one of them, with one of the segments, senders and moments that there are; what isn't possible
-with it goes out of the set. Where the set grows past its bound, segments are followed one by one from then on: a line must then be possible
-for one of them.
+with it goes out of the set. Where the set grows past its bound, or so much was followed that a longer replay would take minutes, segments are
+followed one by one from then on: a line must then be possible for one of them.
 """
 import collections
 import dataclasses
@@ -17,6 +17,8 @@ import journal
 
 # So many possibilities are followed together, and so many of one segment alone; and so many segments, of which a line can be.
 MOST_TOGETHER, MOST_ALONE, MOST_SEGMENTS = 2_000, 300, 12
+# So many are followed together over all lines, some 20 seconds; and so many of one segment alone, where more than twice that was followed in all.
+MOST_FOLLOWED, MOST_AT_LAST = 3_000_000, 20
 JOB_REPLIES = ("COMMIT_SUCCESS", "FAILED 5", "FAILED 8", "none")
 KINDS = {"consumed": completion.CONSUMED, "commitStart": completion.COMMIT_START, "commitEnd": completion.COMMIT_END}
 # What a segment's state says beside a machine.
@@ -55,8 +57,8 @@ class Hearing:
     def __init__(self, told, rows, history, number, heard):
         self.told, self.setup, self.rows, self.history = told, told.setup, rows, history
         self.number, self.heard = number, heard
-        # How many lines were judged by all possibilities together.
-        self.together = 0
+        # How many lines were judged by all possibilities together, and how many possibilities were followed.
+        self.together = self.followed = 0
         self.uploads, self.answered, self.reported = collections.Counter(), collections.Counter(), set()
         # The number and the path of each server's latest upload.
         self.latest = {}
@@ -300,7 +302,8 @@ class Hearing:
             states = dict(held)
             for segment, becomes in cases:
                 found.update(held if segment is None else with_state(held, states, segment, state) for state in becomes(states.get(segment, FRESH)))
-            if len(found) > MOST_TOGETHER:
+            self.followed += len(cases)
+            if len(found) > MOST_TOGETHER or self.followed > MOST_FOLLOWED:
                 self.part()
                 return None
         return found
@@ -319,6 +322,8 @@ class Hearing:
         segments = [segment for segment, _ in cases if segment is not None]
         if len(segments) > MOST_SEGMENTS:
             self.alone.update(dict.fromkeys(segments))
+        self.followed += sum(len(self.alone[segment] or ()) for segment in segments)
+        most = MOST_ALONE if self.followed <= 2 * MOST_FOLLOWED else MOST_AT_LAST
         found = {segment: self.alone[segment] and set().union(*map(becomes, self.alone[segment])) for segment, becomes in cases if segment is not None}
         able = [segment for segment, states in found.items() if states is None or states]
         if not able and len(segments) == len(cases):
@@ -326,7 +331,7 @@ class Hearing:
         for segment in able:
             if found[segment] is not None:
                 states = found[segment] if len(able) == 1 else self.alone[segment] | found[segment]
-                self.alone[segment] = states if len(states) <= MOST_ALONE else None
+                self.alone[segment] = states if len(states) <= most else None
 
     def why_not(self, line):
         if not self.segments(line):
