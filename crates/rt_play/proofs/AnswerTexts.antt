@@ -1,6 +1,6 @@
 -- The text of an answer tells which ranges it names, what it misses, and its rows.
 use Rattle.std.proofs.Common.{◌≡◌, ◌<◌, ◌⊎◌, inl, inr, ℕ, ℤ, true, false, List, [], ◌∷◌, ◌++◌, flat_map, map, Option, Some, None, refl, sym, ◌∙◌, ap, arith, append_assoc}
-use Rattle.std.specs.Prelude.{codes, decimal}
+use Rattle.std.specs.Prelude.{IfSome, codes, decimal}
 use Rattle.std.specs.Fmt.{signed_decimal}
 use Rattle.std.proofs.lemmas.Fmt.{decimal_injective}
 use Rattle.std.proofs.lemmas.List.{append_cancel_left}
@@ -14,10 +14,11 @@ use Rattle.rt_model.specs.declared.answer.Answer.{Answer}
 use Rattle.rt_model.specs.declared.answer.Cell.{Cell}
 use Rattle.rt_model.specs.declared.answer.Cell.TheVariants as cell
 use Rattle.rt_model.specs.declared.answer.ResultRow.{ResultRow}
+use Rattle.rt_play.proofs.AllHave.{all_has}
 use Rattle.rt_play.proofs.ToldItems.{array_onto, bracket, comma, onto, same_items, same_told}
 use Rattle.rt_play.proofs.ToldNumbers.{IsItem, NoDigit, heads, no_decimal, no_signed, same_decimal, same_signed, signed_first, tails}
 use Rattle.rt_play.proofs.ToldStrings.{same_json}
-use Rattle.rt_play.specs.AnswerTexts.{AreWords, CellTold, IsSequenceWord, IsWord, cell_told, nothing, number, row_told, string, truth}
+use Rattle.rt_play.specs.AnswerTexts.{AreWords, CellTold, IsWord, cell_told, nothing, number, row_told, string, truth}
 use Rattle.rt_report.specs.BrokerTexts.{answer_line}
 use Rattle.rt_schema.specs.declared.value.Value.TheVariants as value
 
@@ -84,7 +85,7 @@ missed_told (p, None) = (decimal p.0, None)
 missed_told (p, Some s) = (decimal p.0, Some (decimal s.0))
 
 abbrev FitsMissed : Missed → Type 0
-FitsMissed m = IsWord m.0.0 × IsSequenceWord m.1
+FitsMissed m = IsWord m.0.0 × IfSome m.1 (λ s. IsWord s.0)
 
 missed_onto : (p : Partition) (s : Sequence) (xs : List ℕ) → missing_text (p, Some s) ++ xs ≡ 91 ∷ (decimal p.0 ++ 44 ∷ (decimal s.0 ++ 93 ∷ xs))
 missed_onto p s xs =
@@ -296,8 +297,10 @@ told_as a b e =
 pub text_tells : (a b : Answer) → AreWords a → AreWords b → answer_line a ≡ answer_line b → (a.ranges ≡ b.ranges) × (a.missing ≡ b.missing)
 text_tells a b k l e =
     let told = told_as a b e in (
-      same_told range_told FitsRange one_range a.ranges b.ranges k.ranges l.ranges told.ranges,
-      same_told missed_told FitsMissed one_missed a.missing b.missing (λ m has. k.missing m.0 m.1 has) (λ m has. l.missing m.0 m.1 has) told.missing,
+      same_told range_told FitsRange one_range a.ranges b.ranges (λ r has. all_has FitsRange a.ranges r k.ranges has)
+          (λ r has. all_has FitsRange b.ranges r l.ranges has) told.ranges,
+      same_told missed_told FitsMissed one_missed a.missing b.missing (λ m has. all_has FitsMissed a.missing m k.missing has)
+          (λ m has. all_has FitsMissed b.missing m l.missing has) told.missing,
     )
 
 pub text_tells_rows : (a b : Answer) → answer_line a ≡ answer_line b → map row_told a.rows ≡ map row_told b.rows

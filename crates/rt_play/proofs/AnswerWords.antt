@@ -1,5 +1,6 @@
 -- The numbers of an answer that is given in a safe world fit words of 64 bits.
 use Rattle.std.proofs.Common.{◌≡◌, ◌<◌, ◌≤◌, inl, inr, ℕ, List, [], ◌∷◌, length, Option, Some, None, refl, sym, ap, subst, arith, ⊎_elim}
+use Rattle.std.specs.Prelude.{IfSome}
 use Rattle.std.proofs.lemmas.Bool.{cases_lt}
 use Rattle.std.proofs.lemmas.List.{get_or_past}
 use Rattle.std.proofs.lemmas.Option.{slice_get_within}
@@ -17,9 +18,10 @@ use Rattle.rt_model.proofs.Listings.{listed_has}
 use Rattle.rt_model.specs.Metadata.{listed_write, metadata_of}
 use Rattle.rt_model.specs.declared.answer.Answer.{Answer}
 use Rattle.rt_model.specs.declared.piece.Piece.{Piece}
+use Rattle.rt_play.proofs.AllHave.{each_all}
 use Rattle.rt_play.proofs.NamedRanges.{named_produced}
 use Rattle.rt_play.proofs.Plans.{piece_listed}
-use Rattle.rt_play.specs.AnswerTexts.{AreWords, IsSequenceWord, IsWord}
+use Rattle.rt_play.specs.AnswerTexts.{AreWords, IsWord}
 use Rattle.rt_play.specs.Reader.{AreProduced}
 use Rattle.rt_safety.proofs.Answering.{few_at}
 use Rattle.rt_safety.specs.IsAnswered.{IsAnswered}
@@ -74,7 +76,7 @@ module _ (w : State) (number : ℕ) (answer : Answer) (is : IsAnswered w number 
         let lt = number_within (starting_of w.setup) w.store.writes p listed.0.sequence.0 write safe.safe.past.lawful within there refl in
         omega (arith, lt, few_writes w safe, ap (λ (s : Sequence). s.0) listed.2)
 
-    missing_words : (p : Partition) (s : Option Sequence) → IsMissing is.asked p s → IsWord p.0 × IsSequenceWord s
+    missing_words : (p : Partition) (s : Option Sequence) → IsMissing is.asked p s → IsWord p.0 × IfSome s (λ q. IsWord q.0)
     missing_words p None failed = (routed p Failed failed, tt)
     missing_words p (Some s) refused = by_route (route_at is.asked p) refl refused.planned
       where
@@ -87,6 +89,10 @@ module _ (w : State) (number : ℕ) (answer : Answer) (is : IsAnswered w number 
 
     pub answer_words : AreWords answer
     answer_words = record {
-      ranges = λ r has. range_words 0 0 answer.ranges r answer_produced has;
-      missing = λ p s has. missing_words p s (is.missing p s has);
+      ranges =
+          each_all (λ (r : Partition × Range). IsWord r.0.0 × IsWord r.1.start.0 × IsWord r.1.end.0) answer.ranges
+          (λ r has. range_words 0 0 answer.ranges r answer_produced has);
+      missing =
+          each_all (λ (m : Partition × Option Sequence). IsWord m.0.0 × IfSome m.1 (λ q. IsWord q.0)) answer.missing
+          (λ m has. missing_words m.0 m.1 (is.missing m.0 m.1 has));
     }

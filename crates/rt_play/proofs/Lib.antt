@@ -1,3 +1,4 @@
+pub mod AllHave
 pub mod AnswerTexts
 pub mod AnswerWords
 pub mod Beginnings

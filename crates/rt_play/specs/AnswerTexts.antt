@@ -1,10 +1,6 @@
 -- What the text of an answer tells.
-use Rattle.std.specs.Prelude.{◌<◌, ◌^◌, ℕ, Bool, List, map, Option, None, Some}
+use Rattle.std.specs.Prelude.{IfSome, ◌<◌, ◌^◌, ℕ, Bool, List, map, All}
 use Rattle.std.specs.Fmt.{signed_decimal}
-use Rattle.rt_base.specs.declared.numbers.Partition.{Partition}
-use Rattle.rt_base.specs.declared.numbers.Sequence.{Sequence}
-use Rattle.rt_base.specs.declared.range.Range.{Range}
-use Rattle.rt_lists.specs.Members.{Has}
 use Rattle.rt_model.specs.declared.answer.Answer.{Answer}
 use Rattle.rt_model.specs.declared.answer.Cell.{Cell}
 use Rattle.rt_model.specs.declared.answer.Cell.TheVariants as cell
@@ -17,14 +13,10 @@ use Rattle.rt_schema.specs.declared.value.Value.TheVariants as value
 abbrev pub IsWord : ℕ → Type 0
 IsWord n = n < 2 ^ 64
 
-abbrev pub IsSequenceWord : Option Sequence → Type 0
-IsSequenceWord None = Unit {0}
-IsSequenceWord (Some s) = IsWord s.0
-
 -- each number of its ranges, and of what it misses, fits a word of 64 bits
 pub record AreWords (answer : Answer) : Type 0 where
-  pub ranges : (r : Partition × Range) → Has answer.ranges r → IsWord r.0.0 × IsWord r.1.start.0 × IsWord r.1.end.0
-  pub missing : (p : Partition) (s : Option Sequence) → Has answer.missing (p, s) → IsWord p.0 × IsSequenceWord s
+  pub ranges : All (λ r. IsWord r.0.0 × IsWord r.1.start.0 × IsWord r.1.end.0) answer.ranges
+  pub missing : All (λ m. IsWord m.0.0 × IfSome m.1 (λ s. IsWord s.0)) answer.missing
 
 -- ---- cells
 
