@@ -30,6 +30,7 @@ pub mod Keeping
 pub mod Known
 pub mod Laid
 pub mod Leading
+pub mod LineAnswers
 pub mod LineReads
 pub mod Misses
 pub mod NamedRanges

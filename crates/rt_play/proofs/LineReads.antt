@@ -27,7 +27,8 @@ use Rattle.rt_model.specs.declared.answer.Answer.{Answer}
 use Rattle.rt_model.specs.declared.query.Query.{Query}
 use Rattle.rt_model.specs.declared.setup.Setup.{Setup}
 use Rattle.rt_play.proofs.AnswerWords.{answer_produced, answer_words}
-use Rattle.rt_play.specs.Reader.{AnswersSo, CountsProduced, asked_behind, filled, produced_behind}
+use Rattle.rt_play.proofs.LineAnswers.{AnswersHere, asked_behind, produced_behind}
+use Rattle.rt_play.specs.Reader.{CountsProduced, filled}
 use Rattle.rt_report.specs.BrokerTexts.{answer_line}
 use Rattle.rt_report.specs.MacroTexts.{filled_text}
 use Rattle.rt_report.specs.Outcome.{outcome_text}
@@ -268,7 +269,7 @@ asked_number w v query o number (cost, due, is) e =
 pub record LineReads (said : Line) (w v : State) (text : List ℕ) : Type 0 where
   pub log : v.log ≡ produced_behind (Some said) w.log
   pub queries : (queries : List Query) → AreAsked w queries → AreAsked v (asked_behind (Some said) queries)
-  pub answers : (queries : List Query) → AreAsked w queries → AnswersSo w.setup.schema (Some said) text w.log queries
+  pub answers : (queries : List Query) → AreAsked w queries → AnswersHere w.setup.schema (Some said) text w.log queries
 
 abbrev world_of : Reached → State
 world_of v = v.world
@@ -413,7 +414,7 @@ fill_reads p count w v text h =
 
 -- what is told of an event but for an answer is read no further
 reads_on : (e : Event) (o : Outcome) (w v : State) (text : List ℕ) → IsSafeWorld w → Steps w e v (Ok o) → text ≡ outcome_text e o → (queries : List Query) → AreAsked w queries
-    → AnswersSo w.setup.schema (Some (line.Event e)) text w.log queries
+    → AnswersHere w.setup.schema (Some (line.Event e)) text w.log queries
 reads_on (event.Answer number) o w v text safe steps same queries k =
     let told = answer_told w number v o queries safe k steps in
     (told.2.query, told.2.asked, told.2.counts text (same ∙ ap (λ x. outcome_text (event.Answer number) x) told.1))
@@ -431,7 +432,7 @@ event_reads e w v text safe h =
     }
 
 held_reads : (e : Event) (paused : Bool) (w : State) (at : Instance × Partition × Sequence) (text : List ℕ) → held_by w paused e ≡ Some at
-    → (queries : List Query) → AnswersSo w.setup.schema (Some (line.Event e)) text w.log queries
+    → (queries : List Query) → AnswersHere w.setup.schema (Some (line.Event e)) text w.log queries
 held_reads (event.Answer number) paused w at text e queries = absurd (cc)
 held_reads other paused w at text e queries = tt
 
@@ -450,7 +451,7 @@ unless_reads (Some at) e paused w v text safe so h = record {
 
 -- a line that makes silent turns alone
 silent_reads : (said : Line) (w : State) (v : Reached) (text : List ℕ) → LeadsBy silently.turn w v.turns v.world → ((log : Log) → produced_behind (Some said) log ≡ log)
-    → ((queries : List Query) → asked_behind (Some said) queries ≡ queries) → ((queries : List Query) → AnswersSo w.setup.schema (Some said) text w.log queries)
+    → ((queries : List Query) → asked_behind (Some said) queries ≡ queries) → ((queries : List Query) → AnswersHere w.setup.schema (Some said) text w.log queries)
     → LineReads said w v.world text
 silent_reads said w v text led log same answers =
     let leaves = silence_leaves v.turns w v.world led in

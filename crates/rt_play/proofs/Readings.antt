@@ -12,12 +12,13 @@ use Rattle.rt_model.specs.declared.query.Query.{Query}
 use Rattle.rt_model.specs.declared.setup.Setup.{Setup}
 use Rattle.rt_play.proofs.Beginnings.{beginning_taken}
 use Rattle.rt_play.proofs.Commits.{front_commits, none_told}
+use Rattle.rt_play.proofs.LineAnswers.{AnswersHere, answers_so, asked_behind, produced_behind}
 use Rattle.rt_play.proofs.LineReads.{line_reads}
 use Rattle.rt_play.proofs.ScriptRuns.{line_keeps}
 use Rattle.rt_play.specs.Beginning.{beginning_of, going_from}
 use Rattle.rt_play.specs.Going.{Going}
 use Rattle.rt_play.specs.Ledger.{CommitsStay}
-use Rattle.rt_play.specs.Reader.{AllAnswerSo, AnswersCount, AnswersSo, asked_behind, produced_behind}
+use Rattle.rt_play.specs.Reader.{AllAnswerSo, AnswersCount}
 use Rattle.rt_play.specs.Report.{FrontRuns, IsFrontBehind, IsFrontOfReport, IsReport, IsReportBehind, Report, RunAll, Runs}
 use Rattle.rt_play.proofs.ShownStays.{front_stays, none_shown}
 use Rattle.rt_play.specs.Shown.{EndedStays}
@@ -37,7 +38,7 @@ use Rattle.rt_world.proofs.StartSafe.{start_safe}
 record SaidReads (o : Option Line) (w v : State) (text : List ℕ) : Type 0 where
   log : v.log ≡ produced_behind o w.log
   queries : (queries : List Query) → AreAsked w queries → AreAsked v (asked_behind o queries)
-  answers : (queries : List Query) → AreAsked w queries → AnswersSo w.setup.schema o text w.log queries
+  answers : (queries : List Query) → AreAsked w queries → AnswersHere w.setup.schema o text w.log queries
 
 said_reads : (o : Option Line) (g : Going) (turns : List Turn) (h : Going) (text : List ℕ) → IsSafeWorld g.world → IfSome o (FitsLine g.world.setup.schema) → Runs o g turns h text
     → SaidReads o g.world h.world text
@@ -57,11 +58,10 @@ lines_read (line ∷ lines) rest g turns h texts queries safe k run =
     let reads = said_reads said g run.own run.between run.text safe (line_fits setup.schema setup.table.name line.1) run.first in
     let keeps = line_keeps line g run.own run.between run.text safe run.first in
     let others = lines_read lines rest run.between run.more h run.others (asked_behind said queries) keeps.0 (reads.queries queries k) run.then_others in
-    subst (λ (ts : List (List ℕ)). AllAnswerSo setup (line ∷ (lines ++ rest)) ts g.world.log queries) (sym run.whole) (
-      reads.answers queries k,
-      subst (λ (s : Setup). AllAnswerSo s (lines ++ rest) run.others (produced_behind said g.world.log) (asked_behind said queries)) keeps.1
-          (subst (λ (l : Log). AllAnswerSo run.between.world.setup (lines ++ rest) run.others l (asked_behind said queries)) reads.log others),
-    )
+    subst (λ (ts : List (List ℕ)). AllAnswerSo setup (line ∷ (lines ++ rest)) ts g.world.log queries) (sym run.whole)
+    (answers_so setup.schema said run.text g.world.log queries (λ more asked. AllAnswerSo setup (lines ++ rest) run.others more asked) (reads.answers queries k)
+    (subst (λ (s : Setup). AllAnswerSo s (lines ++ rest) run.others (produced_behind said g.world.log) (asked_behind said queries)) keeps.1
+    (subst (λ (l : Log). AllAnswerSo run.between.world.setup (lines ++ rest) run.others l (asked_behind said queries)) reads.log others)))
 
 none_asked : (setup : Setup) → AreAsked (start setup) []
 none_asked setup = record { count = refl; same = λ q a at. absurd (none-some (Some a) at) }
