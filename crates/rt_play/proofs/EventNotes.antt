@@ -52,7 +52,7 @@ use Rattle.rt_play.proofs.Noted.{Holds, IsAtWork, IsPosted, WasCommitted, commit
 use Rattle.rt_play.proofs.Ranged.{AreRanged, node_range}
 use Rattle.rt_play.proofs.Retired.{gone_below, there_above}
 use Rattle.rt_play.proofs.ShownStays.{node_of, stays_or_gone}
-use Rattle.rt_play.specs.Ledger.{IsDoneOver, Notes, Posted, Ranges, SaysDone, Segment, ShowsDone, StandFrom, TellsSo, Working, event_noted, is_commit_end, is_done_node, is_done_status, is_done_step, is_job, is_success, is_success_status, knows_commit, left_open, opens, retired_noted, segments_of, sent_noted, shows_done, shown_noted, started_noted, stepped_noted, tells_commit, took_noted}
+use Rattle.rt_play.specs.Ledger.{IsDoneOver, Notes, Posted, Ranges, SaysDone, Segment, ShowsDone, StandFrom, TellsSo, Working, committed_if, event_noted, is_commit_end, is_done_node, is_done_status, is_done_step, is_job, is_success, is_success_status, knows_commit, left_open, opens, segments_of, shows_done, tells_commit}
 use Rattle.rt_repair.specs.declared.retiring.RetireStep.{RetireStep}
 use Rattle.rt_repair.specs.declared.retiring.RetireStep.TheVariants as step
 use Rattle.rt_safety.proofs.CommitOpens.{commit_opens}
@@ -168,10 +168,10 @@ module _ (ranges : Ranges) (w v : State) (notes : Notes) (safe : IsSafeWorld w) 
   -- ---- a request
 
   report_noted : (i : Instance) (p : Partition) (q : Sequence) (o : Outcome) → Steps w (event.Report i p q) v (Ok o)
-      → ((x : Working) → Has notes.jobs x → IsAtWork v x) → Holds ranges v (sent_noted p q o notes)
+      → ((x : Working) → Has notes.jobs x → IsAtWork v x) → Holds ranges v (event_noted (event.Report i p q) o notes)
   report_noted i p q o steps jobs =
       let its = requested w v i p q o safe steps in
-      subst (λ (x : Outcome). Holds ranges v (sent_noted p q x notes)) (sym its.told)
+      subst (λ (x : Outcome). Holds ranges v (event_noted (event.Report i p q) x notes)) (sym its.told)
       (record {
         requests = by_kind its (is_commit_end its.request.kind) refl;
         jobs = jobs;
@@ -210,17 +210,11 @@ module _ (ranges : Ranges) (w v : State) (notes : Notes) (safe : IsSafeWorld w) 
     message : posted.message ≡ m
     same : x ≡ working c j posted.segment posted.end
 
-  opened : (m : ℕ) (c : ControllerId) (j : ℕ) (ps : List Posted) (x : Working) → ((y : Posted) → Has ps y → Has notes.requests y) → Has (opens m c j ps) x
-      → IsOpened m c j x
-  opened m c j [] x in_notes has = absurd has
-  opened m c j (y ∷ ps) x in_notes has =
-      by_test (y.message == m) refl has (λ h. opened m c j ps x (λ z g. in_notes z (inr g)) h)
-    where
-      by_test : (b : Bool) → (y.message == m) ≡ b → Has (cond b (working c j y.segment y.end ∷ opens m c j ps) (opens m c j ps)) x
-          → (Has (opens m c j ps) x → IsOpened m c j x) → IsOpened m c j x
-      by_test false e has further = further has
-      by_test true e (inr has) further = further has
-      by_test true e (inl same) further = record { posted = y; has = in_notes y (inl refl); message = eqb-true y.message m e; same = sym same }
+  opened : (m : ℕ) (c : ControllerId) (j : ℕ) (x : Working) → Has (opens m c j notes.requests) x → IsOpened m c j x
+  opened m c j x has =
+      let made = Has-map (λ (y : Posted). working c j y.segment y.end) (filter (λ (y : Posted). y.message == m) notes.requests) x has in
+      let kept = Has-filter (λ (y : Posted). y.message == m) notes.requests made.0 made.1 in
+      record { posted = made.0; has = kept.0; message = eqb-true made.0.message m kept.1; same = sym made.2 }
 
   same_started : (i j : ℕ) → came.Started i ≡ came.Started j → i ≡ j
   same_started i j e = cc
@@ -256,14 +250,14 @@ module _ (ranges : Ranges) (w v : State) (notes : Notes) (safe : IsSafeWorld w) 
       by_node (Some n) at (new, what, store, deep, h, is) = by_what n new store deep what at h is
 
   deliver_noted : (m : ℕ) (c : ControllerId) (o : Outcome) → Steps w (event.Deliver m c) v (Ok o) → ((x : Working) → Has notes.jobs x → IsAtWork v x)
-      → Holds ranges v (started_noted m c o notes)
+      → Holds ranges v (event_noted (event.Deliver m c) o notes)
   deliver_noted m c (came.Started j) steps jobs =
       stays_but_jobs ranges w v notes (opens m c j notes.requests ++ notes.jobs) goes k
       (λ x has. ⊎_elim (by_open x) (jobs x) (Has-append_cases (opens m c j notes.requests) notes.jobs x has))
     where
       by_open : (x : Working) → Has (opens m c j notes.requests) x → IsAtWork v x
       by_open x has =
-          let a = opened m c j notes.requests x (λ y h. h) has in
+          let a = opened m c j x has in
           let p = k.requests a.posted a.has in
           let starts = starts_work m c j p.request p.path (ap (request_at w) (sym a.message) ∙ p.there) p.names steps in
           let one : Segment → Working = λ s. working c j s p.request.offset in
@@ -336,9 +330,9 @@ module _ (ranges : Ranges) (w v : State) (notes : Notes) (safe : IsSafeWorld w) 
     abbrev now : Notes
     now = record notes { jobs = left_open c j did.did.reply notes.jobs }
 
-    job_noted : Holds ranges v (stepped_noted c j o notes)
+    job_noted : Holds ranges v (event_noted (event.Job c j) o notes)
     job_noted =
-        subst (λ (x : Outcome). Holds ranges v (stepped_noted c j x notes)) (sym did.told.1)
+        subst (λ (x : Outcome). Holds ranges v (event_noted (event.Job c j) x notes)) (sym did.told.1)
         (by_test (tells_commit did.did) refl (stays_but_jobs ranges w v notes (left_open c j did.did.reply notes.jobs) goes k (jobs_left did.did.reply refl)))
       where
         by_test : (b : Bool) → tells_commit did.did ≡ b → Holds ranges v now
@@ -357,21 +351,20 @@ module _ (ranges : Ranges) (w v : State) (notes : Notes) (safe : IsSafeWorld w) 
   -- ---- a replica that takes a reply
 
   reply_noted : (m : ℕ) (o : Outcome) → IsSafeWorld v → Steps w (event.Reply m) v (Ok o) → ((x : Working) → Has notes.jobs x → IsAtWork v x)
-      → Holds ranges v (took_noted o notes)
+      → Holds ranges v (event_noted (event.Reply m) o notes)
   reply_noted m o later steps jobs = by_told o (λ i p q stands is. taken_knows w v m o i p q stands later steps is)
     where
       stays : Holds ranges v notes
       stays = stays_but_jobs ranges w v notes notes.jobs goes k jobs
 
-      by_stand : (b : Bool) (p : Partition) (q : Sequence) → (b ≡ true → IsKnown v p q)
-          → Holds ranges v (record notes { committed = cond b (record { partition = p; sequence = q } ∷ notes.committed) notes.committed })
+      by_stand : (b : Bool) (p : Partition) (q : Sequence) → (b ≡ true → IsKnown v p q) → Holds ranges v (committed_if b p q notes)
       by_stand false p q known = stays
       by_stand true p q known =
           stays_and_more ranges v notes (record { partition = p; sequence = q } ∷ []) stays
           (λ s has. ⊎_elim (λ same. subst (WasCommitted ranges v) same (known_committed ranges v p q ranged (known refl))) (λ none. absurd none) has)
 
       by_told : (x : Outcome) → ((i : Instance) (p : Partition) (q : Sequence) (stands : ReplicaState) → x ≡ came.Took i p q stands → knows_commit stands ≡ true → IsKnown v p q)
-          → Holds ranges v (took_noted x notes)
+          → Holds ranges v (event_noted (event.Reply m) x notes)
       by_told (came.Took i p q stands) knows = by_stand (knows_commit stands) p q (knows i p q stands refl)
       by_told other knows = stays
 
@@ -445,13 +438,12 @@ module _ (ranges : Ranges) (w v : State) (notes : Notes) (safe : IsSafeWorld w) 
           shows_later p q (node_of w p q) refl,
         )
 
-    show_noted : ((x : Working) → Has notes.jobs x → IsAtWork v x) → Holds ranges v (shown_noted p q o notes)
+    show_noted : ((x : Working) → Has notes.jobs x → IsAtWork v x) → Holds ranges v (event_noted (event.ShowMeta p q) o notes)
     show_noted jobs =
-        subst (λ (x : Outcome). Holds ranges v (shown_noted p q x notes)) (sym shown)
+        subst (λ (x : Outcome). Holds ranges v (event_noted (event.ShowMeta p q) x notes)) (sym shown)
         (by_test (shows_done (node_of w p q)) refl (stays_but_jobs ranges w v notes notes.jobs goes k jobs))
       where
-        by_test : (b : Bool) → shows_done (node_of w p q) ≡ b → Holds ranges v notes
-            → Holds ranges v (record notes { committed = cond b (record { partition = p; sequence = q } ∷ notes.committed) notes.committed })
+        by_test : (b : Bool) → shows_done (node_of w p q) ≡ b → Holds ranges v notes → Holds ranges v (committed_if b p q notes)
         by_test false e holds = holds
         by_test true e holds =
             stays_and_more ranges v notes (record { partition = p; sequence = q } ∷ []) holds
@@ -460,18 +452,18 @@ module _ (ranges : Ranges) (w v : State) (notes : Notes) (safe : IsSafeWorld w) 
   -- ---- a segment that is deleted
 
   retain_noted : (c : ControllerId) (p : Partition) (o : Outcome) → Steps w (event.Retain c p) v (Ok o) → ((x : Working) → Has notes.jobs x → IsAtWork w x → IsAtWork v x)
-      → Holds ranges v (retired_noted p o notes)
+      → Holds ranges v (event_noted (event.Retain c p) o notes)
   retain_noted c p o steps jobs = by_told o (λ q is. was_deleted w v c p o q safe steps is)
     where
       stays : Holds ranges v notes
       stays = stays_with_jobs ranges w v notes goes jobs k
 
       by_step : (x : RetireStep) → ((q : Sequence) → came.Retired x ≡ came.Retired (step.Deleted q) → IsDeleted v.store.writes p q.0)
-          → Holds ranges v (retired_noted p (came.Retired x) notes)
+          → Holds ranges v (event_noted (event.Retain c p) (came.Retired x) notes)
       by_step (step.Deleted q) gone = stays_and_deleted ranges v notes (record { partition = p; sequence = q }) stays (gone q refl)
       by_step other gone = stays
 
-      by_told : (x : Outcome) → ((q : Sequence) → x ≡ came.Retired (step.Deleted q) → IsDeleted v.store.writes p q.0) → Holds ranges v (retired_noted p x notes)
+      by_told : (x : Outcome) → ((q : Sequence) → x ≡ came.Retired (step.Deleted q) → IsDeleted v.store.writes p q.0) → Holds ranges v (event_noted (event.Retain c p) x notes)
       by_told (came.Retired x) gone = by_step x gone
       by_told other gone = stays
 

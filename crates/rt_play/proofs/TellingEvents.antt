@@ -24,8 +24,8 @@ use Rattle.rt_play.proofs.TellingKinds.{AreApart, IsIdle, all_alike, kind_of, sa
 use Rattle.rt_play.proofs.TellingSteps.{success_begins}
 use Rattle.rt_play.proofs.ToldNumbers.{same_decimal, tails}
 use Rattle.rt_play.specs.AnswerTexts.{IsWord}
-use Rattle.rt_play.specs.Ledger.{Notes, Posted, is_commit_end, is_success_status, knows_commit, opens}
-use Rattle.rt_play.specs.NotedWords.{IsDeletedWord, IsSentWord, IsStartedWord, IsTookWord}
+use Rattle.rt_play.specs.Ledger.{Notes, Posted, committed_if, is_commit_end, is_success_status, knows_commit, opens}
+use Rattle.rt_play.specs.NotedWords.{FitsWords}
 use Rattle.rt_play.specs.Telling.{AreAlike, NoteTheSame}
 use Rattle.rt_repair.specs.declared.retiring.RetireStep.TheVariants as retire
 use Rattle.rt_report.specs.MacroTexts.{exchanged_text}
@@ -66,7 +66,7 @@ module _ (m : ℕ) (c : ControllerId) where
       (append_cancel_left (codes "job ") _ _ same) in
       (same_number i j (codes "\n") (codes "\n") p q line_end line_end (append_cancel_left (codes " j") _ _ behind)).0
 
-  started_own : (a b : Outcome) → is_started a ≡ true → is_started b ≡ true → IsStartedWord a → IsStartedWord b → outcome_text (event.Deliver m c) a ≡ outcome_text (event.Deliver m c) b
+  started_own : (a b : Outcome) → is_started a ≡ true → is_started b ≡ true → FitsWords (event.Deliver m c) a → FitsWords (event.Deliver m c) b → outcome_text (event.Deliver m c) a ≡ outcome_text (event.Deliver m c) b
       → AreAlike (event.Deliver m c) a b
   started_own (came.Started i) (came.Started j) k l p q same = record {
     noted = λ notes. ap (λ (n : ℕ). record notes { jobs = opens m c n notes.requests ++ notes.jobs }) (same_job i j p q same);
@@ -79,9 +79,9 @@ module _ (m : ℕ) (c : ControllerId) where
   started_idle (came.Started j) e = absurd (true≢false e)
   started_idle other e = record { noted = λ notes. refl; tells = λ ranges marks notes. tt }
 
-  pub started_alike : (a b : Outcome) → IsStartedWord a → IsStartedWord b → outcome_text (event.Deliver m c) a ≡ outcome_text (event.Deliver m c) b → AreAlike (event.Deliver m c) a b
+  pub started_alike : (a b : Outcome) → FitsWords (event.Deliver m c) a → FitsWords (event.Deliver m c) b → outcome_text (event.Deliver m c) a ≡ outcome_text (event.Deliver m c) b → AreAlike (event.Deliver m c) a b
   started_alike =
-      all_alike (event.Deliver m c) is_started IsStartedWord
+      all_alike (event.Deliver m c) is_started (FitsWords (event.Deliver m c))
       (λ a b same. sym (started_begins a) ∙ ap (begins (codes "j")) same ∙ started_begins b) started_own started_idle
 
 -- ---- a request
@@ -137,7 +137,7 @@ module _ (i : Instance) (p : Partition) (q : Sequence) where
       by_test false e =
           ap (λ (t : Bool). with_posted notes t m x.offset) e ∙ sym (ap (λ (t : Bool). with_posted notes t n y.offset) (sym ends ∙ e))
 
-  sent_own : (a b : Outcome) → is_sent a ≡ true → is_sent b ≡ true → IsSentWord a → IsSentWord b → outcome_text (event.Report i p q) a ≡ outcome_text (event.Report i p q) b
+  sent_own : (a b : Outcome) → is_sent a ≡ true → is_sent b ≡ true → FitsWords (event.Report i p q) a → FitsWords (event.Report i p q) b → outcome_text (event.Report i p q) a ≡ outcome_text (event.Report i p q) b
       → AreAlike (event.Report i p q) a b
   sent_own (came.Sent m x) (came.Sent n y) k l v w same =
       let numbers = same_number m n (codes " " ++ (request_text x ++ codes "\n")) (codes " " ++ (request_text y ++ codes "\n")) v.0 w.0 space space
@@ -155,9 +155,9 @@ module _ (i : Instance) (p : Partition) (q : Sequence) where
   sent_idle (came.Sent m x) e = absurd (true≢false e)
   sent_idle other e = record { noted = λ notes. refl; tells = λ ranges marks notes. tt }
 
-  pub requests_alike : (a b : Outcome) → IsSentWord a → IsSentWord b → outcome_text (event.Report i p q) a ≡ outcome_text (event.Report i p q) b → AreAlike (event.Report i p q) a b
+  pub requests_alike : (a b : Outcome) → FitsWords (event.Report i p q) a → FitsWords (event.Report i p q) b → outcome_text (event.Report i p q) a ≡ outcome_text (event.Report i p q) b → AreAlike (event.Report i p q) a b
   requests_alike =
-      all_alike (event.Report i p q) is_sent IsSentWord
+      all_alike (event.Report i p q) is_sent (FitsWords (event.Report i p q))
       (λ a b same. sym (sent_begins a) ∙ ap (begins (codes "sent m")) same ∙ sent_begins b) sent_own sent_idle
 
 -- ---- a reply that is taken
@@ -215,18 +215,15 @@ module _ (m : ℕ) where
   reply_apart (came.Shown None) is = refl
   reply_apart other is = absurd is
 
-  abbrev with_committed : Notes → Partition → Sequence → Bool → Notes
-  with_committed notes p q knows = record notes { committed = cond knows (record { partition = p; sequence = q } ∷ notes.committed) notes.committed }
-
-  took_own : (a b : Outcome) → (kind_of a == 2) ≡ true → (kind_of b == 2) ≡ true → IsTookWord a → IsTookWord b → outcome_text (event.Reply m) a ≡ outcome_text (event.Reply m) b
+  took_own : (a b : Outcome) → (kind_of a == 2) ≡ true → (kind_of b == 2) ≡ true → FitsWords (event.Reply m) a → FitsWords (event.Reply m) b → outcome_text (event.Reply m) a ≡ outcome_text (event.Reply m) b
       → AreAlike (event.Reply m) a b
   took_own (came.Took i p q s) (came.Took j r t u) k l v w same =
       let its = same_replica i j p r q t (state_text s ++ codes "\n") (state_text u ++ codes "\n") v w (append_cancel_left (codes " ") _ _ (same_tail (event.Reply m) _ _ same)) in
       let knows = same_knows s u its.behind in
       record {
         noted = λ notes.
-            ap (λ (x : Partition). with_committed notes x q (knows_commit s)) its.partition
-            ∙ ap (λ (x : Sequence). with_committed notes r x (knows_commit s)) its.sequence ∙ ap (with_committed notes r t) knows;
+            ap (λ (x : Partition). committed_if (knows_commit s) x q notes) its.partition
+            ∙ ap (λ (x : Sequence). committed_if (knows_commit s) r x notes) its.sequence ∙ ap (λ (b : Bool). committed_if b r t notes) knows;
         tells = λ ranges marks notes so. tt;
       }
   took_own (came.Took i p q s) (came.Up None) k l v w same = absurd (false≢true l)
@@ -248,8 +245,8 @@ module _ (m : ℕ) where
   took_idle (came.Took i p q s) e = absurd (true≢false e)
   took_idle other e = record { noted = λ notes. refl; tells = λ ranges marks notes. tt }
 
-  pub replies_alike : (a b : Outcome) → IsTookWord a → IsTookWord b → outcome_text (event.Reply m) a ≡ outcome_text (event.Reply m) b → AreAlike (event.Reply m) a b
-  replies_alike = all_alike (event.Reply m) (λ o. kind_of o == 2) IsTookWord (same_kind (event.Reply m) reply_apart 2) took_own took_idle
+  pub replies_alike : (a b : Outcome) → FitsWords (event.Reply m) a → FitsWords (event.Reply m) b → outcome_text (event.Reply m) a ≡ outcome_text (event.Reply m) b → AreAlike (event.Reply m) a b
+  replies_alike = all_alike (event.Reply m) (λ o. kind_of o == 2) (FitsWords (event.Reply m)) (same_kind (event.Reply m) reply_apart 2) took_own took_idle
 
 -- ---- a segment that is deleted
 
@@ -291,13 +288,13 @@ module _ (c : ControllerId) (p : Partition) where
       let numbers = append_cancel_left (decimal p.0) _ _ (sym (behind_deleted q) ∙ rest ∙ behind_deleted s) in
       same_sequence q s (same_number q.0 s.0 (codes "\n") (codes "\n") k l line_end line_end (tails 47 47 _ _ numbers)).0
 
-  deleted_own : (a b : Outcome) → (kind_of a == 3) ≡ true → (kind_of b == 3) ≡ true → IsDeletedWord a → IsDeletedWord b
+  deleted_own : (a b : Outcome) → (kind_of a == 3) ≡ true → (kind_of b == 3) ≡ true → FitsWords (event.Retain c p) a → FitsWords (event.Retain c p) b
       → outcome_text (event.Retain c p) a ≡ outcome_text (event.Retain c p) b → AreAlike (event.Retain c p) a b
   deleted_own a b k l v w same =
       let x = only_deleted a k in
       let y = only_deleted b l in
       let texts = sym (ap (outcome_text (event.Retain c p)) x.is) ∙ same ∙ ap (outcome_text (event.Retain c p)) y.is in
-      let its = same_deleted x.sequence y.sequence (subst IsDeletedWord x.is v) (subst IsDeletedWord y.is w) texts in
+      let its = same_deleted x.sequence y.sequence (subst (FitsWords (event.Retain c p)) x.is v) (subst (FitsWords (event.Retain c p)) y.is w) texts in
       let whole : a ≡ b = x.is ∙ ap (λ (q : Sequence). came.Retired (retire.Deleted q)) its ∙ sym y.is in
       subst (λ (o : Outcome). AreAlike (event.Retain c p) a o) whole (record { noted = λ notes. refl; tells = λ ranges marks notes so. so })
 
@@ -306,8 +303,8 @@ module _ (c : ControllerId) (p : Partition) where
   deleted_idle (came.Retired other) e = record { noted = λ notes. refl; tells = λ ranges marks notes. tt }
   deleted_idle other e = record { noted = λ notes. refl; tells = λ ranges marks notes. tt }
 
-  pub deletions_alike : (a b : Outcome) → IsDeletedWord a → IsDeletedWord b → outcome_text (event.Retain c p) a ≡ outcome_text (event.Retain c p) b → AreAlike (event.Retain c p) a b
-  deletions_alike = all_alike (event.Retain c p) (λ o. kind_of o == 3) IsDeletedWord (same_kind (event.Retain c p) retain_apart 3) deleted_own deleted_idle
+  pub deletions_alike : (a b : Outcome) → FitsWords (event.Retain c p) a → FitsWords (event.Retain c p) b → outcome_text (event.Retain c p) a ≡ outcome_text (event.Retain c p) b → AreAlike (event.Retain c p) a b
+  deletions_alike = all_alike (event.Retain c p) (λ o. kind_of o == 3) (FitsWords (event.Retain c p)) (same_kind (event.Retain c p) retain_apart 3) deleted_own deleted_idle
 
 -- ---- an exchange
 
@@ -346,5 +343,4 @@ exchanges_alike m n k l a b s t same =
     let tells : (is_success_status a || knows_commit s) ≡ (is_success_status b || knows_commit t) =
     ap (λ (x : Bool). x || knows_commit s) success ∙ ap (λ (x : Bool). is_success_status b || x) knows
     in
-    λ p q notes.
-    ap (λ (x : Bool). record notes { committed = cond x (record { partition = p; sequence = q } ∷ notes.committed) notes.committed }) tells
+    λ p q notes. ap (λ (x : Bool). committed_if x p q notes) tells

@@ -32,8 +32,8 @@ use Rattle.rt_play.proofs.TellingKinds.{AreApart, IsIdle, all_alike, kind_in, ki
 use Rattle.rt_play.proofs.ToldItems.{comma}
 use Rattle.rt_play.proofs.ToldNumbers.{same_decimal, tails}
 use Rattle.rt_play.specs.AnswerTexts.{IsWord}
-use Rattle.rt_play.specs.Ledger.{IsDoneOver, SaysDone, is_done_node, is_done_status}
-use Rattle.rt_play.specs.NotedWords.{IsDoneWord, IsNodeWord, IsShownWord}
+use Rattle.rt_play.specs.Ledger.{IsDoneOver, SaysDone, committed_if, is_done_node, is_done_status}
+use Rattle.rt_play.specs.NotedWords.{FitsWords, IsDoneWord, IsNodeWord}
 use Rattle.rt_play.specs.Telling.{AreAlike}
 use Rattle.rt_repair.specs.declared.retiring.RetireStep.TheVariants as retire
 use Rattle.rt_report.specs.BrokerTexts.{shown_text, stored_text}
@@ -247,8 +247,7 @@ module _ (p : Partition) (q : Sequence) where
       let done = sym (done_told s.node) ∙ ap (λ (xs : List ℕ). is_done_key (key_in xs)) stored ∙ done_told t.node in
       let says = says_same s.node t.node v w (append_cancel_right (stored_text s.node) (stored_text t.node) (codes "\n") stored) done in
       record {
-        noted = λ notes.
-            ap (λ (b : Bool). record notes { committed = cond b (record { partition = p; sequence = q } ∷ notes.committed) notes.committed }) done;
+        noted = λ notes. ap (λ (b : Bool). committed_if b p q notes) done;
         tells = λ ranges marks notes so. (
           λ has. (says (ranges p q) (so.0 has).0, (so.0 has).1),
           λ is. (says (ranges p q) (so.1 (done ∙ is)).0, (so.1 (done ∙ is)).1),
@@ -256,7 +255,7 @@ module _ (p : Partition) (q : Sequence) where
         );
       }
 
-  own : (a b : Outcome) → is_shown a ≡ true → is_shown b ≡ true → IsShownWord a → IsShownWord b → text a ≡ text b → AreAlike (event.ShowMeta p q) a b
+  own : (a b : Outcome) → is_shown a ≡ true → is_shown b ≡ true → FitsWords (event.ShowMeta p q) a → FitsWords (event.ShowMeta p q) b → text a ≡ text b → AreAlike (event.ShowMeta p q) a b
   own (came.Shown None) (came.Shown None) k l v w same = record { noted = λ notes. refl; tells = λ ranges marks notes so. so }
   own (came.Shown None) (came.Shown (Some t)) k l v w same = absurd (true≢false (ap (begins (codes "nonode")) same))
   own (came.Shown (Some s)) (came.Shown None) k l v w same = absurd (false≢true (ap (begins (codes "nonode")) same))
@@ -270,6 +269,6 @@ module _ (p : Partition) (q : Sequence) where
   idle (came.Shown (Some seen)) e = absurd (true≢false e)
   idle other e = record { noted = λ notes. refl; tells = λ ranges marks notes. tt }
 
-  pub nodes_alike : (a b : Outcome) → IsShownWord a → IsShownWord b → text a ≡ text b → AreAlike (event.ShowMeta p q) a b
+  pub nodes_alike : (a b : Outcome) → FitsWords (event.ShowMeta p q) a → FitsWords (event.ShowMeta p q) b → text a ≡ text b → AreAlike (event.ShowMeta p q) a b
   nodes_alike =
-      all_alike (event.ShowMeta p q) is_shown IsShownWord (λ a b same. sym (shown_told a) ∙ ap shows_node same ∙ shown_told b) own idle
+      all_alike (event.ShowMeta p q) is_shown (FitsWords (event.ShowMeta p q)) (λ a b same. sym (shown_told a) ∙ ap shows_node same ∙ shown_told b) own idle

@@ -19,7 +19,7 @@ use Rattle.rt_model.specs.declared.reply.ReplyStatus.TheVariants as status
 use Rattle.rt_msgs.specs.StatusText.{fail_text, status_text}
 use Rattle.rt_play.proofs.TellingFronts.{begins, past, past_no_digit}
 use Rattle.rt_play.proofs.TellingKinds.{AreApart, IsIdle, all_alike, kind_of, same_kind, same_tail}
-use Rattle.rt_play.specs.Ledger.{NamesReply, Notes, Working, is_done_step, is_job, is_success, is_success_status, left_open, segments_of, stepped_noted, tells_commit}
+use Rattle.rt_play.specs.Ledger.{IsPaired, Notes, Working, event_noted, is_done_step, is_job, is_success, is_success_status, left_open, segments_of, tells_commit}
 use Rattle.rt_play.specs.Telling.{AreAlike}
 use Rattle.rt_repair.specs.declared.retiring.RetireStep.TheVariants as retire
 use Rattle.rt_report.specs.MessageTexts.{came_text, ending_text, step_text}
@@ -151,7 +151,7 @@ module _ (c : ControllerId) (j : ℕ) where
     committed = cond tells (segments_of c j notes.jobs ++ notes.committed) notes.committed;
   }
 
-  noted_so : (did : JobStep) (message : Option ℕ) (notes : Notes) → stepped_noted c j (came.Stepped did message) notes ≡ noted_by notes (is_none did.reply) (tells_commit did)
+  noted_so : (did : JobStep) (message : Option ℕ) (notes : Notes) → event_noted (event.Job c j) (came.Stepped did message) notes ≡ noted_by notes (is_none did.reply) (tells_commit did)
   noted_so did message notes =
       ap (λ (jobs : List Working). record notes { jobs = jobs; committed = cond (tells_commit did) (segments_of c j notes.jobs ++ notes.committed) notes.committed })
       (left_by did.reply notes.jobs)
@@ -189,7 +189,7 @@ module _ (c : ControllerId) (j : ℕ) where
   abbrev Same : Outcome → Outcome → Type 0
   Same a b = outcome_text (event.Job c j) a ≡ outcome_text (event.Job c j) b
 
-  both : (a b : JobStep) (m n : Option ℕ) → NamesReply (came.Stepped a m) → NamesReply (came.Stepped b n) → Same (came.Stepped a m) (came.Stepped b n)
+  both : (a b : JobStep) (m n : Option ℕ) → is_none m ≡ is_none a.reply → is_none n ≡ is_none b.reply → Same (came.Stepped a m) (came.Stepped b n)
       → AreAlike (event.Job c j) (came.Stepped a m) (came.Stepped b n)
   both a b m n p q same =
       let tails = same_tail (event.Job c j) (step_tail a m) (step_tail b n) same in
@@ -202,7 +202,7 @@ module _ (c : ControllerId) (j : ℕ) where
         tells = λ ranges marks notes so w told has is. so w (commit ∙ told) has is;
       }
 
-  own : (a b : Outcome) → (kind_of a == 4) ≡ true → (kind_of b == 4) ≡ true → NamesReply a → NamesReply b → Same a b → AreAlike (event.Job c j) a b
+  own : (a b : Outcome) → (kind_of a == 4) ≡ true → (kind_of b == 4) ≡ true → IsPaired (event.Job c j) a → IsPaired (event.Job c j) b → Same a b → AreAlike (event.Job c j) a b
   own a b k l p q same =
       let s = only_stepped a k in
       let t = only_stepped b l in
@@ -211,7 +211,7 @@ module _ (c : ControllerId) (j : ℕ) where
       in
       subst (λ (x : Outcome). AreAlike (event.Job c j) x b) (sym s.is)
       (subst (λ (x : Outcome). AreAlike (event.Job c j) (came.Stepped s.did s.message) x) (sym t.is)
-      (both s.did t.did s.message t.message (subst NamesReply s.is p) (subst NamesReply t.is q) texts))
+      (both s.did t.did s.message t.message (subst (IsPaired (event.Job c j)) s.is p) (subst (IsPaired (event.Job c j)) t.is q) texts))
 
-  pub steps_alike : (a b : Outcome) → NamesReply a → NamesReply b → Same a b → AreAlike (event.Job c j) a b
-  steps_alike = all_alike (event.Job c j) (λ o. kind_of o == 4) NamesReply (same_kind (event.Job c j) apart 4) own idle
+  pub steps_alike : (a b : Outcome) → IsPaired (event.Job c j) a → IsPaired (event.Job c j) b → Same a b → AreAlike (event.Job c j) a b
+  steps_alike = all_alike (event.Job c j) (λ o. kind_of o == 4) (IsPaired (event.Job c j)) (same_kind (event.Job c j) apart 4) own idle

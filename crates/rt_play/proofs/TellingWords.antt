@@ -42,7 +42,7 @@ use Rattle.rt_nodes.specs.declared.controller_node.ControllerNode.{ControllerNod
 use Rattle.rt_play.proofs.Deleted.{was_deleted}
 use Rattle.rt_play.proofs.Known.{taken}
 use Rattle.rt_play.specs.AnswerTexts.{IsWord}
-use Rattle.rt_play.specs.NotedWords.{FitsWords, IsDeletedWord, IsDoneWord, IsNodeWord, IsRetiredWord, IsSeenWord, IsSentWord, IsShownWord, IsStartedWord, IsTookWord}
+use Rattle.rt_play.specs.NotedWords.{FitsWords, IsDoneWord, IsNodeWord}
 use Rattle.rt_repair.specs.declared.retiring.RetireStep.{RetireStep}
 use Rattle.rt_repair.specs.declared.retiring.RetireStep.TheVariants as step
 use Rattle.rt_safety.proofs.Answering.{few_at}
@@ -72,23 +72,24 @@ use Rattle.rt_world.specs.Step.{Steps}
 
 module _ (w v : State) (safe : IsSafeWorld w) where
   -- a request
-  sent_words : (i : Instance) (p : Partition) (q : Sequence) (o : Outcome) → IsSafeWorld v → Steps w (event.Report i p q) v (Ok o) → IsSentWord o
+  sent_words : (i : Instance) (p : Partition) (q : Sequence) (o : Outcome) → IsSafeWorld v → Steps w (event.Report i p q) v (Ok o)
+      → FitsWords (event.Report i p q) o
   sent_words i p q o later steps =
       let its = requested w v i p q o safe steps in
       let right = later.safe.past.requests its.request (request_sent v (length w.sent) its.request its.there) in
       let message : IsWord (length w.sent) = omega (arith, few_sent w safe) in
       let offset : IsWord its.request.offset.0 = omega (arith, right.within, few_at v its.request.partition later) in
-      subst IsSentWord (sym its.told) (message, offset)
+      subst (FitsWords (event.Report i p q)) (sym its.told) (message, offset)
 
   -- a job that is started
-  started_words : (m : ℕ) (c : ControllerId) (o : Outcome) → IsSafeWorld v → Steps w (event.Deliver m c) v (Ok o) → IsStartedWord o
+  started_words : (m : ℕ) (c : ControllerId) (o : Outcome) → IsSafeWorld v → Steps w (event.Deliver m c) v (Ok o) → FitsWords (event.Deliver m c) o
   started_words m c o later (cost, due, h) = by_node (request_at w m) (slice_get w.controllers c.0) refl refl h
     where
       by_what : (q : Request) (n : ControllerNode) (new : Controlling) (store : Told) (deep : ToldDeep) (what : Handled) → request_at w m ≡ Some q
           → slice_get w.controllers c.0 ≡ Some n
           → Handles {E = Unit {0}} (means w.store) (means store) (deep_means w.deep) (deep_means deep) n.controller q w.moment new (Ok what)
-          → (v, o) ≡ handed (after_step w c n new store deep) cost what → IsStartedWord o
-      by_what q n new store deep (handled.Reply r) asks at f is = subst IsStartedWord (sym (ap (λ (x : Next). x.1) is)) tt
+          → (v, o) ≡ handed (after_step w c n new store deep) cost what → FitsWords (event.Deliver m c) o
+      by_what q n new store deep (handled.Reply r) asks at f is = subst (FitsWords (event.Deliver m c)) (sym (ap (λ (x : Next). x.1) is)) tt
       by_what q n new store deep (handled.Job j) asks at f is =
           let its = job_started n.controller q w.moment (means w.store) (means store) (deep_means w.deep) (deep_means deep) new j f in
           let k = handles_over w.setup (past_of w) w.store store w.deep deep n.controller new q w.moment (handled.Job j) safe.safe.setup safe.safe.past
@@ -98,9 +99,9 @@ module _ (w v : State) (safe : IsSafeWorld w) where
           let there : slice_get v.controllers c.0 ≡ Some (record n { controller = new }) =
           ap (λ (x : Next). slice_get x.0.controllers c.0) is ∙ own_slot w.controllers c.0 n (record n { controller = new }) at in
           let few : IsWord j = omega (arith, below, its.number, later.few.started c.0 (record n { controller = new }) there, later.few.events) in
-          subst IsStartedWord (sym (ap (λ (x : Next). x.1) is)) few
+          subst (FitsWords (event.Deliver m c)) (sym (ap (λ (x : Next). x.1) is)) few
 
-      by_node : (r : Option Request) (n : Option ControllerNode) → request_at w m ≡ r → slice_get w.controllers c.0 ≡ n → DeliversAt r n w c cost (v, o) → IsStartedWord o
+      by_node : (r : Option Request) (n : Option ControllerNode) → request_at w m ≡ r → slice_get w.controllers c.0 ≡ n → DeliversAt r n w c cost (v, o) → FitsWords (event.Deliver m c) o
       by_node None n asks at f = absurd f
       by_node (Some q) None asks at f = absurd f
       by_node (Some q) (Some n) asks at (new, what, store, deep, f, is) = by_what q n new store deep what asks at f is
@@ -113,7 +114,7 @@ module _ (w v : State) (safe : IsSafeWorld w) where
       (omega (arith, within, safe.safe.setup.few_partitions), omega (arith, lt, few_writes u safe))
 
   -- a reply that is taken
-  took_words : (m : ℕ) (o : Outcome) → Steps w (event.Reply m) v (Ok o) → IsTookWord o
+  took_words : (m : ℕ) (o : Outcome) → Steps w (event.Reply m) v (Ok o) → FitsWords (event.Reply m) o
   took_words m o steps = by_told o refl
     where
       own : (i : Instance) (p : Partition) (q : Sequence) (stands : ReplicaState) → o ≡ came.Took i p q stands → IsWord p.0 × IsWord q.0
@@ -126,12 +127,13 @@ module _ (w v : State) (safe : IsSafeWorld w) where
           let sequence : reply.request.sequence ≡ q = ap (λ (a : Asked). a.sequence) reply.answers ∙ its.sequence in
           (subst (λ (x : Partition). IsWord x.0) partition words.0, subst (λ (x : Sequence). IsWord x.0) sequence words.1)
 
-      by_told : (x : Outcome) → o ≡ x → IsTookWord x
+      by_told : (x : Outcome) → o ≡ x → FitsWords (event.Reply m) x
       by_told (came.Took i p q stands) is = own i p q stands is
       by_told other is = tt
 
   -- a segment that is deleted
-  deleted_words : (c : ControllerId) (p : Partition) (o : Outcome) → IsSafeWorld v → v.setup ≡ w.setup → Steps w (event.Retain c p) v (Ok o) → IsDeletedWord o
+  deleted_words : (c : ControllerId) (p : Partition) (o : Outcome) → IsSafeWorld v → v.setup ≡ w.setup → Steps w (event.Retain c p) v (Ok o)
+      → FitsWords (event.Retain c p) o
   deleted_words c p o later same steps = by_told o refl
     where
       own : (q : Sequence) → o ≡ came.Retired (step.Deleted q) → IsWord q.0
@@ -140,17 +142,18 @@ module _ (w v : State) (safe : IsSafeWorld w) where
           let within : p.0 < w.setup.partitions = (chore_needs w c p Retire steps.0 safe steps.1).2 in
           (segment_words v p q gone.0 later (subst (λ (s : Setup). p.0 < s.partitions) (sym same) within) gone.1 gone.2).1
 
-      by_step : (x : RetireStep) → o ≡ came.Retired x → IsRetiredWord x
+      by_step : (x : RetireStep) → o ≡ came.Retired x → FitsWords (event.Retain c p) (came.Retired x)
       by_step (step.Deleted q) is = own q is
       by_step other is = tt
 
-      by_told : (x : Outcome) → o ≡ x → IsDeletedWord x
+      by_told : (x : Outcome) → o ≡ x → FitsWords (event.Retain c p) x
       by_told (came.Retired x) is = by_step x is
       by_told other is = tt
 
   -- a node that is shown
-  shown_words : (p : Partition) (q : Sequence) (o : Outcome) → Steps w (event.ShowMeta p q) v (Ok o) → IsShownWord o
-  shown_words p q o steps = subst IsShownWord (sym (ap (λ (x : Next). x.1) steps.2)) (by_value (value_of w.store.writes (node_key p q.0)) refl)
+  shown_words : (p : Partition) (q : Sequence) (o : Outcome) → Steps w (event.ShowMeta p q) v (Ok o) → FitsWords (event.ShowMeta p q) o
+  shown_words p q o steps =
+      subst (FitsWords (event.ShowMeta p q)) (sym (ap (λ (x : Next). x.1) steps.2)) (by_value (value_of w.store.writes (node_key p q.0)) refl)
     where
       within : p.0 < w.setup.partitions
       within = ltb-true p.0 w.setup.partitions (only_passed (has_partition w p) NoSuchNode (priced w no_cost) steps.0 steps.1).0
@@ -174,7 +177,7 @@ module _ (w v : State) (safe : IsSafeWorld w) where
       own_write : (x : Seen) → x.key ≡ node_key p q.0 → x ≡ record { key = node_key p q.0; version = x.version; node = x.node }
       own_write x of = let one : Key → Seen = λ k. record { key = k; version = x.version; node = x.node } in ap one of
 
-      by_value : (x : Option Seen) → value_of w.store.writes (node_key p q.0) ≡ x → IsSeenWord x
+      by_value : (x : Option Seen) → value_of w.store.writes (node_key p q.0) ≡ x → FitsWords (event.ShowMeta p q) (came.Shown x)
       by_value None at = tt
       by_value (Some x) at =
           let has = last_write-Has w.store.writes (node_key p q.0) x (value_of-last w.store.writes (node_key p q.0) x at).0 in

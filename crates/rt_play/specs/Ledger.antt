@@ -32,7 +32,7 @@ use Rattle.rt_model.specs.declared.request.RequestKind.TheVariants.{CommitEnd}
 use Rattle.rt_model.specs.declared.seg_meta.SegMeta.{SegMeta}
 use Rattle.rt_model.specs.declared.setup.Setup.{Setup}
 use Rattle.rt_model.specs.declared.status.Status.{Status}
-use Rattle.rt_model.specs.declared.status.Status.TheVariants.{Abandoned, Done, InProgress}
+use Rattle.rt_model.specs.declared.status.Status.TheVariants.{Done}
 use Rattle.rt_play.specs.AnswerTexts.{AreWords}
 use Rattle.rt_play.specs.Named.{Each, Spares, ranges_at, span}
 use Rattle.rt_play.specs.NotedWords.{FitsWords}
@@ -80,11 +80,8 @@ is_commit_end other = false
 
 -- a message with a commitEnd opens a commit job
 abbrev pub opens : ℕ → ControllerId → ℕ → List Posted → List Working
-opens message controller job [] = []
-opens message controller job (posted ∷ rest) =
-    if posted.message == message
-    then record { controller = controller; job = job; segment = posted.segment; end = posted.end } ∷ opens message controller job rest
-    else opens message controller job rest
+opens message controller job posted =
+    map (λ p. record { controller = controller; job = job; segment = p.segment; end = p.end }) (filter (λ p. p.message == message) posted)
 
 abbrev pub is_job : ControllerId → ℕ → Working → Bool
 is_job controller job w = (w.controller.0 == controller.0) && (w.job == job)
@@ -98,11 +95,8 @@ is_success None = false
 is_success (Some reply) = is_success_status reply.status
 
 abbrev pub is_done_step : StepName → Bool
-is_done_step name.Check = false
 is_done_step name.Done = true
-is_done_step name.Next = false
-is_done_step name.IdealRead = false
-is_done_step name.IdealSet = false
+is_done_step other = false
 
 -- that a job has committed its segment a COMMIT_SUCCESS tells, and a step `done` behind which it goes on
 abbrev pub tells_commit : JobStep → Bool
@@ -124,92 +118,51 @@ posted_by partition sequence message request posted =
     then record { message = message; segment = record { partition = partition; sequence = sequence }; end = request.offset } ∷ posted
     else posted
 
-abbrev pub sent_noted : Partition → Sequence → Outcome → Notes → Notes
-sent_noted partition sequence (Sent message request) notes = record notes { requests = posted_by partition sequence message request notes.requests }
-sent_noted partition sequence other notes = notes
-
-abbrev pub started_noted : ℕ → ControllerId → Outcome → Notes → Notes
-started_noted message controller (Started job) notes = record notes { jobs = opens message controller job notes.requests ++ notes.jobs }
-started_noted message controller other notes = notes
-
-abbrev pub stepped_noted : ControllerId → ℕ → Outcome → Notes → Notes
-stepped_noted controller job (Stepped done message) notes =
-    record notes {
-      jobs = left_open controller job done.reply notes.jobs;
-      committed = if tells_commit done then segments_of controller job notes.jobs ++ notes.committed else notes.committed;
-    }
-stepped_noted controller job other notes = notes
-
 -- where a replica stands that was told of its segment's commit
 abbrev pub knows_commit : ReplicaState → Bool
-knows_commit state.InitialConsuming = false
-knows_commit state.CatchingUp = false
-knows_commit state.Holding = false
 knows_commit state.ConsumingToOnline = true
 knows_commit state.Retaining = true
 knows_commit state.Retained = true
-knows_commit state.Committing = false
 knows_commit state.Committed = true
-knows_commit state.Discarded = false
-
-abbrev pub took_noted : Outcome → Notes → Notes
-took_noted (Took instance partition sequence stands) notes =
-    record notes {
-      committed =
-          if knows_commit stands then record { partition = partition; sequence = sequence } ∷ notes.committed else notes.committed;
-    }
-took_noted other notes = notes
+knows_commit other = false
 
 abbrev pub is_done_status : Status → Bool
-is_done_status InProgress = false
 is_done_status (Done commit) = true
-is_done_status Abandoned = false
+is_done_status other = false
 
 abbrev pub is_done_node : Node → Bool
 is_done_node (node.Meta meta) = is_done_status meta.status
-is_done_node (node.Ideal state) = false
-is_done_node node.Boot = false
-is_done_node node.Gone = false
+is_done_node other = false
 
 abbrev pub shows_done : Option Seen → Bool
 shows_done None = false
 shows_done (Some seen) = is_done_node seen.node
 
-abbrev pub shown_noted : Partition → Sequence → Outcome → Notes → Notes
-shown_noted partition sequence (Shown seen) notes =
-    record notes {
-      committed =
-          if shows_done seen then record { partition = partition; sequence = sequence } ∷ notes.committed else notes.committed;
-    }
-shown_noted partition sequence other notes = notes
-
-abbrev pub retired_noted : Partition → Outcome → Notes → Notes
-retired_noted partition (Retired (Deleted sequence)) notes =
-    record notes { deleted = record { partition = partition; sequence = sequence } ∷ notes.deleted }
-retired_noted partition other notes = notes
+-- a segment is noted to be committed, where that is told
+abbrev pub committed_if : Bool → Partition → Sequence → Notes → Notes
+committed_if told p q notes = record notes { committed = if told then record { partition = p; sequence = q } ∷ notes.committed else notes.committed }
 
 -- a `report` line tells a commitEnd, a `deliver` line a job that it opened, a `job` line its steps, a `reply` line where the replica then
 -- stands, a `show meta` line a node, and a `retain` line a segment that is deleted. A controller that crashes loses its jobs
 abbrev pub event_noted : Event → Outcome → Notes → Notes
-event_noted (Report instance partition sequence) outcome notes = sent_noted partition sequence outcome notes
-event_noted (Deliver message controller) outcome notes = started_noted message controller outcome notes
-event_noted (Job controller job) outcome notes = stepped_noted controller job outcome notes
-event_noted (event.Reply message) outcome notes = took_noted outcome notes
+event_noted (Report instance p q) (Sent message request) notes = record notes { requests = posted_by p q message request notes.requests }
+event_noted (Deliver message controller) (Started job) notes = record notes { jobs = opens message controller job notes.requests ++ notes.jobs }
+event_noted (Job controller job) (Stepped done message) notes =
+    record notes {
+      jobs = left_open controller job done.reply notes.jobs;
+      committed = if tells_commit done then segments_of controller job notes.jobs ++ notes.committed else notes.committed;
+    }
+event_noted (event.Reply message) (Took instance p q stands) notes = committed_if (knows_commit stands) p q notes
 event_noted (CrashController controller) outcome notes =
     record notes { jobs = filter (λ w. not (w.controller.0 == controller.0)) notes.jobs }
-event_noted (ShowMeta partition sequence) outcome notes = shown_noted partition sequence outcome notes
-event_noted (Retain controller partition) outcome notes = retired_noted partition outcome notes
+event_noted (ShowMeta p q) (Shown seen) notes = committed_if (shows_done seen) p q notes
+event_noted (Retain controller p) (Retired (Deleted q)) notes =
+    record notes { deleted = record { partition = p; sequence = q } ∷ notes.deleted }
 event_noted event outcome notes = notes
 
 -- an exchange tells of a commit of its segment by the reply, a COMMIT_SUCCESS, or by where the replica then stands
 abbrev pub exchange_noted : Partition → Sequence → ReplyStatus → ReplicaState → Notes → Notes
-exchange_noted partition sequence status stands notes =
-    record notes {
-      committed =
-          if is_success_status status || knows_commit stands
-          then record { partition = partition; sequence = sequence } ∷ notes.committed
-          else notes.committed;
-    }
+exchange_noted p q status stands notes = committed_if (is_success_status status || knows_commit stands) p q notes
 
 -- ---- what a line tells, by the ranges of the segments and the marks of the partitions
 
@@ -223,15 +176,12 @@ Marks = Partition → ℕ
 
 -- metadata that says DONE, over this range, which has an offset
 abbrev pub IsDoneOver : Range → SegMeta → Status → Type 0
-IsDoneOver range meta InProgress = ⊥
 IsDoneOver range meta (Done commit) = (range.start ≡ meta.start) × (range.end ≡ commit.end) × (range.start.0 < range.end.0)
-IsDoneOver range meta Abandoned = ⊥
+IsDoneOver range meta other = ⊥
 
 abbrev pub SaysDone : Range → Node → Type 0
 SaysDone range (node.Meta meta) = IsDoneOver range meta meta.status
-SaysDone range (node.Ideal state) = ⊥
-SaysDone range node.Boot = ⊥
-SaysDone range node.Gone = ⊥
+SaysDone range other = ⊥
 
 -- the node that is shown says so, and the range lies above the mark; or none is there, and the range lies below the mark
 abbrev pub ShowsDone : Range → ℕ → Option Seen → Type 0
@@ -243,20 +193,16 @@ abbrev pub StandFrom : Ranges → Marks → Notes → Partition → Sequence →
 StandFrom ranges marks notes p q =
     (s : Segment) → Has notes.committed s → s.partition ≡ p → q.0 ≤ s.sequence.0 → marks p ≤ (ranges s.partition s.sequence).start.0
 
--- so it is shown of a segment that was told to be committed, and of one that is shown DONE now; and where a node is there, whatever it says, no
--- later segment is gone
-abbrev pub ShowsSo : Ranges → Marks → Notes → Partition → Sequence → Outcome → Type 0
-ShowsSo ranges marks notes p q (Shown seen) =
+-- a segment that was told to be committed is shown so, and one that is shown DONE now; and where a node is there, whatever it says, no later
+-- segment is gone. A job commits its segment up to the offset of its commitEnd
+abbrev pub TellsSo : Ranges → Marks → Notes → Event → Outcome → Type 0
+TellsSo ranges marks notes (ShowMeta p q) (Shown seen) =
     (Has notes.committed (record { partition = p; sequence = q }) → ShowsDone (ranges p q) (marks p) seen)
     × (shows_done seen ≡ true → ShowsDone (ranges p q) (marks p) seen)
     × IfSome seen (λ node. StandFrom ranges marks notes p q)
-ShowsSo ranges marks notes p q other = Unit {0}
-
--- a job commits its segment up to the offset of its commitEnd
-abbrev pub StepsSo : Ranges → Notes → ControllerId → ℕ → Outcome → Type 0
-StepsSo ranges notes c j (Stepped done message) =
+TellsSo ranges marks notes (Job c j) (Stepped done message) =
     (w : Working) → tells_commit done ≡ true → Has notes.jobs w → is_job c j w ≡ true → (ranges w.segment.partition w.segment.sequence).end ≡ w.end
-StepsSo ranges notes c j other = Unit {0}
+TellsSo ranges marks notes event outcome = Unit {0}
 
 -- nothing is missing of a partition
 abbrev pub MissesNothing : Answer → Partition → Type 0
@@ -280,12 +226,6 @@ pub record NamesSo (setup : Setup) (ranges : Ranges) (marks : Marks) (notes : No
   pub missed : (p : Partition) (q : Sequence) → Has answer.missing (p, Some q) → StandFrom ranges marks notes p q
   pub through : (p : Partition) → p.0 < setup.partitions → MissesNothing answer p → GoesThrough ranges marks notes p (ranges_at p answer.ranges)
 
--- what an event tells
-abbrev pub TellsSo : Ranges → Marks → Notes → Event → Outcome → Type 0
-TellsSo ranges marks notes (ShowMeta p q) outcome = ShowsSo ranges marks notes p q outcome
-TellsSo ranges marks notes (Job c j) outcome = StepsSo ranges notes c j outcome
-TellsSo ranges marks notes event outcome = Unit {0}
-
 -- ---- a report
 
 -- the text of an event is that of its outcome; but a `consume` may be held, and no more is read of its text
@@ -294,12 +234,8 @@ IsTold (Consume instance partition sequence max) text outcome = Unit {0}
 IsTold event text outcome = text ≡ outcome_text event outcome
 
 -- a step of a job names a message exactly where it has a reply, so that its text shows whether it has one
-abbrev pub NamesReply : Outcome → Type 0
-NamesReply (Stepped done message) = is_none message ≡ is_none done.reply
-NamesReply other = Unit {0}
-
 abbrev pub IsPaired : Event → Outcome → Type 0
-IsPaired (Job controller job) outcome = NamesReply outcome
+IsPaired (Job controller job) (Stepped done message) = is_none message ≡ is_none done.reply
 IsPaired event outcome = Unit {0}
 
 -- an event tells so, and the lines behind it do with what is then noted
