@@ -1,6 +1,6 @@
 -- What the reading calls give.
 use Rattle.std.specs.List.{position}
-use Rattle.std.specs.Prelude.{Bool, List, None, Option, Some, [], false, if◌then◌else◌, nat_le, nat_lt, slice_get, suc, zero, ℕ, ◌&&◌, ◌++◌, ◌-◌, ◌∷◌, ◌≡◌}
+use Rattle.std.specs.Prelude.{Bool, Err, List, None, Ok, Option, Result, Some, [], false, if◌then◌else◌, nat_le, nat_lt, slice_get, suc, zero, ℕ, ◌&&◌, ◌++◌, ◌-◌, ◌∷◌, ◌≡◌}
 use Rattle.rt_base.specs.declared.gate.NodeId.{NodeId}
 use Rattle.rt_base.specs.declared.limits.TheConstants.{MOST_EVENTS}
 use Rattle.rt_base.specs.declared.limits.TheConstants.{LAST_NUMBER}
@@ -10,6 +10,7 @@ use Rattle.rt_base.specs.declared.numbers.Offset.{Offset}
 use Rattle.rt_base.specs.declared.numbers.Partition.{Partition}
 use Rattle.rt_base.specs.declared.numbers.Sequence.{Sequence}
 use Rattle.rt_broker.specs.Asking.{Asking, pieces_at}
+use Rattle.rt_events.specs.declared.refusal.Refusal.{Refusal}
 use Rattle.rt_model.specs.History.{value_of}
 use Rattle.rt_model.specs.Metadata.{metadata_of}
 use Rattle.rt_model.specs.declared.ideal_state.IdealState.{IdealState}
@@ -21,14 +22,17 @@ use Rattle.rt_model.specs.declared.replica_state.ReplicaState.{ReplicaState}
 use Rattle.rt_model.specs.declared.status.Status.{Status}
 use Rattle.rt_model.specs.declared.status.Status.TheVariants.{InProgress, Done, Abandoned}
 use Rattle.rt_pause.specs.declared.replica_seen.ReplicaSeen.{ReplicaSeen}
+use Rattle.rt_consumer.specs.Next.{next_of}
 use Rattle.rt_consumer.specs.Requests.{is_ready}
 use Rattle.rt_consumer.specs.declared.consumer.Consumer.{Consumer}
+use Rattle.rt_consumer.specs.declared.next.ReplicaDue.{ReplicaDue}
 use Rattle.rt_server.specs.Due.{due_of as due_segments, wanted_of, held_of}
 use Rattle.rt_server.specs.Resting.{rests_in, stands_so}
 use Rattle.rt_server.specs.Table.{Segment, Segments}
 use Rattle.rt_entry.specs.declared.served_rows.ServedRows.{ServedRows}
 use Rattle.rt_stream.specs.Log.{messages_of, end_of}
-use Rattle.rt_state.specs.Finding.{is_server_up, is_controller_up, replica_at, query_at}
+use Rattle.rt_state.specs.Finding.{find_server, is_server_up, is_controller_up, replica_at, query_at}
+use Rattle.rt_state.specs.Room.{Found}
 use Rattle.rt_nodes.specs.declared.server_node.ServerNode.{ServerNode}
 use Rattle.rt_state.specs.declared.state.State.{State}
 use Rattle.rt_model.specs.declared.node.Key.TheVariants as key
@@ -92,6 +96,21 @@ is_ready_in w i p q = is_ready_by w p (replica_at w i p q)
 
 abbrev pub is_ready_at : State → Instance → Partition → Sequence → Bool
 is_ready_at w i p q = nat_lt p.0 w.setup.partitions && is_ready_in w i p q
+
+abbrev pub next_by : State → Partition → Option Consumer → Option ReplicaDue
+next_by w p None = None
+next_by w p (Some r) = next_of r (length_of w p) w.moment
+
+abbrev pub next_in : State → Instance → Partition → Sequence → Option ReplicaDue
+next_in w i p q = next_by w p (replica_at w i p q)
+
+abbrev pub next_found : Found → Option ReplicaDue → Result (Option ReplicaDue) Refusal
+next_found (Ok u) due = Ok due
+next_found (Err e) due = Err e
+
+-- what the replica of a segment has to do next; refused as an event of it is, for its server or its partition
+abbrev pub next_at : State → Instance → Partition → Sequence → Result (Option ReplicaDue) Refusal
+next_at w i p q = next_found (find_server w i p) (next_in w i p q)
 
 abbrev pub listed_by : (Segments → List Segment) → Option ServerNode → List Segment
 listed_by lists None = []

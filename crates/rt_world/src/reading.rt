@@ -1,9 +1,10 @@
 //! What is read of a state, list by list.
 ghost use Rattle.std.specs.Prelude.{◌≡◌, ◌<◌, ◌++◌, length, slice_get, IfOk, OnOk, Some};
 ghost use Rattle.rt_model.specs.declared.ideal_state.IdealState.{IdealState as AnIdealState};
-ghost use Rattle.rt_world.specs.Reading.{ideal_in, is_ready_in, replicas_seen, seen_at};
+ghost use Rattle.rt_world.specs.Reading.{ideal_in, is_ready_in, next_in, replicas_seen, seen_at};
 
 use rt_base::{Instance, Partition, Sequence};
+use rt_consumer::ReplicaDue;
 use rt_lists::Items;
 use rt_model::{IdealState, Key, Node, Piece};
 use rt_pause::ReplicaSeen;
@@ -23,6 +24,22 @@ pub(crate) fn ready(
     match state.replica(instance, partition, sequence) {
         Some(replica) => replica.ready(state.log.size(partition), state.moment),
         None => false,
+    }
+}
+
+/// What a replica has to do next.
+pub(crate) fn next(
+    state: &State,
+    instance: Instance,
+    partition: Partition,
+    sequence: Sequence,
+) -> Option<ReplicaDue>
+    requires { partition.0 < length state.now.log }
+    ensures { result ≡ next_in state.now instance partition sequence }
+{
+    match state.replica(instance, partition, sequence) {
+        Some(replica) => replica.next(state.log.size(partition), state.moment),
+        None => None,
     }
 }
 

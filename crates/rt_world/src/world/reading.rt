@@ -10,6 +10,7 @@ ghost use Rattle.rt_world.specs.Reading.{
   length_of,
   end_in,
   is_ready_at,
+  next_at,
   due_transits_of,
   wanted_in,
   held_in,
@@ -25,10 +26,12 @@ ghost use Rattle.rt_world.specs.Reading.{
 use crate::World;
 use crate::ends::end_of;
 use crate::leaders::leader;
-use crate::reading::{copied_pieces, ideal, ready, replicas};
+use crate::reading::{copied_pieces, ideal, next, ready, replicas};
 use rt_base::limits::MOST_EVENTS;
 use rt_base::{ControllerId, Instance, NodeId, Offset, Partition, Sequence};
 use rt_broker::Plan;
+use rt_consumer::ReplicaDue;
+use rt_events::Refusal;
 use rt_lists::Items;
 use rt_model::{IdealState, Listed, Piece};
 use rt_pause::{ReplicaSeen, Stage};
@@ -89,6 +92,28 @@ impl World {
     {
         partition.0 < self.state.setup.partitions
             && ready(&self.state, instance, partition, sequence)
+    }
+
+    /// What the replica of a segment has to do next; None where it has to wait, and without a replica. Refused as an event
+    /// of it is: NoSuchNode where there is no such server or partition, and NodeDown where the server is down. Takes no
+    /// memory.
+    pub fn next(
+        &self,
+        instance: Instance,
+        partition: Partition,
+        sequence: Sequence,
+    ) -> Result<Option<ReplicaDue>, Refusal>
+        requires { IsFalse self.now.spent }
+        ensures { result ≡ next_at self.now.state instance partition sequence }
+    {
+        let has_server = (instance.0 as usize) < self.state.servers.len();
+        if !(has_server && partition.0 < self.state.setup.partitions) {
+            return Err(Refusal::NoSuchNode);
+        }
+        if !self.state.is_server_up(instance) {
+            return Err(Refusal::NodeDown);
+        }
+        Ok(next(&self.state, instance, partition, sequence))
     }
 
     /// The segments of a server whose transition is due, ascending. Fails only where memory is refused.
