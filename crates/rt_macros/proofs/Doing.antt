@@ -1,5 +1,5 @@
 -- How what comes of several things is put together.
-use Rattle.std.proofs.Common.{◌≡◌, ◌+◌, ◌<◌, ◌≤◌, ℕ, suc, List, [], ◌∷◌, ◌++◌, length, drop, get_or, Result, Ok, Err, refl, sym, subst, append_assoc, append-nil}
+use Rattle.std.proofs.Common.{◌≡◌, ◌+◌, ◌<◌, ◌≤◌, ℕ, suc, false, List, [], ◌∷◌, ◌++◌, length, drop, get_or, Result, Ok, Err, refl, sym, subst, append_assoc, append-nil}
 use Rattle.std.proofs.lemmas.List.{drop_all, drop_more}
 use Rattle.rt_events.specs.declared.refusal.Refusal.{Refusal}
 use Rattle.rt_events.specs.declared.refusal.Refusal.TheVariants.{NoSuchMessage, NoSuchNode, NodeDown, NothingToDo, Limit, Memory}
@@ -138,6 +138,23 @@ does_told first tell w new told d = (
     led = d.1.led;
   },
 )
+
+-- nothing happened, and this came of it
+pub does_nothing : {A : Type 0} (act : Act A) (old : Kept) (result : Result A Refusal) → old.spent ≡ false → act old.state (stays old.state) result
+    → Does act old.state old result
+does_nothing act old (Ok x) unspent came = (unspent, record { turns = []; came = came; led = refl })
+does_nothing act old (Err NoSuchMessage) unspent came = (unspent, record { turns = []; came = came; led = refl })
+does_nothing act old (Err NoSuchNode) unspent came = (unspent, record { turns = []; came = came; led = refl })
+does_nothing act old (Err NodeDown) unspent came = (unspent, record { turns = []; came = came; led = refl })
+does_nothing act old (Err NothingToDo) unspent came = (unspent, record { turns = []; came = came; led = refl })
+does_nothing act old (Err (Limit which)) unspent came = (unspent, record { turns = []; came = came; led = refl })
+does_nothing act old (Err Memory) unspent came = λ still. led_nowhere old.state
+
+-- a thing of which nothing came, and what comes behind it
+pub behind_nothing : {A B : Type 0} (first : Act A) (behind : A → Act B) (old new : Kept) (told : A) (result : Result B Refusal)
+    → old.spent ≡ false → first old.state (stays old.state) (Ok told) → Does (behind told) old.state new result → Does (Then first behind) old.state new result
+behind_nothing first behind old new told result unspent came further =
+    does_then first behind old.state old new told result (does_nothing first old (Ok told) unspent came) further
 
 -- a thing that was tried, and what comes behind it
 comes_tried : {A B : Type 0} (first : Act A) (behind : Result A Refusal → Act B) (w m v : State) (told : Result A Refusal) (result : Result B Refusal)

@@ -1,10 +1,9 @@
--- Replicas to which no turn comes, or a part of it alone: what they are in tells that they have nothing to do.
+-- Replicas to which no turn comes: what they are in tells that they have nothing to do.
 use Rattle.std.specs.Prelude.{Bool, Option, None, if◌then◌else◌}
 use Rattle.rt_base.specs.declared.numbers.Instance.{Instance}
 use Rattle.rt_macros.specs.Settling.{SegmentAt}
 use Rattle.rt_model.specs.declared.replica_state.ReplicaState.{ReplicaState}
 use Rattle.rt_state.specs.Finding.{has_partition}
-use Rattle.rt_state.specs.Replicas.{takes_in}
 use Rattle.rt_state.specs.declared.state.State.{State}
 use Rattle.rt_world.specs.Reading.{stage_at}
 pub use Rattle.rt_server.specs.Resting.{rests_in, stands_so}
@@ -16,7 +15,3 @@ standing_in w instance segment = if has_partition w segment.0 then stage_at w in
 -- a replica that neither takes, builds nor asks any more
 abbrev pub rests_at : State → Instance → SegmentAt → Bool
 rests_at w instance segment = stands_so rests_in (standing_in w instance segment)
-
--- one that takes messages, and so neither builds nor asks
-abbrev pub takes_at : State → Instance → SegmentAt → Bool
-takes_at w instance segment = stands_so takes_in (standing_in w instance segment)

@@ -1,4 +1,5 @@
-ghost use Rattle.std.specs.Prelude.{◌≡◌, ◌<◌, false};
+ghost use Rattle.std.specs.Prelude.{◌≡◌, Ok, Some, false};
+ghost use Rattle.rt_consumer.specs.declared.next.ReplicaDue.TheVariants.{Consume};
 ghost use Rattle.rt_macros.specs.Doing.{Does, Each};
 ghost use Rattle.rt_macros.specs.Settling.{
   BuildAndExchange,
@@ -18,14 +19,15 @@ ghost use Rattle.rt_macros.specs.Settling.{
   SettlesIn,
   Transits,
   TransitsAndDownloads,
-  may_consume,
   waits_in,
 };
+ghost use Rattle.rt_world.specs.Reading.{next_at};
 
 use crate::acting::{act, attempt, happen};
 use crate::exchanging::finish_exchange;
-use crate::resting::{resting, takes};
+use crate::resting::resting;
 use rt_base::{ControllerId, Instance, NodeId, Partition, Sequence};
+use rt_consumer::ReplicaDue;
 use rt_pause::Pause;
 use rt_world::{Event, Outcome, Refusal, World};
 use std::alloc::Global;
@@ -266,8 +268,8 @@ fn turn_all(
     Ok(busy)
 }
 
-// A replica consumes, builds and makes an exchange, each where it is due.
-#[tactic(auto, using(crate::proofs::Doing::does_then, crate::proofs::Doing::does_refused, crate::proofs::Doing::does_told))]
+// A replica consumes, builds and makes an exchange, each where it is what it has to do next.
+#[tactic(auto, using(crate::proofs::Next::turn_refused))]
 fn replica_turn(
     alloc: Global,
     world: &mut World,
@@ -280,36 +282,36 @@ fn replica_turn(
     requires { world.old.spent ≡ false }
     ensures { Does (ReplicaTurn pause.now instance (partition, sequence) busy) world.old.state world.new result }
 {
-    let busy = consume_turn(alloc, world, pause, instance, partition, sequence, busy)?;
-    build_and_exchange(alloc, world, instance, partition, sequence, busy)
+    match world.next(instance, partition, sequence)? {
+        Some(ReplicaDue::Consume) => consume_first(
+            alloc, world, pause, instance, partition, sequence, busy,
+        ),
+        Some(ReplicaDue::Build) => build_first(alloc, world, instance, partition, sequence, busy),
+        Some(ReplicaDue::Ask) => exchange_turn(alloc, world, instance, partition, sequence, busy),
+        None => Ok(busy),
+    }
 }
 
-// A replica builds and makes an exchange, each where it is due; one that takes messages does neither.
-#[tactic(auto, using(crate::proofs::Idle::takes_turn, crate::proofs::Doing::does_then, crate::proofs::Doing::does_refused, crate::proofs::Doing::does_told))]
-fn build_and_exchange(
+// A replica that has to consume next does so, and goes on with what is next then.
+#[tactic(auto, using(crate::proofs::Doing::does_then, crate::proofs::Doing::does_refused, crate::proofs::Doing::does_told))]
+fn consume_first(
     alloc: Global,
     world: &mut World,
+    pause: &Pause,
     instance: Instance,
     partition: Partition,
     sequence: Sequence,
     busy: bool,
 ) -> Result<bool, Refusal>
-    requires { world.old.spent ≡ false }
-    ensures { Does (BuildAndExchange instance (partition, sequence) busy) world.old.state world.new result }
+    requires unspent { world.old.spent ≡ false }
+    requires next { next_at world.old.state instance partition sequence ≡ Ok (Some Consume) }
+    ensures { Does (ReplicaTurn pause.now instance (partition, sequence) busy) world.old.state world.new result }
 {
-    if takes(world, instance, partition, sequence) {
-        return Ok(busy);
-    }
-    let build = Event::Build {
-        instance,
-        partition,
-        sequence,
-    };
-    let busy = attempt(alloc, world, build, busy)?;
-    exchange_turn(alloc, world, instance, partition, sequence, busy)
+    let busy = consume_turn(alloc, world, pause, instance, partition, sequence, busy)?;
+    build_and_exchange(alloc, world, instance, partition, sequence, busy)
 }
 
-// A replica of a paused run that hasn't begun to consume is left out.
+// A replica that has to consume next does so; one of a paused run that hasn't begun to consume is left out.
 fn consume_turn(
     alloc: Global,
     world: &mut World,
@@ -319,10 +321,11 @@ fn consume_turn(
     sequence: Sequence,
     busy: bool,
 ) -> Result<bool, Refusal>
-    requires { world.old.spent ≡ false }
+    requires unspent { world.old.spent ≡ false }
+    requires next { next_at world.old.state instance partition sequence ≡ Ok (Some Consume) }
     ensures { Does (ConsumeTurn pause.now instance (partition, sequence) busy) world.old.state world.new result }
 {
-    if !may_consume(world, pause, instance, partition, sequence) {
+    if waits(world, pause, instance, partition, sequence) {
         return Ok(busy);
     }
     let consume = Event::Consume {
@@ -334,19 +337,47 @@ fn consume_turn(
     attempt(alloc, world, consume, busy)
 }
 
-// Whether a replica has something to consume, and doesn't wait.
-fn may_consume(
-    world: &World,
-    pause: &Pause,
+// A replica builds and makes an exchange, each where it is what it has to do next.
+#[tactic(auto, using(crate::proofs::Next::rest_refused))]
+fn build_and_exchange(
+    alloc: Global,
+    world: &mut World,
     instance: Instance,
     partition: Partition,
     sequence: Sequence,
-) -> bool
-    requires { world.now.spent ≡ false }
-    ensures { result ≡ may_consume pause.now world.now.state instance (partition, sequence) }
+    busy: bool,
+) -> Result<bool, Refusal>
+    requires { world.old.spent ≡ false }
+    ensures { Does (BuildAndExchange instance (partition, sequence) busy) world.old.state world.new result }
 {
-    world.ready(instance, partition, sequence)
-        && !waits(world, pause, instance, partition, sequence)
+    match world.next(instance, partition, sequence)? {
+        Some(ReplicaDue::Consume) => Ok(busy),
+        Some(ReplicaDue::Build) => build_first(alloc, world, instance, partition, sequence, busy),
+        Some(ReplicaDue::Ask) => exchange_turn(alloc, world, instance, partition, sequence, busy),
+        None => Ok(busy),
+    }
+}
+
+// A replica builds, and makes an exchange where one is due then.
+#[tactic(auto, using(crate::proofs::Doing::does_then, crate::proofs::Doing::does_refused, crate::proofs::Doing::does_told))]
+fn build_first(
+    alloc: Global,
+    world: &mut World,
+    instance: Instance,
+    partition: Partition,
+    sequence: Sequence,
+    busy: bool,
+) -> Result<bool, Refusal>
+    requires { world.old.spent ≡ false }
+    ensures { Does (BuildAndExchange instance (partition, sequence) busy) world.old.state world.new result }
+{
+    let build = Event::Build {
+        instance,
+        partition,
+        sequence,
+    };
+    let busy = attempt(alloc, world, build, busy)?;
+    exchange_turn(alloc, world, instance, partition, sequence, busy)
 }
 
 /// Whether the replica of a segment waits for the run to be resumed before it begins to consume.

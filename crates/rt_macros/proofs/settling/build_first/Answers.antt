@@ -1,6 +1,6 @@
 use Rattle.rt_macros.proofs.Doing.{does_then}
 use Rattle.rt_macros.specs.Settling.{BuildTurn, ExchangeTurn}
-use Rattle.rt_macros.proofs.settling.build_and_exchange.Goals as goal
+use Rattle.rt_macros.proofs.settling.build_first.Goals as goal
 
 pub returns : goal.returns
 returns c =

@@ -1,6 +1,6 @@
 use Rattle.rt_macros.proofs.Doing.{does_then}
 use Rattle.rt_macros.specs.Settling.{BuildAndExchange, ConsumeTurn}
-use Rattle.rt_macros.proofs.settling.replica_turn.Goals as goal
+use Rattle.rt_macros.proofs.settling.consume_first.Goals as goal
 
 pub returns : goal.returns
 returns c =
