@@ -3,6 +3,7 @@ pub mod AnswerTexts
 pub mod AnswerWords
 pub mod Beginnings
 pub mod BesideKept
+pub mod Causes
 pub mod Coming
 pub mod ComingLines
 pub mod ComingMacros
@@ -43,6 +44,7 @@ pub mod Pairing
 pub mod PausedRuns
 pub mod Plans
 pub mod Playing
+pub mod QueriesKept
 pub mod QueryLines
 pub mod Ranged
 pub mod Readings

@@ -43,7 +43,7 @@ use Rattle.rt_views.specs.declared.found.Found.{Found}
 -- ---- an answer
 
 -- what a server gave for a piece is a refusal
-gave_none : (n : ServerNode) (piece : Piece) (query : Query) (what : PieceGot) (up : Bool) → n.up ≡ up → GivesIf up n piece query what → IsRefusal what
+pub gave_none : (n : ServerNode) (piece : Piece) (query : Query) (what : PieceGot) (up : Bool) → n.up ≡ up → GivesIf up n piece query what → IsRefusal what
     → (n.up ≡ false) ⊎ ((reached : Option Offset) × (serve n.server.table piece ≡ Err (NotServed reached)))
 gave_none n piece query what false e gives refusal = inl e
 gave_none n piece query (got.Served served) true e gives refusal = absurd refusal

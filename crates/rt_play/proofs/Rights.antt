@@ -1,10 +1,11 @@
--- Every safe world is right, and every run keeps what it had.
+-- Every safe world is right, every run keeps what it had, and what its answers miss has its cause.
 use Rattle.std.proofs.Common.{◌≡◌, List, Some, slice_get}
 use Rattle.rt_base.specs.declared.numbers.Instance.{Instance}
 use Rattle.rt_model.specs.Setup.{IsSetup}
 use Rattle.rt_model.specs.declared.setup.Setup.{Setup}
 use Rattle.rt_macros.specs.Doing.{Reached}
 use Rattle.rt_nodes.specs.declared.server_node.ServerNode.{ServerNode}
+use Rattle.rt_play.proofs.Causes.{run_misses}
 use Rattle.rt_play.specs.Headline.{IsRight, IsRightPast, IsRightServer, Keeps, RunsRightly}
 use Rattle.rt_safety.proofs.Answering.{answers_right}
 use Rattle.rt_safety.proofs.CommitOpens.{commit_opens}
@@ -57,4 +58,5 @@ runs_rightly setup last is runs = record {
   runs = runs;
   right = λ before after w whole run. world_is_right w (runs_are_safe setup before w is run);
   keeps = λ before between after w v whole run led. keeps_all w v between (runs_are_safe setup before w is run) led;
+  misses = λ before after w whole run. run_misses setup before w is run;
 }

@@ -45,6 +45,7 @@ use Rattle.rt_past.specs.Replies.{IsReply}
 use Rattle.rt_past.specs.Requests.{IsRequest}
 use Rattle.rt_past.specs.Segments.{WasDone}
 use Rattle.rt_play.specs.Beginning.{beginning_of, going_from}
+use Rattle.rt_play.specs.Causes.{MissesForCause}
 use Rattle.rt_play.specs.Generating.{FrontBy, IsGeneratedFrom, generated_setup}
 use Rattle.rt_play.specs.Plays.{PlaysBy, Tells}
 use Rattle.rt_play.specs.Report.{FrontRuns, IsReportFrom, Report, end_of, stopped}
@@ -126,11 +127,13 @@ pub record Keeps (w v : State) : Type 0 where
   pub goes : GoesOn w v
   pub committed : (p : Partition) → p.0 < w.setup.partitions → KeepsCommitted w.store.writes v.store.writes p
 
--- these turns lead from the first world of a cluster to this one; each world on the way is right, and keeps what those before it had
+-- these turns lead from the first world of a cluster to this one; each world on the way is right, and keeps what those before it had; and an
+-- answer that is given in one of them misses nothing without its cause in the turns before
 pub record RunsRightly (setup : Setup) (last : Reached) : Type 0 where
   pub runs : Runs setup last.turns last.world
   pub right : (before after : List Turn) (w : State) → last.turns ≡ before ++ after → Runs setup before w → IsRight w
   pub keeps : (before between after : List Turn) (w v : State) → last.turns ≡ before ++ (between ++ after) → Runs setup before w → Leads w between v → Keeps w v
+  pub misses : (before after : List Turn) (w : State) → last.turns ≡ before ++ after → Runs setup before w → MissesForCause setup before w
 
 -- ---- reports
 

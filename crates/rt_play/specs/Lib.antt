@@ -1,5 +1,6 @@
 pub mod AnswerTexts
 pub mod Beginning
+pub mod Causes
 pub mod Generating
 pub mod Going
 pub mod Headline

@@ -6,9 +6,13 @@ ghost use Rattle.rt_lists.specs.Members.{Has};
 ghost use Rattle.rt_macros.specs.Doing.{Reached};
 ghost use Rattle.rt_macros.specs.Querying.{QueryTold};
 ghost use Rattle.rt_model.specs.Checked.{IsQuery};
+ghost use Rattle.rt_model.specs.Setup.{IsSetup};
 ghost use Rattle.rt_model.specs.declared.piece.Piece.{Piece};
 ghost use Rattle.rt_model.specs.declared.query.Query.{Query};
+ghost use Rattle.rt_model.specs.declared.setup.Setup.{Setup};
+ghost use Rattle.rt_play.specs.Causes.{MissesForCause};
 ghost use Rattle.rt_play.specs.Missed.{MissesSo};
+ghost use Rattle.rt_safety.specs.Runs.{Runs, Turn};
 ghost use Rattle.rt_state.specs.IsSafeWorld.{IsSafeWorld};
 ghost use Rattle.rt_state.specs.declared.state.State.{State};
 ghost use Rattle.rt_views.specs.Plans.{assigned_to, pieces_now, rows_from};
@@ -20,6 +24,14 @@ ghost use Rattle.rt_views.specs.declared.found.Found.{Found};
 pub fn a_query_line_misses_what_no_server_serves()
     ensures { (query : Query) (w : State) (v : Reached) (text : List ℕ) → IsSafeWorld w → IsQuery w.setup.schema query → QueryTold query w v (Ok text)
         → MissesSo w text }
+{}
+
+/// An answer of a run, of an `answer` line or of a `query` line, misses nothing without its cause in the turns before it. Where a piece is
+/// missing, each of the partition's servers was asked for it for this query, and was down in the world in which it was asked, or didn't serve
+/// it; and the piece is one of the plan with which the query's partition was routed. Where a partition is missing whole, it was to be routed for
+/// this query, and the store failed, as was planned.
+pub fn an_answer_misses_what_was_refused()
+    ensures { (setup : Setup) (turns : List Turn) (w : State) → IsSetup setup → Runs setup turns w → MissesForCause setup turns w }
 {}
 
 /// A view misses a piece only where no server of the partition that is up serves it; and one that takes all pieces of a partition from one
