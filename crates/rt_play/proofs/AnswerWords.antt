@@ -19,10 +19,9 @@ use Rattle.rt_model.specs.Metadata.{listed_write, metadata_of}
 use Rattle.rt_model.specs.declared.answer.Answer.{Answer}
 use Rattle.rt_model.specs.declared.piece.Piece.{Piece}
 use Rattle.rt_play.proofs.AllHave.{each_all}
-use Rattle.rt_play.proofs.NamedRanges.{named_produced}
+use Rattle.rt_play.proofs.NamedRanges.{AreProduced, named_produced}
 use Rattle.rt_play.proofs.Plans.{piece_listed}
 use Rattle.rt_play.specs.AnswerTexts.{AreWords, IsWord}
-use Rattle.rt_play.specs.Reader.{AreProduced}
 use Rattle.rt_safety.proofs.Answering.{few_at}
 use Rattle.rt_safety.specs.IsAnswered.{IsAnswered}
 use Rattle.rt_state.proofs.Bounds.{few_writes}

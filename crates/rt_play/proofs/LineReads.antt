@@ -28,6 +28,7 @@ use Rattle.rt_model.specs.declared.query.Query.{Query}
 use Rattle.rt_model.specs.declared.setup.Setup.{Setup}
 use Rattle.rt_play.proofs.AnswerWords.{answer_produced, answer_words}
 use Rattle.rt_play.proofs.LineAnswers.{AnswersHere, asked_behind, produced_behind}
+use Rattle.rt_play.proofs.NamedRanges.{produced_order, produced_within}
 use Rattle.rt_play.specs.Reader.{CountsProduced, filled}
 use Rattle.rt_report.specs.BrokerTexts.{answer_line}
 use Rattle.rt_report.specs.MacroTexts.{filled_text}
@@ -179,7 +180,8 @@ answered w number answer queries safe is k = record {
     answer = answer;
     told = same;
     words = answer_words w number answer is safe;
-    ranges = answer_produced w number answer is;
+    order = produced_order w.log 0 0 answer.ranges (answer_produced w number answer is);
+    within = produced_within w.log 0 0 answer.ranges (answer_produced w number answer is);
     rows = is.right.rows;
   };
 }

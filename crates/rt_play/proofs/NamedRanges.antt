@@ -1,12 +1,16 @@
 -- The ranges that an answer names are in order, within what was produced.
 use Rattle.std.proofs.Common.{◌≡◌, ◌<◌, ◌≤◌, ◌+◌, ◌⊎◌, inl, inr, ◌==◌, ℕ, zero, suc, Bool, true, false, List, [], ◌∷◌, ◌++◌, length, map, All, cond, refl, sym, ◌∙◌, subst, arith}
 use Rattle.std.specs.List.{range_with_len}
+use Rattle.std.specs.Prelude.{AllPairs}
 use Rattle.std.proofs.lemmas.Bool.{eqb-true, eq-eqb, false≢true}
-use Rattle.std.proofs.lemmas.List.Elements.{All-head, All-tail}
+use Rattle.std.proofs.lemmas.List.Elements.{All-cons, All-head, All-nil, All-tail}
+use Rattle.std.proofs.lemmas.List.Kept.{AllPairs-cons}
 use Rattle.rt_base.specs.declared.numbers.Partition.{Partition}
 use Rattle.rt_base.specs.declared.range.Range.{Range}
+use Rattle.rt_lists.specs.Members.{Has}
 use Rattle.rt_model.specs.RightAnswer.{AreInOrder, IsServed, Routed, joined, merged, named_in, named_ranges, pieces_of, served_ranges}
-use Rattle.rt_play.specs.Reader.{AreProduced}
+use Rattle.rt_play.proofs.AllHave.{each_all}
+use Rattle.rt_play.specs.Reader.{LiesBefore}
 use Rattle.rt_stream.specs.Log.{Log, messages_of}
 
 -- ---- of one partition
@@ -50,12 +54,22 @@ merged_apart most from (r ∷ rest) (first, le, order) all =
 
 -- ---- of all partitions
 
+-- ranges behind an offset of a partition, in order: each has an offset, ends within what was produced, and begins where the one before it
+-- ends, further on, or in a later partition
+abbrev pub AreProduced : Log → ℕ → ℕ → List (Partition × Range) → Type 0
+AreProduced log partition from [] = Unit {0}
+AreProduced log partition from (r ∷ rest) =
+    ((partition < r.0.0) ⊎ ((partition ≡ r.0.0) × (from ≤ r.1.start.0)))
+    × (r.1.start.0 < r.1.end.0)
+    × (r.1.end.0 ≤ length (messages_of log r.0))
+    × AreProduced log r.0.0 r.1.end.0 rest
+
 -- those of a later partition come behind any offset of an earlier one
 later_produced : (log : Log) (p q from : ℕ) (rs : List (Partition × Range)) → q < p → AreProduced log p 0 rs → AreProduced log q from rs
 later_produced log p q from [] lt h = tt
 later_produced log p q from (r ∷ rs) lt (place, more, within, rest) = (inl (by_place place), more, within, rest)
   where
-    by_place : (p < r.0.0) ⊎ ((r.0.0 ≡ p) × (0 ≤ r.1.start.0)) → q < r.0.0
+    by_place : (p < r.0.0) ⊎ ((p ≡ r.0.0) × (0 ≤ r.1.start.0)) → q < r.0.0
     by_place (inl further) = omega (arith, lt, further)
     by_place (inr (same, any)) = omega (arith, lt, same)
 
@@ -92,3 +106,35 @@ named_from log (r ∷ rest) k (suc n) e all =
 pub named_produced : (log : Log) (routed : List Routed) (n : ℕ) → map (λ r. r.partition.0) routed ≡ range_with_len 0 n → All (IsServed log) routed
     → AreProduced log 0 0 (named_ranges routed)
 named_produced log routed n e all = named_from log routed 0 n e all
+
+-- ---- each of them
+
+abbrev IsBehind : ℕ → ℕ → Partition × Range → Type 0
+IsBehind p from r = (p < r.0.0) ⊎ ((p ≡ r.0.0) × (from ≤ r.1.start.0))
+
+behind : (log : Log) (p from : ℕ) (rs : List (Partition × Range)) (s : Partition × Range) → AreProduced log p from rs → Has rs s → IsBehind p from s
+behind log p from [] s h has = absurd has
+behind log p from (r ∷ rs) s (place, some, within, rest) (inl same) = subst (IsBehind p from) same place
+behind log p from (r ∷ rs) s (place, some, within, rest) (inr has) = further place (behind log r.0.0 r.1.end.0 rs s rest has)
+  where
+    further : IsBehind p from r → IsBehind r.0.0 r.1.end.0 s → IsBehind p from s
+    further (inl a) (inl b) = inl (omega (arith, a, b))
+    further (inl a) (inr b) = inl (omega (arith, a, b.0))
+    further (inr a) (inl b) = inl (omega (arith, a.0, b))
+    further (inr a) (inr b) = inr (a.0 ∙ b.0, omega (arith, a.1, some, b.1))
+
+-- each lies before each later one
+pub produced_order : (log : Log) (p from : ℕ) (rs : List (Partition × Range)) → AreProduced log p from rs → AllPairs LiesBefore rs
+produced_order log p from [] h = λ i j d lt within. absurd (omega (arith, within))
+produced_order log p from (r ∷ rs) (place, some, within, rest) =
+    AllPairs-cons LiesBefore r rs (each_all (LiesBefore r) rs (λ s has. behind log r.0.0 r.1.end.0 rs s rest has))
+    (produced_order log r.0.0 r.1.end.0 rs rest)
+
+-- each has an offset, within what was produced
+abbrev IsProduced : Log → Partition × Range → Type 0
+IsProduced log r = (r.1.start.0 < r.1.end.0) × (r.1.end.0 ≤ length (messages_of log r.0))
+
+pub produced_within : (log : Log) (p from : ℕ) (rs : List (Partition × Range)) → AreProduced log p from rs → All (IsProduced log) rs
+produced_within log p from [] h = All-nil (IsProduced log)
+produced_within log p from (r ∷ rs) (place, some, within, rest) =
+    All-cons (IsProduced log) r rs (some, within) (produced_within log r.0.0 r.1.end.0 rs rest)

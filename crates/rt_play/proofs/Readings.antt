@@ -1,5 +1,5 @@
 -- What is read of a report.
-use Rattle.std.proofs.Common.{◌≡◌, ℕ, List, [], ◌∷◌, ◌++◌, Option, Some, None, Result, Ok, Err, refl, sym, ◌∙◌, ap, subst}
+use Rattle.std.proofs.Common.{◌≡◌, ℕ, List, [], ◌∷◌, ◌++◌, map, Option, Some, None, Result, Ok, Err, refl, sym, ◌∙◌, ap, subst}
 use Rattle.std.specs.Prelude.{IfSome}
 use Rattle.std.proofs.lemmas.Option.{none-some}
 use Rattle.rt_lines.proofs.Headers.{header_taken}
@@ -47,21 +47,26 @@ said_reads (Some said) g turns h text safe fits run =
     let reads = line_reads said g.desk h.desk g.world (reached turns h.world) text safe fits run in
     record { log = reads.log; queries = reads.queries; answers = reads.answers }
 
+abbrev said_in : Setup → NumberedLine → Option Line
+said_in setup line = line_in setup line.1
+
 -- the lines that ran, and those behind them
 lines_read : (lines rest : List NumberedLine) (g : Going) (turns : List Turn) (h : Going) (texts : List (List ℕ)) (queries : List Query) → IsSafeWorld g.world
-    → AreAsked g.world queries → RunAll lines g turns h texts → AllAnswerSo g.world.setup (lines ++ rest) texts g.world.log queries
+    → AreAsked g.world queries → RunAll lines g turns h texts
+    → AllAnswerSo g.world.setup.schema (map (said_in g.world.setup) (lines ++ rest)) texts g.world.log queries
 lines_read [] rest g turns h texts queries safe k run =
-    subst (λ (ts : List (List ℕ)). AllAnswerSo g.world.setup rest ts g.world.log queries) (sym run.2) tt
+    subst (λ (ts : List (List ℕ)). AllAnswerSo g.world.setup.schema (map (said_in g.world.setup) rest) ts g.world.log queries) (sym run.2) tt
 lines_read (line ∷ lines) rest g turns h texts queries safe k run =
     let setup = g.world.setup in
     let said = line_in setup line.1 in
     let reads = said_reads said g run.own run.between run.text safe (line_fits setup.schema setup.table.name line.1) run.first in
     let keeps = line_keeps line g run.own run.between run.text safe run.first in
     let others = lines_read lines rest run.between run.more h run.others (asked_behind said queries) keeps.0 (reads.queries queries k) run.then_others in
-    subst (λ (ts : List (List ℕ)). AllAnswerSo setup (line ∷ (lines ++ rest)) ts g.world.log queries) (sym run.whole)
-    (answers_so setup.schema said run.text g.world.log queries (λ more asked. AllAnswerSo setup (lines ++ rest) run.others more asked) (reads.answers queries k)
-    (subst (λ (s : Setup). AllAnswerSo s (lines ++ rest) run.others (produced_behind said g.world.log) (asked_behind said queries)) keeps.1
-    (subst (λ (l : Log). AllAnswerSo run.between.world.setup (lines ++ rest) run.others l (asked_behind said queries)) reads.log others)))
+    let Rest : Setup → List (List ℕ) → Log → List Query → Type 0 = λ s. AllAnswerSo s.schema (map (said_in s) (lines ++ rest)) in
+    subst (λ (ts : List (List ℕ)). AllAnswerSo setup.schema (said ∷ map (said_in setup) (lines ++ rest)) ts g.world.log queries) (sym run.whole)
+    (answers_so setup.schema said run.text g.world.log queries (λ more asked. Rest setup run.others more asked) (reads.answers queries k)
+    (subst (λ (s : Setup). Rest s run.others (produced_behind said g.world.log) (asked_behind said queries)) keeps.1
+    (subst (λ (l : Log). Rest run.between.world.setup run.others l (asked_behind said queries)) reads.log others)))
 
 none_asked : (setup : Setup) → AreAsked (start setup) []
 none_asked setup = record { count = refl; same = λ q a at. absurd (none-some (Some a) at) }

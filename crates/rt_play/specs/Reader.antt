@@ -1,5 +1,5 @@
 -- What the report of a script tells of its answers, by the script and the report alone: each answer counts what was produced.
-use Rattle.std.specs.Prelude.{◌≡◌, ◌<◌, ◌≤◌, ◌⊎◌, ℕ, zero, suc, List, [], ◌∷◌, ◌++◌, length, replicate, Option, Some, slice_get}
+use Rattle.std.specs.Prelude.{◌≡◌, ◌<◌, ◌≤◌, ◌⊎◌, ℕ, zero, suc, List, [], ◌∷◌, ◌++◌, All, AllPairs, length, map, replicate, Option, Some, slice_get}
 use Rattle.rt_base.specs.declared.numbers.Partition.{Partition}
 use Rattle.rt_base.specs.declared.range.Range.{Range}
 use Rattle.rt_events.specs.declared.event.Event.TheVariants.{Answer, Ask, Produce}
@@ -28,22 +28,18 @@ filled log partition (suc count) = filled (with_message log partition (numbered_
 
 -- ---- an answer
 
--- ranges behind an offset of a partition, in order: each has an offset, ends within what was produced, and begins where the one before it
--- ends, further on, or in a later partition
-abbrev pub AreProduced : Log → ℕ → ℕ → List (Partition × Range) → Type 0
-AreProduced log partition from [] = Unit {0}
-AreProduced log partition from (r ∷ rest) =
-    ((partition < r.0.0) ⊎ ((r.0.0 ≡ partition) × (from ≤ r.1.start.0)))
-    × (r.1.start.0 < r.1.end.0) × (r.1.end.0 ≤ length (messages_of log r.0))
-    × AreProduced log r.0.0 r.1.end.0 rest
+-- a range is of an earlier partition than another one, or of the same, and ends where the other begins, or before
+abbrev pub LiesBefore : Partition × Range → Partition × Range → Type 0
+LiesBefore r s = (r.0.0 < s.0.0) ⊎ ((r.0.0 ≡ s.0.0) × (r.1.end.0 ≤ s.1.start.0))
 
--- a text is the line of an answer to a query, whose numbers fit words of 64 bits: it names ranges of what was produced, none of them twice, and
--- its rows are those of the query over exactly the messages that were produced at these offsets
+-- a text is the line of an answer to a query, whose numbers fit words of 64 bits: it names ranges in order, none of them twice, each of which has
+-- an offset and ends within what was produced; and its rows are those of the query over exactly the messages that were produced at these offsets
 pub record CountsProduced (schema : Schema) (log : Log) (query : Query) (text : List ℕ) : Type 0 where
   pub answer : AnswerGiven
   pub told : text ≡ answer_line answer
   pub words : AreWords answer
-  pub ranges : AreProduced log 0 0 answer.ranges
+  pub order : AllPairs LiesBefore answer.ranges
+  pub within : All (λ r. (r.1.start.0 < r.1.end.0) × (r.1.end.0 ≤ length (messages_of log r.0))) answer.ranges
   pub rows : answer.rows ≡ aggregate query (rows_of schema log answer.ranges)
 
 -- ---- a report
@@ -62,12 +58,12 @@ AnswersSo schema (Some (line.Event (Answer number))) text log queries later =
 AnswersSo schema other text log queries later = later log queries
 
 -- so it is of each line that has a text
-abbrev pub AllAnswerSo : Setup → List NumberedLine → List (List ℕ) → Log → List Query → Type 0
-AllAnswerSo setup lines [] log queries = Unit {0}
-AllAnswerSo setup [] (text ∷ texts) log queries = ⊥
-AllAnswerSo setup (line ∷ lines) (text ∷ texts) log queries =
-    AnswersSo setup.schema (line_in setup line.1) text log queries (λ more asked. AllAnswerSo setup lines texts more asked)
+abbrev pub AllAnswerSo : Schema → List (Option Line) → List (List ℕ) → Log → List Query → Type 0
+AllAnswerSo schema lines [] log queries = Unit {0}
+AllAnswerSo schema [] (text ∷ texts) log queries = ⊥
+AllAnswerSo schema (said ∷ lines) (text ∷ texts) log queries =
+    AnswersSo schema said text log queries (λ more asked. AllAnswerSo schema lines texts more asked)
 
 -- behind the header nothing was produced yet, and nothing was asked
 abbrev pub AnswersCount : Setup → List NumberedLine → List (List ℕ) → Type 0
-AnswersCount setup lines texts = AllAnswerSo setup lines texts (replicate setup.partitions []) []
+AnswersCount setup lines texts = AllAnswerSo setup.schema (map (λ line. line_in setup line.1) lines) texts (replicate setup.partitions []) []
