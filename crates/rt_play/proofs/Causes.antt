@@ -42,10 +42,10 @@ use Rattle.rt_nodes.specs.Queries.{Gives, piece_outcome, routed_by}
 use Rattle.rt_nodes.specs.declared.server_node.ServerNode.{ServerNode}
 use Rattle.rt_play.proofs.Leading.{leads_then}
 use Rattle.rt_play.proofs.Misses.{gave_none}
-use Rattle.rt_play.proofs.QueriesKept.{queries_stay}
 use Rattle.rt_play.specs.Causes.{Happened, IsCaused, MissesForCause, WasMissed, WasPlanned, WasRefused, WasUnrouted}
 use Rattle.rt_safety.proofs.Answering.{answers_right}
 use Rattle.rt_safety.proofs.Later.{leads_on, runs_are_safe}
+use Rattle.rt_safety.proofs.Produced.{quiet_leaves}
 use Rattle.rt_safety.specs.IsAnswered.{IsAnswered}
 use Rattle.rt_safety.specs.Runs.{Leads, Runs, Turn, TurnsTo, happens, passes}
 use Rattle.rt_state.specs.Applying.{Next}
@@ -376,7 +376,8 @@ module _ (setup : Setup) (turns : List Turn) (w : State) (o : Outcome) (v : Stat
   event_causes (event.Route q p) t = route_causes q p t
   event_causes (event.Piece q p s i) t = piece_causes q p s i t
   event_causes (event.Answer q) t = answer_causes q t
-  event_causes e t = none_put setup turns w (happens e o) v t k (queries_stay w v e o tt t.1)
+  event_causes (event.Produce p message) t = none_put setup turns w (happens (event.Produce p message) o) v t k (ap (λ (z : Next). z.0.queries) t.1.2)
+  event_causes e t = none_put setup turns w (happens e o) v t k (quiet_leaves w v e o tt t.1).1
 
 -- ---- turns
 

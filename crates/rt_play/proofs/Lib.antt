@@ -44,7 +44,6 @@ pub mod Pairing
 pub mod PausedRuns
 pub mod Plans
 pub mod Playing
-pub mod QueriesKept
 pub mod QueryLines
 pub mod Ranged
 pub mod Readings

@@ -15,7 +15,6 @@ use Rattle.rt_deep.specs.Meaning.{Told as ToldDeep}
 use Rattle.rt_events.specs.declared.event.Event.{Event}
 use Rattle.rt_events.specs.declared.event.Event.TheVariants as event
 use Rattle.rt_events.specs.declared.outcome.Outcome.{Outcome}
-use Rattle.rt_events.specs.declared.outcome.Outcome.TheVariants as told
 use Rattle.rt_lists.proofs.Members.{slice_get-append, slice_get-push}
 use Rattle.rt_model.specs.declared.job_step.JobStep.{JobStep}
 use Rattle.rt_model.specs.declared.piece.Piece.{Piece}
@@ -29,15 +28,12 @@ use Rattle.rt_nodes.specs.declared.upkeep.Upkeep.{Upkeep}
 use Rattle.rt_safety.specs.Produced.{AreAsked, appended, asked_in, log_after, queries_after}
 use Rattle.rt_safety.specs.Runs.{Turn, happens, passes, TurnsTo, Leads}
 use Rattle.rt_state.specs.Applying.{Next}
-use Rattle.rt_state.specs.Clock.{node_believing}
 use Rattle.rt_state.specs.Finding.{query_at, reply_at, request_at}
 use Rattle.rt_state.specs.Jobs.{JobSteps, JobStepsAt, noted_set, stepped_by}
-use Rattle.rt_state.specs.Lives.{controller_crashed, controller_restarted}
 use Rattle.rt_state.specs.Messages.{Delivers, DeliversAt, Replies, RepliesAt, after_step, handed, node_took}
 use Rattle.rt_state.specs.Nodes.{ControllerDoes, ControllerDoesAt, ServerCalls, ServerCallsAt, ServerDoes, ServerDoesAt, ServerFetches, ServerFetchesAt, ServerGets, ServerGetsAt, ServerStep}
 use Rattle.rt_state.specs.Queries.{Answers, AnswersAt, Pieces, PiecesAt, PiecesOf, Routes, RoutesAt}
 use Rattle.rt_nodes.specs.declared.chore.Chore.{Chore}
-use Rattle.rt_nodes.specs.declared.chore.Chore.TheVariants.{Repair, Retire}
 use Rattle.rt_state.specs.Repairs.{Keeps, KeepsAt, upkeep_at}
 use Rattle.rt_state.specs.Replicas.{NodeConsumes}
 use Rattle.rt_state.specs.Requests.{AskStep, SendsAt, SendsRequest}
@@ -46,12 +42,14 @@ use Rattle.rt_state.specs.declared.state.State.{State}
 use Rattle.rt_store.specs.Meaning.{Told}
 use Rattle.rt_stream.specs.Log.{Log}
 use Rattle.rt_world.proofs.KeepsQueries.{query_there, routed_query}
-use Rattle.rt_world.specs.Step.{Steps}
+use Rattle.rt_world.specs.Step.{Steps, way_of}
+use Rattle.rt_world.specs.Way.{Goes, Way}
+use Rattle.rt_world.specs.Way as way
 
 -- ---- a turn that neither appends nor asks
 
 -- the stream and the queries are as they were
-abbrev Untouched : State → State → Type 0
+abbrev pub Untouched : State → State → Type 0
 Untouched w v = (v.log ≡ w.log) × (v.queries ≡ w.queries)
 
 same_as : (w x y : State) → x ≡ y → Untouched w y → Untouched w x
@@ -141,6 +139,56 @@ chores w c p chore cost x h = by_node (slice_get w.controllers c.0) (upkeep_at w
     by_node None u h = absurd h
     by_node (Some node) None h = absurd h
     by_node (Some node) (Some u) (new, store, step, is) = same_as w x.0 _ is (refl, refl)
+
+-- ---- an event that neither appends nor has to do with a query
+
+-- the way of one node, but for a look at the stream
+abbrev IsOfNode : Way → Type 0
+IsOfNode (way.looks i does) = ⊥
+IsOfNode (way.routes q p) = ⊥
+IsOfNode (way.serves q p s i) = ⊥
+IsOfNode (way.closes q) = ⊥
+IsOfNode (way.outside next) = ⊥
+IsOfNode other = Unit {0}
+
+node_leaves : (w : State) (y : Way) (cost : Cost) (x : Next) → IsOfNode y → Goes w y cost x → Untouched w x.0
+node_leaves w (way.alone i does) cost x of h = server_does w i does cost x h
+node_leaves w (way.calls i does) cost x of h = server_calls w i does cost x h
+node_leaves w (way.gets i does) cost x of h = server_gets w i does cost x h
+node_leaves w (way.sends i asks) cost x of h = sends_one w i asks cost x h
+node_leaves w (way.takes m) cost x of h = replies_to w m cost x h
+node_leaves w (way.turns c does outcome) cost x of h = controller_does w c does outcome cost x h
+node_leaves w (way.handles m c) cost x of h = delivers w m c cost x h
+node_leaves w (way.works c j) cost x of h = job_steps w c j cost x h
+node_leaves w (way.keeps c p chore) cost x of h = chores w c p chore cost x h
+node_leaves w y cost x of h = absurd of
+
+outside_leaves : (w v : State) (o : Outcome) (x : Next) → (v, o) ≡ x → Untouched w x.0 → Untouched w v
+outside_leaves w v o x is u = same_as w v x.0 (ap (λ (z : Next). z.0) is) u
+
+abbrev pub IsQuiet : Event → Type 0
+IsQuiet (event.Produce p message) = ⊥
+IsQuiet (event.Ask query) = ⊥
+IsQuiet (event.Route q p) = ⊥
+IsQuiet (event.Piece q p s i) = ⊥
+IsQuiet (event.Answer q) = ⊥
+IsQuiet e = Unit {0}
+
+pub quiet_leaves : (w v : State) (e : Event) (o : Outcome) → IsQuiet e → Steps w e v (Ok o) → Untouched w v
+quiet_leaves w v (event.Produce p message) o quiet steps = absurd quiet
+quiet_leaves w v (event.Ask query) o quiet steps = absurd quiet
+quiet_leaves w v (event.Route q p) o quiet steps = absurd quiet
+quiet_leaves w v (event.Piece q p s i) o quiet steps = absurd quiet
+quiet_leaves w v (event.Answer q) o quiet steps = absurd quiet
+quiet_leaves w v (event.Tick millis) o quiet (cost, due, is) = outside_leaves w v o _ is (refl, refl)
+quiet_leaves w v (event.FaultStore kept) o quiet (cost, due, is) = outside_leaves w v o _ is (refl, refl)
+quiet_leaves w v (event.FaultDeep kept) o quiet (cost, due, is) = outside_leaves w v o _ is (refl, refl)
+quiet_leaves w v (event.ShowMeta p q) o quiet (cost, due, is) = outside_leaves w v o _ is (refl, refl)
+quiet_leaves w v event.ShowIdeal o quiet (cost, due, is) = outside_leaves w v o _ is (refl, refl)
+quiet_leaves w v (event.Consume i p q max) o quiet (cost, due, h) =
+    server_fetches w i (NodeConsumes p q max w.moment) cost (v, o)
+    (λ old next log outcome step. takes_looks w.log log old.server.table next.server.table p q max w.moment (Ok tt) step.0) h
+quiet_leaves w v e o quiet (cost, due, h) = node_leaves w (way_of w e) cost (v, o) tt h
 
 -- ---- queries
 
@@ -256,14 +304,6 @@ module _ (w v : State) (o : Outcome) where
       → log_after w.log (happens e o) ≡ w.log → ((queries : List Query) → queries_after queries (happens e o) ≡ queries) → Leaves w (happens e o) v
   leaves e u log same = record { log = u.0 ∙ sym log; queries = λ queries k. subst (AreAsked v) (sym (same queries)) (u.1 queries k) }
 
-  leaves_all : (e : Event) → Untouched w v → log_after w.log (happens e o) ≡ w.log → ((queries : List Query) → queries_after queries (happens e o) ≡ queries)
-      → Leaves w (happens e o) v
-  leaves_all e u log same = leaves e (quietly w v u) log same
-
-  by : (e : Event) (x : Next) → (v, o) ≡ x → Untouched w x.0 → log_after w.log (happens e o) ≡ w.log
-      → ((queries : List Query) → queries_after queries (happens e o) ≡ queries) → Leaves w (happens e o) v
-  by e x is u log same = leaves_all e (same_as w v x.0 (ap (λ (z : Next). z.0) is) u) log same
-
   pub event_leaves : (e : Event) → Steps w e v (Ok o) → Leaves w (happens e o) v
   event_leaves (event.Produce p message) (cost, due, is) = record {
     log = ap (λ (z : Next). z.0.log) is;
@@ -276,36 +316,7 @@ module _ (w v : State) (o : Outcome) where
   event_leaves (event.Route q p) (cost, due, h) = leaves (event.Route q p) (routes_leave w q p cost (v, o) h) refl (λ queries. refl)
   event_leaves (event.Piece q p s i) (cost, due, h) = leaves (event.Piece q p s i) (pieces_leave w q p s i cost (v, o) h) refl (λ queries. refl)
   event_leaves (event.Answer q) (cost, due, h) = leaves (event.Answer q) (answers_leave w q cost (v, o) h) refl (λ queries. refl)
-  event_leaves (event.Tick millis) (cost, due, h) = by (event.Tick millis) _ h (refl, refl) refl (λ queries. refl)
-  event_leaves (event.Lead c on) (cost, due, h) =
-      leaves_all (event.Lead c on) (controller_does w c (node_believing on) told.Noted cost (v, o) h) refl (λ queries. refl)
-  event_leaves (event.Consume i p q max) (cost, due, h) =
-      leaves_all (event.Consume i p q max)
-      (server_fetches w i (NodeConsumes p q max w.moment) cost (v, o)
-      (λ old next log outcome step. takes_looks w.log log old.server.table next.server.table p q max w.moment (Ok tt) step.0) h) refl (λ queries. refl)
-  event_leaves (event.Force i p q) (cost, due, h) = leaves_all (event.Force i p q) (server_does w i _ cost (v, o) h) refl (λ queries. refl)
-  event_leaves (event.Stop i p q) (cost, due, h) = leaves_all (event.Stop i p q) (server_does w i _ cost (v, o) h) refl (λ queries. refl)
-  event_leaves (event.Build i p q) (cost, due, h) = leaves_all (event.Build i p q) (server_does w i _ cost (v, o) h) refl (λ queries. refl)
-  event_leaves (event.Report i p q) (cost, due, h) = leaves_all (event.Report i p q) (sends_one w i _ cost (v, o) h) refl (λ queries. refl)
-  event_leaves (event.Extend i p q millis) (cost, due, h) = leaves_all (event.Extend i p q millis) (sends_one w i _ cost (v, o) h) refl (λ queries. refl)
-  event_leaves (event.Deliver m c) (cost, due, h) = leaves_all (event.Deliver m c) (delivers w m c cost (v, o) h) refl (λ queries. refl)
-  event_leaves (event.Job c j) (cost, due, h) = leaves_all (event.Job c j) (job_steps w c j cost (v, o) h) refl (λ queries. refl)
-  event_leaves (event.Reply m) (cost, due, h) = leaves_all (event.Reply m) (replies_to w m cost (v, o) h) refl (λ queries. refl)
-  event_leaves (event.CrashServer i) (cost, due, h) = leaves_all (event.CrashServer i) (server_does w i _ cost (v, o) h) refl (λ queries. refl)
-  event_leaves (event.CrashController c) (cost, due, h) =
-      leaves_all (event.CrashController c) (controller_does w c controller_crashed told.Down cost (v, o) h) refl (λ queries. refl)
-  event_leaves (event.RestartServer i) (cost, due, h) = leaves_all (event.RestartServer i) (server_calls w i _ cost (v, o) h) refl (λ queries. refl)
-  event_leaves (event.RestartController c) (cost, due, h) =
-      leaves_all (event.RestartController c) (controller_does w c controller_restarted (told.Up None) cost (v, o) h) refl (λ queries. refl)
-  event_leaves (event.See i) (cost, due, h) = leaves_all (event.See i) (server_calls w i _ cost (v, o) h) refl (λ queries. refl)
-  event_leaves (event.Transit i p q) (cost, due, h) = leaves_all (event.Transit i p q) (server_calls w i _ cost (v, o) h) refl (λ queries. refl)
-  event_leaves (event.Download i p q) (cost, due, h) = leaves_all (event.Download i p q) (server_gets w i _ cost (v, o) h) refl (λ queries. refl)
-  event_leaves (event.Repair c p) (cost, due, h) = leaves_all (event.Repair c p) (chores w c p Repair cost (v, o) h) refl (λ queries. refl)
-  event_leaves (event.Retain c p) (cost, due, h) = leaves_all (event.Retain c p) (chores w c p Retire cost (v, o) h) refl (λ queries. refl)
-  event_leaves (event.FaultStore kept) (cost, due, h) = by (event.FaultStore kept) _ h (refl, refl) refl (λ queries. refl)
-  event_leaves (event.FaultDeep kept) (cost, due, h) = by (event.FaultDeep kept) _ h (refl, refl) refl (λ queries. refl)
-  event_leaves (event.ShowMeta p q) (cost, due, h) = by (event.ShowMeta p q) _ h (refl, refl) refl (λ queries. refl)
-  event_leaves event.ShowIdeal (cost, due, h) = by event.ShowIdeal _ h (refl, refl) refl (λ queries. refl)
+  event_leaves e steps = leaves e (quietly w v (quiet_leaves w v e o tt steps)) refl (λ queries. refl)
 
 -- ---- turns
 
