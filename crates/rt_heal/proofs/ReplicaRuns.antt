@@ -40,7 +40,9 @@ use Rattle.rt_store.specs.Memory.{means}
 use Rattle.rt_stream.specs.Log.{Log}
 use Rattle.rt_world.proofs.KeepsMessages.{reply_sent}
 use Rattle.rt_world.proofs.Places.{at_set}
-use Rattle.rt_world.specs.Step.{Steps}
+use Rattle.rt_world.specs.Step.{Steps, way_of}
+use Rattle.rt_world.specs.Way.{Goes, Way}
+use Rattle.rt_world.specs.Way as way
 use Rattle.rt_heal.proofs.ReplicaSteps.{all_stay, AllCame, asks, builds, consumes, downloads_came, extends, forces, reply_came, restarts_came, sees_came, stops, through_came, transits_came}
 
 -- the server of this number, and from where its replicas come
@@ -189,6 +191,28 @@ module _ (w : State) where
   outside_came : (x y : Next) → x ≡ y → y.0.servers ≡ w.servers → ServersCame x.0
   outside_came x y is e = same_servers x.0 (ap (λ (z : Next). z.0.servers) is ∙ e)
 
+  -- ---- steps in which no server does what is its own
+
+  abbrev IsOfOthers : Way → Type 0
+  IsOfOthers (way.alone i does) = ⊥
+  IsOfOthers (way.looks i does) = ⊥
+  IsOfOthers (way.calls i does) = ⊥
+  IsOfOthers (way.gets i does) = ⊥
+  IsOfOthers (way.sends i does) = ⊥
+  IsOfOthers (way.outside next) = ⊥
+  IsOfOthers other = Unit {0}
+
+  others_came : (y : Way) (cost : Cost) (x : Next) → IsOfOthers y → Goes w y cost x → ServersCame x.0
+  others_came (way.takes m) cost x of h = takes_came m cost x h
+  others_came (way.turns c does outcome) cost x of h = turns_came c does outcome cost x h
+  others_came (way.handles m c) cost x of h = handles_came m c cost x h
+  others_came (way.works c j) cost x of h = works_came c j cost x h
+  others_came (way.keeps c p chore) cost x of h = chores_came c p chore cost x h
+  others_came (way.routes q p) cost x of h = routes_came q p cost x h
+  others_came (way.serves q p t i) cost x of h = serves_came q p t i cost x h
+  others_came (way.closes q) cost x of h = closes_came q cost x h
+  others_came y cost x of h = absurd of
+
   -- ---- an event
 
   event_came : (e : Event) (v : State) (o : Outcome) → Steps w e v (Ok o) → ServersCame v
@@ -228,17 +252,6 @@ module _ (w : State) where
       gets_came i cost (v, o) _
       (λ deep old new step.
       downloads_came w.sent w.log (deep_means w.deep) (deep_means deep) old.server.setup.schema old.server.table new.server.table p q step.0 step.1) h
-  event_came (event.Reply m) v o (cost, due, h) = takes_came m cost (v, o) h
-  event_came (event.Lead c on) v o (cost, due, h) = turns_came c _ _ cost (v, o) h
-  event_came (event.CrashController c) v o (cost, due, h) = turns_came c _ _ cost (v, o) h
-  event_came (event.RestartController c) v o (cost, due, h) = turns_came c _ _ cost (v, o) h
-  event_came (event.Deliver m c) v o (cost, due, h) = handles_came m c cost (v, o) h
-  event_came (event.Job c j) v o (cost, due, h) = works_came c j cost (v, o) h
-  event_came (event.Repair c p) v o (cost, due, h) = chores_came c p _ cost (v, o) h
-  event_came (event.Retain c p) v o (cost, due, h) = chores_came c p _ cost (v, o) h
-  event_came (event.Route q p) v o (cost, due, h) = routes_came q p cost (v, o) h
-  event_came (event.Piece q p t i) v o (cost, due, h) = serves_came q p t i cost (v, o) h
-  event_came (event.Answer q) v o (cost, due, h) = closes_came q cost (v, o) h
   event_came (event.Produce p message) v o (cost, due, h) = outside_came (v, o) _ h refl
   event_came (event.Tick millis) v o (cost, due, h) = outside_came (v, o) _ h refl
   event_came (event.FaultStore kept) v o (cost, due, h) = outside_came (v, o) _ h refl
@@ -246,6 +259,7 @@ module _ (w : State) where
   event_came (event.Ask query) v o (cost, due, h) = outside_came (v, o) _ h refl
   event_came (event.ShowMeta p q) v o (cost, due, h) = outside_came (v, o) _ h refl
   event_came event.ShowIdeal v o (cost, due, h) = outside_came (v, o) _ h refl
+  event_came e v o (cost, due, h) = others_came (way_of w e) cost (v, o) tt h
 
   pub turn_came : (turn : Turn) (v : State) → TurnsTo w turn v → ServersCame v
   turn_came (happens e o) v (fits, steps) = event_came e v o steps
