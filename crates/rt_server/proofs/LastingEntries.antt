@@ -3,7 +3,6 @@ use Rattle.std.proofs.Common.{◌≡◌, Some, sym, ap, subst, ◌∙◌}
 use Rattle.rt_base.specs.declared.numbers.Partition.{Partition}
 use Rattle.rt_base.specs.declared.numbers.Sequence.{Sequence}
 use Rattle.rt_model.specs.declared.setup.Setup.{Setup}
-use Rattle.rt_msgs.specs.Numbered.{Numbered}
 use Rattle.rt_past.specs.Past.{Past}
 use Rattle.rt_consumer.specs.declared.consumer.Consumer.{Consumer}
 use Rattle.rt_consumer.specs.Consumer.{IsConsumer}
@@ -13,9 +12,10 @@ use Rattle.rt_entry.specs.declared.entry.Entry.TheVariants.{Replica}
 use Rattle.rt_entry.specs.Entry.{IsEntry}
 use Rattle.rt_server.specs.Calls.{InTable}
 use Rattle.rt_server.specs.Lasting.{IsEntryOver, IsServerOver}
-use Rattle.rt_server.specs.Table.{Segment, Segments, ServerState, entry_of, replica_of, segment_of, with_table}
+use Rattle.rt_server.specs.Table.{Segment, ServerState, entry_of, replica_of, segment_of, with_table}
 use Rattle.rt_server.proofs.EachEntry.{found_each}
 use Rattle.rt_server.proofs.Kept.{found_is, replica_found}
+use Rattle.rt_server.proofs.LastingAsks.{server_of}
 
 abbrev pub segment : Partition → Sequence → Segment
 segment p q = (p, q)
@@ -44,9 +44,6 @@ abbrev pub Keeps : Setup → Past → ServerState → ServerState → Type 0
 Keeps setup past old new = IsServerOver setup past new × (new.numbers ≡ old.numbers)
 
 -- ---- a server by its parts
-
-abbrev server_of : Setup → Numbered → Segments → ServerState
-server_of setup numbers table = record { setup = setup; numbers = numbers; table = table }
 
 pub in_table : (old new : ServerState) → InTable old new → with_table old new.table ≡ new
 in_table old new h =

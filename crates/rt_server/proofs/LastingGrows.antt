@@ -43,14 +43,17 @@ pub targets_grow : (h k : List Seen) (i : Instance) (targets : List (Segment × 
 targets_grow h k i targets g (inl none) = inl none
 targets_grow h k i targets g (inr (w, is, e)) = inr (w, record { has = Has-front h k w g is.has; is_ideal = is.is_ideal }, e)
 
+-- what holds of each holds where something else follows from it
+pub if_each : {X : Type 0} (P Q : X → Type 0) (o : Option X) → ((x : X) → P x → Q x) → IfSome o P → IfSome o Q
+if_each P Q None f h = tt
+if_each P Q (Some x) f h = f x h
+
+pub loaded_grows : (setup : Setup) (a b : Past) → GrowsLog a.log b.log → (p : Partition) (q : Sequence) (done : SeenMeta) (file : SealedSegment)
+    → IsLoaded setup a p q done file → IsLoaded setup b p q done file
+loaded_grows setup a b g p q done file l =
+    record { kept = l.kept; named = l.named; format = l.format; indexed = l.indexed; held = file_grows setup.schema a.log b.log p done.meta.start file g l.held }
+
 module _ (setup : Setup) (a b : Past) (g : Grows a b) where
-  loaded_grows : (p : Partition) (q : Sequence) (done : SeenMeta) (file : SealedSegment) → IsLoaded setup a p q done file → IsLoaded setup b p q done file
-  loaded_grows p q done file l = record { kept = l.kept; named = l.named; format = l.format; indexed = l.indexed; held = file_grows setup.schema a.log b.log p done.meta.start file g.log l.held }
-
-  any_loaded_grows : (p : Partition) (q : Sequence) (done : SeenMeta) (o : Option SealedSegment) → IfSome o (IsLoaded setup a p q done) → IfSome o (IsLoaded setup b p q done)
-  any_loaded_grows p q done None l = tt
-  any_loaded_grows p q done (Some file) l = loaded_grows p q done file l
-
   committed_grows : (i : Instance) (p : Partition) (q : Sequence) (c : CommittedSegment) → IsCommittedOver setup a i p q c → IsCommittedOver setup b i p q c
   committed_grows i p q c k =
       record {
@@ -58,7 +61,7 @@ module _ (setup : Setup) (a b : Past) (g : Grows a b) where
         assigned = k.assigned;
         entered = entry_grows a.history b.history p q g.history k.entered;
         done = done_grows a.history b.history p q c.done g.history k.done;
-        loaded = any_loaded_grows p q c.done c.file k.loaded;
+        loaded = if_each (IsLoaded setup a p q c.done) (IsLoaded setup b p q c.done) c.file (loaded_grows setup a b g.log p q c.done) k.loaded;
       }
 
   pub entry_over_grows : (i : Instance) (incarnation : ℕ) (s : Segment) (e : Entry) → IsEntryOver setup a i incarnation s e → IsEntryOver setup b i incarnation s e

@@ -29,7 +29,7 @@ use Rattle.rt_past.specs.Files.{IsStored}
 use Rattle.rt_past.specs.IsPast.{IsPast}
 use Rattle.rt_past.specs.Segments.{HadEntry, IsAssignedTo, IsBegun, WasDone}
 use Rattle.rt_past.specs.Writes.{AreRightEntries, IsRightNode, IsRightStatus}
-use Rattle.rt_consumer.specs.Consumer.{end_in, end_of}
+use Rattle.rt_consumer.specs.Consumer.{end_of}
 use Rattle.rt_replica.proofs.ReadBack.{placed_back}
 use Rattle.rt_replica.specs.Own.{HadPlace}
 use Rattle.rt_server.specs.Calls.{targets_of}
@@ -135,9 +135,3 @@ pub commit_past : (setup : Setup) (past : Past) (p : Partition) (q : Sequence) (
     → p.0 < setup.partitions → WasDone past.history p q done → IsBegun past.history p q start → end_of done ≡ Some end → (done.meta.start ≡ start) × (start.0 < end.0)
 commit_past setup past p q done start end lawful within was begun e =
     meta_past setup past.history p q start end (listed_write p (record { sequence = q; seen = done })) done lawful within begun was.0 refl refl e
-
--- what tells of an end tells of a commit
-pub ended_done : (status : Status) (end : Offset) → end_in status ≡ Some end → IsDoneStatus status
-ended_done InProgress end e = absurd (cc)
-ended_done (Done commit) end e = tt
-ended_done Abandoned end e = absurd (cc)

@@ -1,5 +1,5 @@
 -- What a server has of its own, and what it gave, stays so in a view that has all of the earlier one.
-use Rattle.std.proofs.Common.{◌⊎◌, inl, inr, ℕ, List, ◌++◌, filter_map, Option, Some, None, IfSome, sym, ap, subst, ◌∙◌, arith}
+use Rattle.std.proofs.Common.{◌⊎◌, inl, inr, ℕ, List, ◌++◌, filter_map, sym, ap, subst, ◌∙◌, arith}
 use Rattle.std.proofs.lemmas.List.{length-append}
 use Rattle.rt_base.specs.declared.numbers.Instance.{Instance}
 use Rattle.rt_base.specs.declared.numbers.Partition.{Partition}
@@ -24,15 +24,11 @@ use Rattle.rt_entry.specs.declared.served_rows.ServedRows.{ServedRows}
 use Rattle.rt_server.specs.Given.{AreRowsSoFar, IsFromFile, IsFromReplica, IsGivenRight}
 use Rattle.rt_server.specs.Own.{IsHad, IsOwnCommitted, IsOwnEntry, IsOwnServer}
 use Rattle.rt_server.specs.Table.{Segment, ServerState}
-use Rattle.rt_server.proofs.LastingGrows.{file_grows, targets_grow}
-
-if_each : {X : Type 0} (P Q : X → Type 0) (o : Option X) → ((x : X) → P x → Q x) → IfSome o P → IfSome o Q
-if_each P Q None f h = tt
-if_each P Q (Some x) f h = f x h
+use Rattle.rt_server.proofs.LastingGrows.{if_each, loaded_grows, targets_grow}
 
 module _ (setup : Setup) (a b : Past) (g : Within a b) where
   had_grows : (p : Partition) (q : Sequence) (done : SeenMeta) (file : SealedSegment) → IsHad setup a p q done file → IsHad setup b p q done file
-  had_grows p q done file (inl l) = inl (record { kept = l.kept; named = l.named; format = l.format; indexed = l.indexed; held = file_grows setup.schema a.log b.log p done.meta.start file g.log l.held })
+  had_grows p q done file (inl l) = inl (loaded_grows setup a b g.log p q done file l)
   had_grows p q done file (inr k) =
       inr (record {
         commit = k.commit;

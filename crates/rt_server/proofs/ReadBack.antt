@@ -1,5 +1,5 @@
 -- Over a right past, what a server has of its own is all that lasts of it.
-use Rattle.std.proofs.Common.{◌≡◌, ◌<◌, ◌≤◌, inl, inr, ℕ, length, Option, Some, None, IfSome, sym, subst, ◌∙◌}
+use Rattle.std.proofs.Common.{◌≡◌, ◌<◌, ◌≤◌, inl, inr, ℕ, length, sym, subst, ◌∙◌}
 use Rattle.rt_base.specs.declared.numbers.Instance.{Instance}
 use Rattle.rt_base.specs.declared.numbers.Partition.{Partition}
 use Rattle.rt_base.specs.declared.numbers.Sequence.{Sequence}
@@ -19,12 +19,9 @@ use Rattle.rt_entry.specs.declared.entry.Entry.TheVariants.{Replica, Committed}
 use Rattle.rt_server.specs.Lasting.{IsLoaded, IsCommittedOver, IsEntryOver, IsServerOver}
 use Rattle.rt_server.specs.Own.{IsGot, IsHad, IsOwnCommitted, IsOwnEntry, IsOwnServer}
 use Rattle.rt_server.specs.Table.{Segment, ServerState}
+use Rattle.rt_server.proofs.LastingGrows.{if_each}
 use Rattle.rt_server.proofs.LastingTargets.{done_stored}
 use Rattle.rt_server.proofs.Trues.{got_loaded}
-
-if_each : {X : Type 0} (P Q : X → Type 0) (o : Option X) → ((x : X) → P x → Q x) → IfSome o P → IfSome o Q
-if_each P Q None f h = tt
-if_each P Q (Some x) f h = f x h
 
 same_commit : (c d : Commit) → Done c ≡ Done d → c ≡ d
 same_commit c d e = cc

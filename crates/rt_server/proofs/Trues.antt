@@ -1,5 +1,5 @@
 -- What is true of the entries of a server that lasts, and of the entries of its own over a sound past.
-use Rattle.std.proofs.Common.{◌≡◌, ◌<◌, inl, inr, ℕ, List, Option, Some, None, Result, Ok, IfSome, sym, ap, subst, ◌∙◌}
+use Rattle.std.proofs.Common.{◌≡◌, ◌<◌, inl, inr, ℕ, List, Option, Some, Result, Ok, IfSome, sym, ap, subst, ◌∙◌}
 use Rattle.rt_base.specs.declared.numbers.Instance.{Instance}
 use Rattle.rt_base.specs.declared.numbers.Offset.{Offset}
 use Rattle.rt_base.specs.declared.numbers.Partition.{Partition}
@@ -29,6 +29,7 @@ use Rattle.rt_server.specs.Lasting.{IsEntryOver, IsLoaded}
 use Rattle.rt_server.specs.Own.{IsGot, IsHad, IsOwnCommitted, IsOwnEntry}
 use Rattle.rt_server.specs.Table.{Segment, segment_of}
 use Rattle.rt_server.proofs.LastingDownloads.{file_loaded}
+use Rattle.rt_server.proofs.LastingGrows.{if_each}
 
 abbrev pub AnyUp : Offset → SealedSegment → List ℕ → Type 0
 AnyUp x built path = Unit {0}
@@ -71,10 +72,6 @@ module _ (setup : Setup) (past : Past) (i : Instance) (incarnation : ℕ) where
   entry_true s (Committed c) h = record { partition = h.partition; done = h.done; loaded = h.loaded }
 
 -- ---- what is its own, over a sound past
-
-if_each : {X : Type 0} (P Q : X → Type 0) (o : Option X) → ((x : X) → P x → Q x) → IfSome o P → IfSome o Q
-if_each P Q None f h = tt
-if_each P Q (Some x) f h = f x h
 
 abbrev a_put : List ℕ → List ℕ → Option DeepPut
 a_put path bytes = Some (record { path = path; bytes = bytes })

@@ -61,8 +61,8 @@ pub fn what_lasts_of_a_server_stays_true()
     ensures grows { (setup : Setup) (a b : Past) (s : ServerState) → Grows a b → IsServerOver setup a s → IsServerOver setup b s }
 {}
 
-/// A server's own calls keep it: as it sees the ideal state, moves a segment, loads a file, crashes, and restarts after a
-/// crash.
+/// Over a right past a server's own calls keep it: as it sees the ideal state, moves a segment, loads a file, crashes, and
+/// restarts after a crash.
 pub fn each_call_of_a_server_keeps_what_lasts()
     ensures sees { (setup : Setup) (past : Past) (before after : Meaning) (old new : ServerState) (result : Result ℕ ServerRefused)
         → past.history ≡ after.seen → IsPast setup past → IsServerOver setup past old → SeesIdeal before after old new result
@@ -79,7 +79,8 @@ pub fn each_call_of_a_server_keeps_what_lasts()
         → past.history ≡ after.seen → IsPast setup past → IsEmpty old → IsServerOver setup past old → Restarts before after old new result → IsServerOver setup past new }
 {}
 
-/// So do the calls of its replicas: as one consumes, is forced, is stopped, seals its rows, and takes an answer that was sent.
+/// So do the calls of its replicas there: as one consumes, is forced, is stopped, seals its rows, and takes an answer that was
+/// sent.
 pub fn each_call_of_a_replica_keeps_what_lasts()
     ensures takes { (setup : Setup) (past : Past) (before after : FeedMeaning) (old new : ServerState) (p : Partition) (q : Sequence) (max : ℕ) (now : Moment)
         (result : Result (Unit {0}) ServerRefused) → past.log ≡ after.seen → IsPast setup past → IsServerOver setup past old
@@ -95,8 +96,8 @@ pub fn each_call_of_a_replica_keeps_what_lasts()
         → InTable old new → IsServerOver setup past new }
 {}
 
-/// What a server asks is right and has a fresh number, and what lasts of the server is kept as it is sent; a refused call
-/// changes nothing.
+/// What a server asks over a right past, in which the numbers of its requests were drawn, is right and has a fresh number, and
+/// what lasts of the server is kept as it is sent; a refused call changes nothing.
 pub fn a_server_asks_what_is_right()
     ensures asks { (setup : Setup) (past : Past) (old new : ServerState) (p : Partition) (q : Sequence) (request : Request)
         → IsPast setup past → IsServerOver setup past old → AreDrawn past.sent old.numbers → old.numbers.made < 2 ^ 63 → new.setup ≡ old.setup
