@@ -61,11 +61,7 @@ impl State {
     }
 
     /// A server and a partition that are there, the server being up.
-    pub(crate) fn find_server(
-        &self,
-        instance: Instance,
-        partition: Partition,
-    ) -> Result<(), Refusal>
+    pub fn find_server(&self, instance: Instance, partition: Partition) -> Result<(), Refusal>
         ensures found { result ≡ find_server self.now instance partition }
         ensures there { OnOk result (instance.0 < length self.now.servers) }
     {

@@ -106,13 +106,7 @@ impl World {
         requires { IsFalse self.now.spent }
         ensures { result ≡ next_at self.now.state instance partition sequence }
     {
-        let has_server = (instance.0 as usize) < self.state.servers.len();
-        if !(has_server && partition.0 < self.state.setup.partitions) {
-            return Err(Refusal::NoSuchNode);
-        }
-        if !self.state.is_server_up(instance) {
-            return Err(Refusal::NodeDown);
-        }
+        self.state.find_server(instance, partition)?;
         Ok(next(&self.state, instance, partition, sequence))
     }
 
