@@ -1,5 +1,5 @@
 //! Which replicas have nothing to do in their turn. Most of those that a long run holds have committed: one walk leaves those
-//! that stand side by side out, where each event of a turn would be made, looked up and refused.
+//! that stand side by side out, where each would be looked up and asked what it has to do next.
 ghost use Rattle.std.specs.Prelude.{◌≡◌, nat_lt};
 ghost use Rattle.std.specs.List.{prefix_len};
 ghost use Rattle.rt_macros.specs.Resting.{rests_at};
