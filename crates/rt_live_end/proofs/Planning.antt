@@ -87,10 +87,6 @@ plan_more p x InProgress rest piece final has = absurd final
 plan_more p x (Done commit) rest piece final has = inr has
 plan_more p x Abandoned rest piece final has = has
 
-plan_behind : (p : Partition) (xs ys : List Listed) (piece : Piece) → AreEnded xs → Has (plan_of p ys) piece → Has (plan_of p (xs ++ ys)) piece
-plan_behind p [] ys piece ended has = has
-plan_behind p (x ∷ xs) ys piece ended has = plan_more p x x.seen.meta.status (plan_of p (xs ++ ys)) piece ended.0 (plan_behind p xs ys piece ended.1 has)
-
 plan_here : (p : Partition) (x l : Listed) (commit : Commit) (rest : List Piece) → x ≡ l → l.seen.meta.status ≡ Done commit
     → Has (planned p x x.seen.meta.status rest) (piece_of p l (Some commit.end))
 plan_here p x l commit rest same is =
