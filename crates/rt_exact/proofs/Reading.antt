@@ -4,7 +4,7 @@ use Rattle.std.proofs.lemmas.Option.{none-some}
 use Rattle.rt_base.specs.declared.numbers.Partition.{Partition}
 use Rattle.rt_broker.specs.Asking.{Asking}
 use Rattle.rt_state.specs.Finding.{query_at, query_in}
-use Rattle.rt_world.specs.Reading.{copy_in, due_transits_of, end_in, events_left_in, held_in, ideal_in, is_ready_at, leader_in, length_of, pieces_by, pieces_of, replicas_seen, rows_of_node, stage_at, up_in, wanted_in}
+use Rattle.rt_world.specs.Reading.{copy_in, due_transits_of, end_in, events_left_in, held_in, ideal_in, is_ready_at, leader_in, length_of, next_at, pieces_by, pieces_of, replicas_seen, rows_of_node, stage_at, up_in, wanted_in}
 use Rattle.rt_state.specs.declared.state.State.{State}
 use Rattle.rt_exact.specs.Reads.{ReadAlike}
 use Rattle.rt_exact.specs.Shown.{asking_shown, query_shown, shown}
@@ -26,6 +26,7 @@ read_alike w v same =
       lengths = λ p. ap (λ u. length_of u p) same;
       ends = λ p. ap (λ u. end_in u p) same;
       ready = λ i p q. ap (λ u. is_ready_at u i p q) same;
+      next = λ i p q. ap (λ u. next_at u i p q) same;
       stages = λ i p q. ap (λ u. stage_at u i p q) same;
       transits = λ i. ap (λ u. due_transits_of u i) same;
       wanted = λ i. ap (λ u. wanted_in u i) same;

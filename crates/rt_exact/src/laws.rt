@@ -44,8 +44,8 @@ pub fn an_event_has_one_outcome()
         → x ≡ y }
 {}
 
-/// An event is refused or happens, never both: so a call of a world has one outcome or one refusal, but that memory may run out.
-pub fn an_event_is_refused_or_happens()
+/// No event that is refused happens, and a call of a world that can come to an outcome is refused for want of memory alone.
+pub fn no_event_is_refused_and_happens()
     ensures never { (w : State) (e : Event) (x : State) (a : Outcome) (refusal : Refusal) → due_of w e ≡ Err refusal → Steps w e x (Ok a) → ⊥ }
     ensures calls { (old : Kept) (e : Event) (x y : Kept) (a : Outcome) (refusal : Refusal) → StepsKept old e x (Ok a)
         → StepsKept old e y (Err refusal) → refusal ≡ Memory }

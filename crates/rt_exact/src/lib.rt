@@ -9,6 +9,6 @@ mod laws;
 
 pub use laws::{
     alike_worlds_are_read_alike, alike_worlds_go_on_alike, an_answer_is_the_worlds,
-    an_event_has_one_outcome, an_event_is_refused_or_happens, each_macro_has_one_outcome,
+    an_event_has_one_outcome, each_macro_has_one_outcome, no_event_is_refused_and_happens,
     runs_by_the_same_events_are_one,
 };

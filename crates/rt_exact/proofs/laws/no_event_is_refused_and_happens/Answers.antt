@@ -1,5 +1,5 @@
 use Rattle.rt_exact.proofs.Refusals.{kept_never, refused_never}
-use Rattle.rt_exact.proofs.laws.an_event_is_refused_or_happens.Goals as goal
+use Rattle.rt_exact.proofs.laws.no_event_is_refused_and_happens.Goals as goal
 
 pub returns-clause-never : goal.returns-clause-never
 returns-clause-never c = refused_never
