@@ -39,7 +39,7 @@ use Rattle.rt_broker.specs.declared.route.Route.{Route}
 use Rattle.rt_broker.specs.declared.route.Route.TheVariants.{Untried, Failed, Planned}
 use Rattle.rt_broker.specs.Answering.{AreHeld, AreServed, RowsOf, asked_piece, pieces_in, routed_from, rows_held, rows_in_log, served_from, served_pieces, served_route, under}
 use Rattle.rt_broker.specs.Asking.{Asking, first_served, served_by, served_in}
-use Rattle.rt_broker.specs.IsAsked.{AreRightAnswers, AreRightPieces, IsAsked, IsPlan, IsRightGot, IsRightServed, IsRoute, messages_in}
+use Rattle.rt_broker.specs.IsAsked.{AreKnownAnswers, AreKnownPieces, IsAsked, IsPlan, IsRightGot, IsRightNoted, IsRightServed, IsRoute, messages_in}
 use Rattle.rt_broker.specs.Noting.{IsEnd}
 use Rattle.rt_broker.proofs.Gaining.{rows_held_append}
 use Rattle.rt_broker.proofs.Rising.{AreOf, AreOrdered, ordered_after, plan_is_of, plan_ordered}
@@ -56,7 +56,7 @@ served_first setup past query piece got.NotServed later s k further e = further 
 served_first setup past query piece got.Down later s k further e = further s e
 
 served_right : (setup : Setup) (past : Past) (query : Query) (piece : Piece) (ys : List PieceAnswer) (s : Served)
-    → AreRightAnswers setup past query piece ys → served_in ys ≡ Some s → IsRightServed setup past query piece s
+    → AreKnownAnswers (IsRightNoted setup past query) piece ys → served_in ys ≡ Some s → IsRightServed setup past query piece s
 served_right setup past query piece [] s k e = absurd (cc)
 served_right setup past query piece (y ∷ ys) s k e =
     served_first setup past query piece y.got (served_in ys) s k.0 (λ t f. served_right setup past query piece ys t k.1 f) e
@@ -84,7 +84,7 @@ past_piece (Some e) from start xs le o further =
     order_from from e.0 (served_ranges (map asked_piece xs)) (omega (arith, le, o.0)) (further e.0 o.1)
 
 served_order : (setup : Setup) (past : Past) (query : Query) (xs : List PieceAsked) (from : ℕ) → AreOrdered from (map (λ x. x.piece) xs)
-    → AreRightPieces setup past query xs → AreInOrder from (served_ranges (map asked_piece xs))
+    → AreKnownPieces (IsRightNoted setup past query) xs → AreInOrder from (served_ranges (map asked_piece xs))
 served_order setup past query [] from o k = tt
 served_order setup past query (x ∷ xs) from o k =
     by_served (served_in x.answers) (λ s e. served_right setup past query x.piece x.answers s k.0 e) (λ to later. served_order setup past query xs to later k.1)
@@ -103,7 +103,7 @@ abbrev IsWithin : Past → Partition → Range → Type 0
 IsWithin past p r = r.end.0 ≤ length (messages_of past.log p)
 
 served_within : (setup : Setup) (past : Past) (query : Query) (p : Partition) (xs : List PieceAsked) → AreOf p (map (λ x. x.piece) xs)
-    → AreRightPieces setup past query xs → All (IsWithin past p) (served_ranges (map asked_piece xs))
+    → AreKnownPieces (IsRightNoted setup past query) xs → All (IsWithin past p) (served_ranges (map asked_piece xs))
 served_within setup past query p [] of k = All-nil (IsWithin past p)
 served_within setup past query p (x ∷ xs) of k =
     All-append (IsWithin past p) (option_to_list (option_map (λ s. s.range) (served_in x.answers))) (served_ranges (map asked_piece xs))
@@ -121,7 +121,7 @@ held_append query rows [] ts h k = k
 held_append query rows (s ∷ ss) ts h k = (h.0, held_append query rows ss ts h.1 k)
 
 served_held : (setup : Setup) (past : Past) (query : Query) (p : Partition) (xs : List PieceAsked) → AreOf p (map (λ x. x.piece) xs)
-    → AreRightPieces setup past query xs → AreHeld query (rows_in_log setup.schema past.log query) (served_pieces p xs)
+    → AreKnownPieces (IsRightNoted setup past query) xs → AreHeld query (rows_in_log setup.schema past.log query) (served_pieces p xs)
 served_held setup past query p [] of k = tt
 served_held setup past query p (x ∷ xs) of k =
     held_append query (rows_in_log setup.schema past.log query) (under p (served_in x.answers)) (served_pieces p xs)
@@ -197,20 +197,20 @@ pieces_few schema past query p (x ∷ xs) from low o within =
 record IsReady (setup : Setup) (past : Past) (query : Query) (p : Partition) (xs : List PieceAsked) : Type 0 where
   ordered : AreOrdered 0 (map (λ x. x.piece) xs)
   of : AreOf p (map (λ x. x.piece) xs)
-  right : AreRightPieces setup past query xs
+  right : AreKnownPieces (IsRightNoted setup past query) xs
 
 lawful_front : (s : Starting) (h k : List Seen) → Begins s h → IsFront h k → IsLawfulHistory s k → IsLawfulHistory s h
 lawful_front s h k begins g l = prefix_is_lawful s h g.0 begins (subst (IsLawfulHistory s) g.1 l)
 
 ready : (setup : Setup) (past : Past) (query : Query) (p : Partition) (xs : List PieceAsked) → IsLawfulHistory (starting_of setup) past.history → p.0 < setup.partitions
-    → IsPlan setup past query p xs → IsReady setup past query p xs
+    → IsPlan setup past (IsRightNoted setup past query) p xs → IsReady setup past query p xs
 ready setup past query p xs k within plan =
     let s = starting_of setup in
     let order = (lawful_kept s plan.seen (lawful_front s plan.seen past.history plan.begins plan.front k)).order p within in
     record {
       ordered = subst (AreOrdered 0) (sym plan.plan) (plan_ordered plan.seen p order);
       of = subst (AreOf p) (sym plan.plan) (plan_is_of p (metadata_of plan.seen p));
-      right = plan.served;
+      right = plan.known;
     }
 
 abbrev RowsIn : Setup → Past → Query → RowsOf
@@ -226,7 +226,7 @@ good_none : (setup : Setup) (past : Past) (p : Partition) → IsServed past.log 
 good_none setup past p = record { in_order = tt; within = All-nil (IsWithin past p) }
 
 good : (setup : Setup) (past : Past) (query : Query) (p : Partition) (route : Route) → IsLawfulHistory (starting_of setup) past.history → p.0 < setup.partitions
-    → IsRoute setup past query p route → IsGood setup past query p route
+    → IsRoute setup past (IsRightNoted setup past query) p route → IsGood setup past query p route
 good setup past query p Untried k within r = record { served = good_none setup past p; held = tt; few = omega arith }
 good setup past query p Failed k within r = record { served = good_none setup past p; held = tt; few = omega arith }
 good setup past query p (Planned xs) k within r =

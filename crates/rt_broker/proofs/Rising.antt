@@ -1,7 +1,9 @@
 -- The pieces of a plan come in order, since the nodes of a metadata list do.
-use Rattle.std.proofs.Common.{◌≡◌, ℕ, zero, suc, ◌+◌, ◌<◌, ◌≤◌, List, [], ◌∷◌, ◌++◌, length, Option, Some, None, refl, sym, ap, subst, arith, option_to_list}
+use Rattle.std.proofs.Common.{◌≡◌, inl, inr, ℕ, zero, suc, ◌+◌, ◌<◌, ◌≤◌, List, [], ◌∷◌, ◌++◌, length, Option, Some, None, refl, sym, ap, subst, arith, option_to_list}
+use Rattle.std.specs.List.{AllByRecursion}
 use Rattle.rt_base.specs.declared.numbers.Offset.{Offset}
 use Rattle.rt_base.specs.declared.numbers.Partition.{Partition}
+use Rattle.rt_lists.specs.Members.{Has}
 use Rattle.rt_model.specs.declared.node.Listed.{Listed}
 use Rattle.rt_model.specs.declared.node.Node.{Node}
 use Rattle.rt_model.specs.declared.node.Node.TheVariants as node
@@ -203,9 +205,16 @@ plan_ordered h p o = plan_rising p (metadata_of h p) 0 (all_rising h p o (sequen
 
 -- ---- and all its pieces are of the partition
 
+pub each_of : {X : Type 0} (P : X → Type 0) (xs : List X) (x : X) → AllByRecursion P xs → Has xs x → P x
+each_of P [] x all h = absurd h
+each_of P (y ∷ xs) x all (inl same) = subst P same all.0
+each_of P (y ∷ xs) x all (inr later) = each_of P xs x all.1 later
+
 abbrev pub AreOf : Partition → List Piece → Type 0
-AreOf p [] = Unit {0}
-AreOf p (q ∷ qs) = (q.partition ≡ p) × AreOf p qs
+AreOf p qs = AllByRecursion (λ q. q.partition ≡ p) qs
+
+pub one_of : (p : Partition) (ps : List Piece) (piece : Piece) → AreOf p ps → Has ps piece → piece.partition ≡ p
+one_of p ps piece of has = each_of (λ q. q.partition ≡ p) ps piece of has
 
 of_at : (p : Partition) (l : Listed) (s : Status) (ps : List Piece) → AreOf p ps → AreOf p (planned p l s ps)
 of_at p l InProgress ps k = (refl, tt)

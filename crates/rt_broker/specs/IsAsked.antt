@@ -1,6 +1,7 @@
--- What lasts of a query, over a past: each plan is that of a metadata list of the store, and what was served of a piece are
--- the groups of the stream's rows of its range.
+-- What lasts of a query, over a past: each plan is that of a metadata list of the store, and something is known of each
+-- answer that was noted. Mostly that it is right: what was served of a piece are the groups of the stream's rows of its range.
 use Rattle.std.specs.Prelude.{◌≡◌, ◌≤◌, ◌+◌, ℕ, List, [], ◌∷◌, length, map, slice_get, Some}
+use Rattle.std.specs.List.{AllByRecursion}
 use Rattle.rt_base.specs.declared.numbers.Partition.{Partition}
 use Rattle.rt_lists.specs.Members.{IsFront}
 use Rattle.rt_schema.specs.Row.{rows_between}
@@ -40,36 +41,44 @@ IsRightGot setup past query piece (got.Served served) = IsRightServed setup past
 IsRightGot setup past query piece got.NotServed = Unit {0}
 IsRightGot setup past query piece got.Down = Unit {0}
 
+-- what is known of an answer that was noted for a piece
+abbrev pub Knows : Type 1
+Knows = Piece → PieceAnswer → Type 0
+
 -- so it is of every server that was asked for a piece
-abbrev pub AreRightAnswers : Setup → Past → Query → Piece → List PieceAnswer → Type 0
-AreRightAnswers setup past query piece [] = Unit {0}
-AreRightAnswers setup past query piece (y ∷ ys) =
-    IsRightGot setup past query piece y.got × AreRightAnswers setup past query piece ys
+abbrev pub AreKnownAnswers : Knows → Piece → List PieceAnswer → Type 0
+AreKnownAnswers knows piece ys = AllByRecursion (knows piece) ys
 
 -- and of every piece
-abbrev pub AreRightPieces : Setup → Past → Query → List PieceAsked → Type 0
-AreRightPieces setup past query [] = Unit {0}
-AreRightPieces setup past query (x ∷ xs) =
-    AreRightAnswers setup past query x.piece x.answers × AreRightPieces setup past query xs
+abbrev pub AreKnownPieces : Knows → List PieceAsked → Type 0
+AreKnownPieces knows xs = AllByRecursion (λ x. AreKnownAnswers knows x.piece x.answers) xs
 
 -- the plan of the metadata list that a front of the history has
-pub record IsPlan (setup : Setup) (past : Past) (query : Query) (p : Partition) (xs : List PieceAsked) : Type 0 where
+pub record IsPlan (setup : Setup) (past : Past) (knows : Knows) (p : Partition) (xs : List PieceAsked) : Type 0 where
   pub seen : List Seen
   pub begins : Begins (starting_of setup) seen
   pub front : IsFront seen past.history
   pub plan : map (λ x. x.piece) xs ≡ plan_of p (metadata_of seen p)
-  pub served : AreRightPieces setup past query xs
+  pub known : AreKnownPieces knows xs
 
-abbrev pub IsRoute : Setup → Past → Query → Partition → Route → Type 0
-IsRoute setup past query p Untried = Unit {0}
-IsRoute setup past query p Failed = Unit {0}
-IsRoute setup past query p (Planned xs) = IsPlan setup past query p xs
+abbrev pub IsRoute : Setup → Past → Knows → Partition → Route → Type 0
+IsRoute setup past knows p Untried = Unit {0}
+IsRoute setup past knows p Failed = Unit {0}
+IsRoute setup past knows p (Planned xs) = IsPlan setup past knows p xs
 
-pub record IsAsked (setup : Setup) (past : Past) (a : Asking) : Type 0 where
+-- an asking over a past, where this is known of all that was noted
+pub record IsAskedKnowing (setup : Setup) (past : Past) (knows : Knows) (a : Asking) : Type 0 where
   pub servers : a.servers ≡ setup.servers
   pub replication : a.replication ≡ setup.table.replication
   pub partitions : length a.routes ≡ setup.partitions
-  pub routes : (p : Partition) (route : Route) → slice_get a.routes p.0 ≡ Some route → IsRoute setup past a.query p route
+  pub routes : (p : Partition) (route : Route) → slice_get a.routes p.0 ≡ Some route → IsRoute setup past knows p route
+
+-- what was noted is right over the past
+abbrev pub IsRightNoted : Setup → Past → Query → Piece → PieceAnswer → Type 0
+IsRightNoted setup past query piece y = IsRightGot setup past query piece y.got
+
+abbrev pub IsAsked : Setup → Past → Asking → Type 0
+IsAsked setup past a = IsAskedKnowing setup past (IsRightNoted setup past a.query) a
 
 -- how many messages a log has
 abbrev pub messages_in : Log → ℕ

@@ -8,11 +8,12 @@ use Rattle.rt_base.specs.declared.numbers.Instance.{Instance}
 use Rattle.rt_base.specs.declared.numbers.Partition.{Partition}
 use Rattle.rt_base.specs.declared.range.Range.{Range}
 use Rattle.rt_broker.specs.Asking.{asking}
-use Rattle.rt_broker.specs.IsAskedBy.{GivesMore}
+use Rattle.rt_broker.specs.IsAskedBy.{GivesMore, IsGiven}
 use Rattle.rt_broker.specs.declared.piece_given.PieceGiven.{PieceGiven}
 use Rattle.rt_broker.specs.declared.piece_got.PieceGot.{PieceGot}
 use Rattle.rt_broker.specs.declared.refused.BrokerRefused.{BrokerRefused}
-use Rattle.rt_broker.proofs.Given.{asked_begins_by, asked_lasts, note_kept_by, route_kept_by}
+use Rattle.rt_broker.proofs.Given.{asked_lasts}
+use Rattle.rt_broker.proofs.Lasting.{asked_noted, asked_routed, asking_begins}
 use Rattle.rt_front.specs.Histories.{Known}
 use Rattle.rt_lists.specs.Members.{IsFront}
 use Rattle.rt_lists.proofs.Members.{front_then}
@@ -158,7 +159,7 @@ module _ (n : Names) (f : Fronts) (fed : List (Known PieceGiven)) (ranges : List
       let o : Began = record { opened = opened query number (asking s.text n.setup); began = s.before.seen } in
       let is : IsOpen n f fed o = record {
         query = s.is;
-        asked = asked_begins_by n.setup (broker_view n f) (given_by fed) query number s.text;
+        asked = asking_begins n.setup (broker_view n f) (IsGiven (given_by fed) query number) s.text;
         began = s.showed.whole;
         since = since_begins s.before.seen history s.text n.setup;
         tried = none_begins s.text n.setup;
@@ -174,7 +175,7 @@ module _ (n : Names) (f : Fronts) (fed : List (Known PieceGiven)) (ranges : List
       let next : Began = record { opened = opened o.opened.query o.opened.asking s.asked; began = o.began } in
       let is : IsOpen n f fed next = record {
         query = was.query ∙ ap (λ q. Some q) (sym (query_routed s.before s.after old s.asked p result s.step));
-        asked = route_kept_by n.setup (broker_view n f) (given_by fed) o.opened.query o.opened.asking s.before s.after old s.asked p result s.step s.begins s.shows.whole was.asked;
+        asked = asked_routed n.setup (broker_view n f) (λ text. IsGiven (given_by fed) o.opened.query o.opened.asking) s.before s.after old s.asked p result s.step s.begins s.shows.whole was.asked;
         began = was.began;
         since = since_routed o.began history s.before s.after old s.asked p result s.step s.met s.since s.shows.whole was.since;
         tried = none_routed s.before s.after old s.asked p result s.step s.met was.tried;
@@ -190,7 +191,7 @@ module _ (n : Names) (f : Fronts) (fed : List (Known PieceGiven)) (ranges : List
       let next : Began = record { opened = opened o.opened.query o.opened.asking s.asked; began = o.began } in
       let is : IsOpen n f fed next = record {
         query = was.query ∙ ap (λ q. Some q) (sym (query_noted old s.asked piece from got s.result s.step));
-        asked = note_kept_by n.setup (broker_view n f) (given_by fed) o.opened.query o.opened.asking old s.asked piece from got s.result s.step s.gave was.asked;
+        asked = asked_noted n.setup (broker_view n f) (λ text. IsGiven (given_by fed) o.opened.query o.opened.asking) old s.asked piece from got s.result s.step s.gave was.asked;
         began = was.began;
         since = since_noted o.began history old s.asked piece from got s.result s.step was.since;
         tried = none_noted old s.asked piece from got s.result s.step was.tried;

@@ -11,7 +11,7 @@ use Rattle.rt_base.specs.declared.fault.Fault.TheVariants.{Nothing}
 use Rattle.rt_base.specs.declared.numbers.Instance.{Instance}
 use Rattle.rt_base.specs.declared.numbers.Partition.{Partition}
 use Rattle.rt_base.specs.declared.numbers.Sequence.{Sequence}
-use Rattle.rt_broker.proofs.Rising.{AreOf, plan_is_of}
+use Rattle.rt_broker.proofs.Rising.{one_of, plan_is_of}
 use Rattle.rt_broker.proofs.Telling.{failed_now, routed_now}
 use Rattle.rt_broker.specs.Answering.{IsMissing, IsRefusal, IsRefused, RefusedBy}
 use Rattle.rt_broker.specs.Asking.{Asking, answered, asked_for, asking, piece_at, plan_at, plan_in, route_at, unasked, with_answer, with_route}
@@ -164,11 +164,6 @@ fails_by nodes fault met none = not_failed (subst (λ (f : Fault). answer_under 
   where
     not_failed : listed nodes ≡ Err store_refused.Failed → ⊥
     not_failed e = cc
-
-one_of : (p : Partition) (ps : List Piece) (piece : Piece) → AreOf p ps → Has ps piece → piece.partition ≡ p
-one_of p [] piece k has = absurd has
-one_of p (q ∷ ps) piece k (inl same) = ap (λ (x : Piece). x.partition) (sym same) ∙ k.0
-one_of p (q ∷ ps) piece k (inr has) = one_of p ps piece k.1 has
 
 -- what was refused is told
 told_refusal : (what : PieceGot) → IsRefusal what → (piece_outcome what ≡ told.NodeDown) ⊎ (piece_outcome what ≡ told.NotServed)

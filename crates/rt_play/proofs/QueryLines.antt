@@ -11,7 +11,7 @@ use Rattle.rt_base.specs.declared.range.Range.{Range}
 use Rattle.rt_agg.specs.declared.served.Served.{Served}
 use Rattle.rt_broker.specs.Answering.{asked_piece, pieces_in, routed_from, routed_of}
 use Rattle.rt_broker.specs.Asking.{Asking, first_served, served_by, served_in}
-use Rattle.rt_broker.specs.IsAsked.{AreRightAnswers, AreRightPieces, IsRightGot, IsRoute}
+use Rattle.rt_broker.specs.IsAsked.{AreKnownAnswers, AreKnownPieces, IsRightGot, IsRightNoted, IsRoute}
 use Rattle.rt_broker.specs.Noting.{IsRangeOf}
 use Rattle.rt_broker.specs.declared.piece_asked.PieceAnswer.{PieceAnswer}
 use Rattle.rt_broker.specs.declared.piece_asked.PieceAsked.{PieceAsked}
@@ -270,7 +270,7 @@ abbrev IsFit : Piece → Option Served → Type 0
 IsFit piece o = IfSome (option_map (λ (served : Served). served.range) o) (IsRangeOf piece)
 
 -- what was served of a piece is a range of it
-served_fits : (w : State) (query : Query) (piece : Piece) (ys : List PieceAnswer) → AreRightAnswers w.setup (past_of w) query piece ys
+served_fits : (w : State) (query : Query) (piece : Piece) (ys : List PieceAnswer) → AreKnownAnswers (IsRightNoted w.setup (past_of w) query) piece ys
     → IfSome (option_map (λ (served : Served). served.range) (served_in ys)) (IsRangeOf piece)
 served_fits w query piece [] k = tt
 served_fits w query piece (y ∷ ys) k = by_got y.got k.0 (served_fits w query piece ys k.1)
@@ -280,7 +280,7 @@ served_fits w query piece (y ∷ ys) k = by_got y.got k.0 (served_fits w query p
     by_got got.NotServed right further = further
     by_got got.Down right further = further
 
-plan_fits : (w : State) (query : Query) (xs : List PieceAsked) → AreRightPieces w.setup (past_of w) query xs → AreFit (map asked_piece xs)
+plan_fits : (w : State) (query : Query) (xs : List PieceAsked) → AreKnownPieces (IsRightNoted w.setup (past_of w) query) xs → AreFit (map asked_piece xs)
 plan_fits w query [] k = tt
 plan_fits w query (x ∷ xs) k = (served_fits w query x.piece x.answers k.0, plan_fits w query xs k.1)
 
@@ -328,7 +328,8 @@ part_found w v answer p within f =
         Has-same (missing_of (routed_of f.answered.asked)) answer.missing (p, s) (sym f.answered.right.missing)
         (missing_route p s 0 p.0 f.answered.asked.routes route (omega arith) at has)
 
-    by_route : (route : Route) → slice_get f.answered.asked.routes p.0 ≡ Some route → IsRoute f.world.setup (past_of f.world) f.answered.asked.query p route
+    by_route : (route : Route) → slice_get f.answered.asked.routes p.0 ≡ Some route
+        → IsRoute f.world.setup (past_of f.world) (IsRightNoted f.world.setup (past_of f.world) f.answered.asked.query) p route
         → IsRouteOf w f.answered.asked.query p route → PartFound w p answer
     by_route Untried at over of = record {
       pieces = None;
@@ -347,7 +348,7 @@ part_found w v answer p within f =
     by_route (Planned ys) at over of =
         let xs = map asked_piece ys in
         let plan : map (λ a. a.piece) xs ≡ plan_of p (metadata_of w.store.writes p) = same_pieces ys ∙ of.plan in
-        let fit = plan_fits f.world f.answered.asked.query ys over.served in
+        let fit = plan_fits f.world f.answered.asked.query ys over.known in
         record {
           pieces = Some xs;
           named = named (Planned ys) at;

@@ -14,7 +14,7 @@ use Rattle.rt_broker.specs.declared.piece_got.PieceGot.TheVariants as got
 use Rattle.rt_broker.specs.declared.route.Route.{Route}
 use Rattle.rt_broker.specs.declared.route.Route.TheVariants.{Untried, Failed, Planned}
 use Rattle.rt_broker.specs.Asking.{Asking, asked_for, piece_at, plan_in, route_at}
-use Rattle.rt_broker.specs.IsAsked.{IsAsked, IsPlan, IsRightGot}
+use Rattle.rt_broker.specs.IsAsked.{IsAsked, IsPlan, IsRightGot, IsRightNoted, Knows}
 use Rattle.rt_broker.specs.Noting.{IsEnd}
 use Rattle.rt_broker.proofs.Rising.{ordered_after, AreOrdered, plan_ordered}
 use Rattle.rt_controller.proofs.Paired.{count_set}
@@ -70,9 +70,9 @@ ordered_piece from (x ∷ xs) s piece o e =
     by_test true further f = subst HasOrder (same_Some x.piece piece f) (first x.piece.end refl o.1)
     by_test false further f = rest x.piece.end further o.1 f
 
-planned_order : (setup : Setup) (past : Past) (query : Query) (p : Partition) (xs : List PieceAsked) (s : Sequence) (piece : Piece) → IsPast setup past → p.0 < setup.partitions
-    → IsPlan setup past query p xs → option_map (λ x. x.piece) (asked_for s xs) ≡ Some piece → IfSome piece.end (λ end. piece.start.0 ≤ end.0)
-planned_order setup past query p xs s piece k within plan e =
+planned_order : (setup : Setup) (past : Past) (knows : Knows) (p : Partition) (xs : List PieceAsked) (s : Sequence) (piece : Piece) → IsPast setup past → p.0 < setup.partitions
+    → IsPlan setup past knows p xs → option_map (λ x. x.piece) (asked_for s xs) ≡ Some piece → IfSome piece.end (λ end. piece.start.0 ≤ end.0)
+planned_order setup past knows p xs s piece k within plan e =
     let st = starting_of setup in
     let lawful = prefix_is_lawful st plan.seen plan.front.0 plan.begins (subst (IsLawfulHistory st) plan.front.1 k.lawful) in
     ordered_piece 0 xs s piece (subst (AreOrdered 0) (sym plan.plan) (plan_ordered plan.seen p (nodes_are_in_order st plan.seen lawful p within))) e
@@ -87,7 +87,8 @@ piece_order setup past a p s piece k asked e = by_route (route_at a p) refl e
     by_route (Some Untried) at f = absurd (none-some piece f)
     by_route (Some Failed) at f = absurd (none-some piece f)
     by_route (Some (Planned xs)) at f =
-        planned_order setup past a.query p xs s piece k (omega (arith, slice_get_within a.routes p.0 (Planned xs) at, asked.partitions)) (asked.routes p (Planned xs) at) f
+        planned_order setup past (IsRightNoted setup past a.query) p xs s piece k
+        (omega (arith, slice_get_within a.routes p.0 (Planned xs) at, asked.partitions)) (asked.routes p (Planned xs) at) f
 
 end_is : (o : Option Offset) (range : Range) → IfSome o (λ end. range.end ≡ end) → IsEnd o range.end
 end_is None range k = tt
