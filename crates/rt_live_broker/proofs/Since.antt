@@ -1,6 +1,6 @@
 -- What an asking keeps beside what its broker's own crate says of it: since when its plans are, that no routing failed, and its query.
-use Rattle.std.proofs.Common.{◌≡◌, ℕ, zero, suc, ◌⊎◌, inl, inr, List, map, Option, Some, None, Result, Ok, Err, refl, sym, ap, subst, ◌∙◌, slice_get}
-use Rattle.std.specs.Prelude.{option_map, replicate}
+use Rattle.std.proofs.Common.{◌≡◌, ℕ, ◌⊎◌, inl, inr, List, map, Option, Some, None, Result, Ok, Err, refl, sym, ap, subst, ◌∙◌, slice_get}
+use Rattle.std.specs.Prelude.{option_map}
 use Rattle.rt_base.specs.declared.numbers.Instance.{Instance}
 use Rattle.rt_base.specs.declared.numbers.Partition.{Partition}
 use Rattle.rt_base.specs.declared.numbers.Sequence.{Sequence}
@@ -15,7 +15,7 @@ use Rattle.rt_broker.specs.declared.refused.BrokerRefused.{BrokerRefused}
 use Rattle.rt_broker.specs.declared.refused.BrokerRefused.TheVariants.{NotDue, StoreFault, Memory}
 use Rattle.rt_broker.specs.declared.route.Route.{Route}
 use Rattle.rt_broker.specs.declared.route.Route.TheVariants.{Untried, Failed, Planned}
-use Rattle.rt_broker.proofs.Lasting.{got_of_set}
+use Rattle.rt_broker.proofs.Lasting.{got_of_replicate, got_of_set}
 use Rattle.rt_broker.proofs.Plans.{pieces_of_unasked, pieces_stay}
 use Rattle.rt_lists.specs.Members.{IsFront}
 use Rattle.rt_lists.proofs.Members.{front_then}
@@ -36,16 +36,11 @@ use Rattle.rt_store.proofs.Seeing.{same_ok}
 
 -- ---- an asking begins
 
-untried_in : (n i : ℕ) (route : Route) → slice_get (replicate n Untried) i ≡ Some route → Untried ≡ route
-untried_in zero i route e = absurd (cc)
-untried_in (suc n) zero route e = cc
-untried_in (suc n) (suc i) route e = untried_in n i route e
-
 pub since_begins : (began h : List Seen) (text : Query) (setup : Setup) → ArePlansSince began h (asking text setup)
-since_begins began h text setup = λ p xs at. let same : Untried ≡ Planned xs = untried_in setup.partitions p.0 (Planned xs) at in absurd (cc)
+since_begins began h text setup = λ p xs at. let same : Untried ≡ Planned xs = got_of_replicate setup.partitions p.0 Untried (Planned xs) at in absurd (cc)
 
 pub none_begins : (text : Query) (setup : Setup) → NoneFailed (asking text setup)
-none_begins text setup = λ p at. let same : Untried ≡ Failed = untried_in setup.partitions p.0 Failed at in absurd (cc)
+none_begins text setup = λ p at. let same : Untried ≡ Failed = got_of_replicate setup.partitions p.0 Untried Failed at in absurd (cc)
 
 -- ---- more is seen
 

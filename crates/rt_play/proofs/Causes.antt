@@ -1,6 +1,6 @@
 -- What an answer of a run misses has its cause in the run's earlier turns.
-use Rattle.std.proofs.Common.{◌≡◌, ◌==◌, ◌⊎◌, inl, inr, ℕ, zero, suc, Bool, true, false, List, [], ◌∷◌, ◌++◌, length, map, Option, Some, None, Result, Ok, Err, refl, sym, ◌∙◌, ap, subst, slice_get, slice_set, if◌then◌else◌, append_assoc}
-use Rattle.std.specs.Prelude.{option_map, replicate}
+use Rattle.std.proofs.Common.{◌≡◌, ◌==◌, ◌⊎◌, inl, inr, ℕ, Bool, true, false, List, [], ◌∷◌, ◌++◌, length, map, Option, Some, None, Result, Ok, Err, refl, sym, ◌∙◌, ap, subst, slice_get, slice_set, if◌then◌else◌, append_assoc}
+use Rattle.std.specs.Prelude.{option_map}
 use Rattle.std.proofs.lemmas.Bool.{eqb-true}
 use Rattle.std.proofs.lemmas.List.{append-nil}
 use Rattle.std.proofs.lemmas.Option.{none-some, same_Some}
@@ -11,6 +11,7 @@ use Rattle.rt_base.specs.declared.fault.Fault.TheVariants.{Nothing}
 use Rattle.rt_base.specs.declared.numbers.Instance.{Instance}
 use Rattle.rt_base.specs.declared.numbers.Partition.{Partition}
 use Rattle.rt_base.specs.declared.numbers.Sequence.{Sequence}
+use Rattle.rt_broker.proofs.Lasting.{got_of_replicate}
 use Rattle.rt_broker.proofs.Rising.{one_of, plan_is_of}
 use Rattle.rt_broker.proofs.Telling.{failed_now, routed_now}
 use Rattle.rt_broker.specs.Answering.{IsMissing, IsRefusal, IsRefused, RefusedBy}
@@ -147,14 +148,6 @@ module _ (setup : Setup) (turns : List Turn) (w : State) (turn : Turn) (v : Stat
 
 -- ---- an event
 
-none_tried : (setup : Setup) (turns : List Turn) (w : State) (q n i : ℕ) (route : Route) → slice_get (replicate n Untried) i ≡ Some route → IsRouteAt setup turns w q i route
-none_tried setup turns w q n i route at = by_place n i at
-  where
-    by_place : (m j : ℕ) → slice_get (replicate m Untried) j ≡ Some route → IsRouteAt setup turns w q i route
-    by_place zero j e = absurd (none-some route e)
-    by_place (suc m) zero e = subst (IsRouteAt setup turns w q i) (same_Some Untried route e) tt
-    by_place (suc m) (suc j) e = by_place m j e
-
 abbrev listed : List Listed → Result (List Listed) StoreRefused
 listed nodes = Ok nodes
 
@@ -241,7 +234,8 @@ module _ (setup : Setup) (turns : List Turn) (w : State) (o : Outcome) (v : Stat
       let more = turns ++ happens (event.Ask query) o ∷ [] in
       let P = IsQueryCaused setup more v in
       subst (AreAt P) (sym (ap (λ (z : Next). z.0.queries) t.1.2))
-      (at_push P w.queries (Some (asking query w.setup)) (none_tried setup more v (length w.queries) w.setup.partitions)
+      (at_push P w.queries (Some (asking query w.setup))
+      (λ i route at. subst (IsRouteAt setup more v (length w.queries) i) (got_of_replicate w.setup.partitions i Untried route at) tt)
       (queries_more setup turns w (happens (event.Ask query) o) v t k))
 
   -- ---- route

@@ -1,15 +1,16 @@
 -- What a `query` line gathers in a world: the plan of each partition that it could route is that of the world's metadata list, and what
 -- was noted of a server is what that server gives there.
-use Rattle.std.proofs.Common.{◌≡◌, ◌==◌, ℕ, zero, suc, Bool, true, false, ◌⊎◌, inl, inr, List, [], ◌∷◌, ◌++◌, map, length, Option, Some, None, Result, Ok, Err, refl, sym, ◌∙◌, ap, subst, slice_get, slice_set, if◌then◌else◌}
-use Rattle.std.specs.Prelude.{option_map, replicate}
+use Rattle.std.proofs.Common.{◌≡◌, ℕ, List, [], ◌∷◌, ◌++◌, map, length, Option, Some, None, Result, Ok, Err, refl, sym, ◌∙◌, ap, subst, slice_get, slice_set}
+use Rattle.std.specs.Prelude.{option_map}
 use Rattle.std.proofs.lemmas.Option.{none-some, same_Some}
 use Rattle.rt_base.specs.declared.numbers.Instance.{Instance}
 use Rattle.rt_base.specs.declared.numbers.Partition.{Partition}
 use Rattle.rt_base.specs.declared.numbers.Sequence.{Sequence}
-use Rattle.rt_broker.proofs.Lasting.{got_of_set}
+use Rattle.rt_broker.proofs.Lasting.{each_route, got_of_replicate, pieces_more, unasked_known}
 use Rattle.rt_broker.proofs.Plans.{pieces_of_unasked, pieces_stay}
 use Rattle.rt_broker.proofs.Telling.{routed_now}
-use Rattle.rt_broker.specs.Asking.{Asking, answered, asked_for, asking, plan_at, plan_in, route_at, unasked, with_answer, with_route}
+use Rattle.rt_broker.specs.Asking.{Asking, asked_for, asking, plan_at, plan_in, route_at, unasked, with_answer, with_route}
+use Rattle.rt_broker.specs.IsAsked.{AreKnownPieces}
 use Rattle.rt_broker.specs.Noting.{Notes}
 use Rattle.rt_broker.specs.Routing.{Routes as broker_routes}
 use Rattle.rt_broker.specs.declared.piece_asked.PieceAnswer.{PieceAnswer}
@@ -46,18 +47,10 @@ pub record GivesIn (w : State) (query : Query) (piece : Piece) (y : PieceAnswer)
   pub there : slice_get w.servers y.from.0 ≡ Some node
   pub gives : Gives node piece query y.got
 
-abbrev pub AreGiven : State → Query → Piece → List PieceAnswer → Type 0
-AreGiven w query piece [] = Unit {0}
-AreGiven w query piece (y ∷ ys) = GivesIn w query piece y × AreGiven w query piece ys
-
-abbrev pub GiveAll : State → Query → List PieceAsked → Type 0
-GiveAll w query [] = Unit {0}
-GiveAll w query (x ∷ xs) = AreGiven w query x.piece x.answers × GiveAll w query xs
-
 -- a plan is that of the world's metadata list, and what was noted of it is what the world's servers give
 pub record IsPlanOf (w : State) (query : Query) (p : Partition) (xs : List PieceAsked) : Type 0 where
   pub plan : map (λ x. x.piece) xs ≡ plan_of p (metadata_of w.store.writes p)
-  pub given : GiveAll w query xs
+  pub given : AreKnownPieces (GivesIn w query) xs
 
 abbrev pub IsRouteOf : State → Query → Partition → Route → Type 0
 IsRouteOf w query p Untried = Unit {0}
@@ -70,31 +63,13 @@ AreRoutesOf w a = (p : Partition) (route : Route) → route_at a p ≡ Some rout
 
 -- ---- the query is asked
 
-none_tried : (w : State) (query : Query) (p : Partition) (n i : ℕ) (route : Route) → slice_get (replicate n Untried) i ≡ Some route → IsRouteOf w query p route
-none_tried w query p zero i route e = absurd (cc)
-none_tried w query p (suc n) zero route e = subst (IsRouteOf w query p) (same_Some Untried route e) tt
-none_tried w query p (suc n) (suc i) route e = none_tried w query p n i route e
-
 asked_routes : (w v : State) (query : Query) → AreRoutesOf w (asking query v.setup)
-asked_routes w v query p route at = none_tried w query p v.setup.partitions p.0 route at
+asked_routes w v query p route at = subst (IsRouteOf w query p) (got_of_replicate v.setup.partitions p.0 Untried route at) tt
 
 -- ---- a partition is set
 
-abbrev numbered : ℕ → Partition
-numbered n = record { 0 = n }
-
 routes_with : (w : State) (a : Asking) (p : Partition) (route : Route) → AreRoutesOf w a → IsRouteOf w a.query p route → AreRoutesOf w (with_route a p route)
-routes_with w a p route k r q other at = by_place (got_of_set a.routes p.0 q.0 route other at)
-  where
-    by_place : ((q.0 ≡ p.0) × (other ≡ route)) ⊎ (slice_get a.routes q.0 ≡ Some other) → IsRouteOf w a.query q other
-    by_place (inl same) =
-        let here : p ≡ q = ap (λ (n : ℕ). numbered n) (sym same.0) in
-        subst (λ o. IsRouteOf w a.query q o) (sym same.1) (subst (λ t. IsRouteOf w a.query t route) here r)
-    by_place (inr there) = k q other there
-
-none_given : (w : State) (query : Query) (ps : List Piece) → GiveAll w query (map unasked ps)
-none_given w query [] = tt
-none_given w query (p ∷ ps) = (tt, none_given w query ps)
+routes_with w a p route k r = each_route (IsRouteOf w a.query) a.routes p route k r
 
 -- ---- a route
 
@@ -105,30 +80,12 @@ route_noted w u store a b p (Ok count) o same r told k =
     let plan = plan_of p (metadata_of u.store.writes p) in
     subst (AreRoutesOf w) (sym now.noted)
     (routes_with w a p (Planned (map unasked plan)) k
-    (record { plan = sym (pieces_of_unasked plan) ∙ ap (λ h. plan_of p (metadata_of h p)) same; given = none_given w a.query plan }))
+    (record { plan = sym (pieces_of_unasked plan) ∙ ap (λ h. plan_of p (metadata_of h p)) same; given = unasked_known (GivesIn w a.query) plan }))
 route_noted w u store a b p (Err broker.NotDue) o same r told k = absurd (none-some o told)
 route_noted w u store a b p (Err broker.StoreFault) o same r told k = subst (AreRoutesOf w) (sym r.2) (routes_with w a p Failed k tt)
 route_noted w u store a b p (Err broker.Memory) o same r told k = absurd (none-some o told)
 
 -- ---- a piece
-
-given_more : (w : State) (query : Query) (piece : Piece) (ys : List PieceAnswer) (y : PieceAnswer) → AreGiven w query piece ys → GivesIn w query piece y
-    → AreGiven w query piece (ys ++ y ∷ [])
-given_more w query piece [] y k g = (g, tt)
-given_more w query piece (z ∷ ys) y k g = (k.0, given_more w query piece ys y k.1 g)
-
-all_given : (w : State) (query : Query) (s : Sequence) (y : PieceAnswer) (xs : List PieceAsked) (piece : Piece) → GiveAll w query xs
-    → option_map (λ x. x.piece) (asked_for s xs) ≡ Some piece → GivesIn w query piece y → GiveAll w query (with_answer s y xs)
-all_given w query s y [] piece k e g = tt
-all_given w query s y (x ∷ xs) piece k e g = by_test (x.piece.sequence.0 == s.0) e (λ f. all_given w query s y xs piece k.1 f g)
-  where
-    by_test : (b : Bool) → option_map (λ z. z.piece) (if b then Some x else asked_for s xs) ≡ Some piece
-        → (option_map (λ z. z.piece) (asked_for s xs) ≡ Some piece → GiveAll w query (with_answer s y xs))
-        → GiveAll w query (if b then answered x y ∷ xs else x ∷ with_answer s y xs)
-    by_test true f further =
-        let same : x.piece ≡ piece = cc in
-        (given_more w query x.piece x.answers y k.0 (subst (λ q. GivesIn w query q y) (sym same) g), k.1)
-    by_test false f further = (k.0, further f)
 
 plan_given : (w : State) (query : Query) (p : Partition) (s : Sequence) (y : PieceAnswer) (piece : Piece) (o : Option Route)
     → ((route : Route) → o ≡ Some route → IsRouteOf w query p route) → option_map (λ x. x.piece) (asked_for s (plan_in o)) ≡ Some piece
@@ -138,7 +95,7 @@ plan_given w query p s y piece (Some Untried) k e g = absurd (cc)
 plan_given w query p s y piece (Some Failed) k e g = absurd (cc)
 plan_given w query p s y piece (Some (Planned xs)) k e g =
     let was : IsPlanOf w query p xs = k (Planned xs) refl in
-    record { plan = pieces_stay s y xs ∙ was.plan; given = all_given w query s y xs piece was.given e g }
+    record { plan = pieces_stay s y xs ∙ was.plan; given = pieces_more (GivesIn w query) s y xs piece was.given e g }
 
 piece_noted : (w : State) (a b : Asking) (piece : Piece) (i : Instance) (what : PieceGot) → Notes a piece i what b (Ok tt)
     → GivesIn w a.query piece (record { from = i; got = what }) → AreRoutesOf w a → AreRoutesOf w b

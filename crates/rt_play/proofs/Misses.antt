@@ -8,9 +8,10 @@ use Rattle.rt_base.specs.declared.numbers.Instance.{Instance}
 use Rattle.rt_base.specs.declared.numbers.Offset.{Offset}
 use Rattle.rt_base.specs.declared.numbers.Partition.{Partition}
 use Rattle.rt_base.specs.declared.numbers.Sequence.{Sequence}
+use Rattle.rt_broker.proofs.Rising.{each_of}
 use Rattle.rt_broker.specs.Answering.{IsRefusal, IsRefused, RefusedBy}
 use Rattle.rt_broker.specs.Asking.{plan_in, route_at}
-use Rattle.rt_broker.specs.declared.piece_asked.PieceAnswer.{PieceAnswer}
+use Rattle.rt_broker.specs.IsAsked.{AreKnownAnswers}
 use Rattle.rt_broker.specs.declared.piece_asked.PieceAsked.{PieceAsked}
 use Rattle.rt_broker.specs.declared.piece_got.PieceGot.{PieceGot}
 use Rattle.rt_broker.specs.declared.piece_got.PieceGot.TheVariants as got
@@ -30,7 +31,7 @@ use Rattle.rt_model.specs.declared.query.Query.{Query}
 use Rattle.rt_model.specs.declared.setup.Setup.{Setup}
 use Rattle.rt_nodes.specs.Queries.{GivesIf}
 use Rattle.rt_nodes.specs.declared.server_node.ServerNode.{ServerNode}
-use Rattle.rt_play.proofs.Gathered.{AreGiven, GiveAll, GivesIn, IsRouteOf}
+use Rattle.rt_play.proofs.Gathered.{GivesIn, IsRouteOf}
 use Rattle.rt_play.proofs.QueryLines.{IsFound, query_answer}
 use Rattle.rt_play.specs.Missed.{IsMissedIn, MissesSo, RefusesIn}
 use Rattle.rt_server.specs.Serving.{serve}
@@ -50,19 +51,9 @@ gave_none n piece query (got.Served served) true e gives refusal = absurd refusa
 gave_none n piece query got.NotServed true e gives refusal = inr gives
 gave_none n piece query got.Down true e gives refusal = absurd gives
 
-given_in : (w : State) (query : Query) (piece : Piece) (ys : List PieceAnswer) (y : PieceAnswer) → AreGiven w query piece ys → Has ys y → GivesIn w query piece y
-given_in w query piece [] y k has = absurd has
-given_in w query piece (z ∷ ys) y k (inl same) = subst (GivesIn w query piece) same k.0
-given_in w query piece (z ∷ ys) y k (inr has) = given_in w query piece ys y k.1 has
-
-piece_given : (w : State) (query : Query) (xs : List PieceAsked) (x : PieceAsked) → GiveAll w query xs → Has xs x → AreGiven w query x.piece x.answers
-piece_given w query [] x k has = absurd has
-piece_given w query (z ∷ xs) x k (inl same) = subst (λ (y : PieceAsked). AreGiven w query y.piece y.answers) same k.0
-piece_given w query (z ∷ xs) x k (inr has) = piece_given w query xs x k.1 has
-
-refuses : (w : State) (query : Query) (x : PieceAsked) (i : Instance) → AreGiven w query x.piece x.answers → RefusedBy x.answers i → RefusesIn w i x.piece
+refuses : (w : State) (query : Query) (x : PieceAsked) (i : Instance) → AreKnownAnswers (GivesIn w query) x.piece x.answers → RefusedBy x.answers i → RefusesIn w i x.piece
 refuses w query x i given (y, has, from, refusal) =
-    let g = given_in w query x.piece x.answers y given has in
+    let g = each_of (GivesIn w query x.piece) x.answers y given has in
     record {
       node = g.node;
       there = subst (λ (j : Instance). slice_get w.servers j.0 ≡ Some g.node) from g.there;
@@ -91,7 +82,9 @@ module _ (w v : State) (answer : Answer) (f : IsFound w v answer) (p : Partition
         piece = x.piece;
         planned = subst (λ (ps : List Piece). Has ps x.piece) plan.plan (map-Has (λ (y : PieceAsked). y.piece) xs x has);
         sequence = e;
-        refused = λ i is. refuses w f.answered.asked.query x i (piece_given w f.answered.asked.query xs x plan.given has) (refused i is);
+        refused = λ i is.
+            refuses w f.answered.asked.query x i
+            (each_of (λ (y : PieceAsked). AreKnownAnswers (GivesIn w f.answered.asked.query) y.piece y.answers) xs x plan.given has) (refused i is);
       }
 
   pub missed_piece : Has answer.missing (p, Some s) → IsMissedIn w p s
