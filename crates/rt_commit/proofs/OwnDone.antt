@@ -75,7 +75,7 @@ module _ (q : Asked) (from : Seen) (end : Offset) (path : List ℕ) where
         is_done = ap (writes_from commit m.now version) k.0;
       })
   goes_own ms m (stage.Next done) o to k (fine, is) = subst (IsOwn (ms ++ m ∷ [])) (sym is) (more ms m done k)
-  goes_own ms m (stage.IdealRead w found) o to k (ideal, answer, fine, is) = subst (IsOwn (ms ++ m ∷ [])) (sym is) (more_work ms m w k)
+  goes_own ms m (stage.IdealRead w found) o to k (ideal, answer, changed, fine, is) = subst (IsOwn (ms ++ m ∷ [])) (sym is) (more_work ms m w k)
   goes_own ms m (stage.IdealSet w found ideal) o to k (expected, version, answer, changed, few, is) =
       subst (IsOwn (ms ++ m ∷ [])) (sym is) (more_work ms m w k)
   goes_own ms m stage.Ended o to k g = absurd g
@@ -110,7 +110,7 @@ module _ (q : Asked) (from : Seen) (end : Offset) (path : List ℕ) where
   work_own ms (work.Commit done) r seen k is e = (done, k, same_seen seen (seen_meta_of done) (sym e ∙ is))
   work_own ms work.Offline r seen k is e = absurd k
 
-  ends_own : (ms : List Move) (s : JobStage) (a : Answer) (o : StepOutcome) (r : ReplyStatus) (seen : SeenMeta) → IsOwn ms s → Answers s a o r
+  ends_own : (ms : List Move) (s : JobStage) (a : Answer) (o : StepOutcome) (r : ReplyStatus) (seen : SeenMeta) → IsOwn ms s → Answers q s a o r
       → r ≡ success_with seen → (done : Seen) × HasWritten from end path ms done × (seen ≡ seen_meta_of done)
   ends_own ms (stage.Check f x p) a o r seen k (inl fault) e = absurd (cc)
   ends_own ms (stage.Check f x p) a o r seen k (inr file) e = absurd (cc)
@@ -121,7 +121,7 @@ module _ (q : Asked) (from : Seen) (end : Offset) (path : List ℕ) where
   ends_own ms (stage.Next done) a o r seen k (inr (inl other)) e = absurd (cc)
   ends_own ms (stage.Next done) a o r seen k (inr (inr gone)) e = work_own ms (work.Commit done) r seen k gone.2 e
   ends_own ms (stage.IdealRead w found) a o r seen k (inl fault) e = absurd (cc)
-  ends_own ms (stage.IdealRead w found) a o r seen k (inr same) e = work_own ms w r seen k same.3 e
+  ends_own ms (stage.IdealRead w found) a o r seen k (inr same) e = work_own ms w r seen k same.4 e
   ends_own ms (stage.IdealSet w found ideal) a o r seen k (inl fault) e = absurd (cc)
   ends_own ms (stage.IdealSet w found ideal) a o r seen k (inr (inl tenth)) e = absurd (cc)
   ends_own ms (stage.IdealSet w found ideal) a o r seen k (inr (inr done)) e = work_own ms w r seen k done.3 e

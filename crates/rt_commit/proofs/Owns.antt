@@ -195,7 +195,7 @@ module _ (s t : Meaning) (d e : DeepMeaning) (a : Assigned) (q : Asked) (now : M
 
   ideal_reads : (w : Work) (found : List ℕ) (answer : Answer) (o : StepOutcome) (how : Option ReplyStatus) (to : JobStage)
       → EndsOrGoesOn q now (stage.IdealRead w found) answer o how to → HasReadFile e.seen q to
-  ideal_reads w found answer o None to (ideal, answered, fine, is) = reaches to _ is tt
+  ideal_reads w found answer o None to (ideal, answered, changed, fine, is) = reaches to _ is tt
   ideal_reads w found answer o (Some r) to k = reaches to stage.Ended k.1 tt
 
   abbrev ReachesRead : Stepping → Type 0
@@ -284,7 +284,7 @@ module _ (s t : Meaning) (d e : DeepMeaning) (a : Assigned) (q : Asked) (now : M
       → IsWork s.seen q w → EndsOrGoesOn q now (stage.IdealRead w found) answer o how to → AnswersOwn how
   ideal_told w found answer o None to g is k = tt
   ideal_told w found answer o (Some r) to g is (inl fault, e) = reply_as r _ fault.1 tt
-  ideal_told w found answer o (Some r) to g is (inr same, e) = work_told w r g is same.3
+  ideal_told w found answer o (Some r) to g is (inr same, e) = work_told w r g is same.4
 
   abbrev StepsTold : Stepping → Type 0
   StepsTold x = AnswersOwn x.did.status

@@ -40,12 +40,12 @@ tells_went : (q : Asked) (now : Moment) (from : JobStage) (a : Answer) (s : JobS
 tells_went q now from a s n o x e is k = subst (Tells q now from a) (same_step _ x e) (is, k)
 
 tells_ended : (q : Asked) (now : Moment) (from : JobStage) (a : Answer) (n : StepName) (o : StepOutcome) (r : ReplyStatus) (x : Stepping)
-    → ends n o r ≡ Some x → IsNamedBy from n → Answers from a o r → Tells q now from a x
+    → ends n o r ≡ Some x → IsNamedBy from n → Answers q from a o r → Tells q now from a x
 tells_ended q now from a n o r x e is k = subst (Tells q now from a) (same_step _ x e) (is, (k, refl))
 
 -- a fault ends a job at each stage
 tells_failed : (q : Asked) (now : Moment) (from : JobStage) (a : Answer) (n : StepName) (x : Stepping) → fails n ≡ Some x → IsNamedBy from n
-    → Answers from a outcome.Failed (status.Failed cause.StoreFault) → Tells q now from a x
+    → Answers q from a outcome.Failed (status.Failed cause.StoreFault) → Tells q now from a x
 tells_failed q now from a n x e is k = tells_ended q now from a n outcome.Failed (status.Failed cause.StoreFault) x e is k
 
 -- ---- check
@@ -132,16 +132,16 @@ module _ (q : Asked) (now : Moment) (w : Work) (found : List ℕ) (x : Stepping)
   abbrev at_read : JobStage
   at_read = stage.IdealRead w found
 
-  tells_change : (ideal : Seen) (b : Bool)
+  tells_change : (ideal : Seen) (b : Bool) → changes q w (entries_by ideal.node) ≡ b
       → cond b (goes (stage.IdealSet w found ideal) name.IdealRead outcome.Fine) (ends name.IdealRead outcome.Same (success w)) ≡ Some x
       → Tells q now at_read (read (Ok ideal)) x
-  tells_change ideal true e =
-      tells_went q now at_read (read (Ok ideal)) (stage.IdealSet w found ideal) name.IdealRead outcome.Fine x e refl (ideal, refl, refl, refl)
-  tells_change ideal false e =
-      tells_ended q now at_read (read (Ok ideal)) name.IdealRead outcome.Same (success w) x e refl (inr (ideal, refl, refl, succeeds w))
+  tells_change ideal true is e =
+      tells_went q now at_read (read (Ok ideal)) (stage.IdealSet w found ideal) name.IdealRead outcome.Fine x e refl (ideal, refl, is, refl, refl)
+  tells_change ideal false is e =
+      tells_ended q now at_read (read (Ok ideal)) name.IdealRead outcome.Same (success w) x e refl (inr (ideal, refl, is, refl, succeeds w))
 
   pub tells_read : (answer : Result Seen StoreRefused) → after_read q w found answer ≡ Some x → Tells q now at_read (read answer) x
-  tells_read (Ok ideal) e = tells_change ideal (changes q w (entries_by ideal.node)) e
+  tells_read (Ok ideal) e = tells_change ideal (changes q w (entries_by ideal.node)) refl e
   tells_read (Err NoNode) e = tells_failed q now at_read (read (Err NoNode)) name.IdealRead x e refl (inl (refl, refl))
   tells_read (Err (Exists version)) e = tells_failed q now at_read (read (Err (Exists version))) name.IdealRead x e refl (inl (refl, refl))
   tells_read (Err (VersionChanged expected version)) e =

@@ -1,5 +1,5 @@
 -- What is true of the whole life of a job.
-use Rattle.std.specs.Prelude.{◌≡◌, ℕ, ◌<◌, ◌-◌, ◌*◌, ◌⊎◌, List, [], ◌∷◌, ◌++◌, length, Option, Some, None, Ok, Err}
+use Rattle.std.specs.Prelude.{◌≡◌, ℕ, ◌<◌, ◌-◌, ◌*◌, ◌⊎◌, true, false, List, [], ◌∷◌, ◌++◌, length, Option, Some, None, Ok, Err}
 use Rattle.rt_base.specs.declared.header.Header.{Header}
 use Rattle.rt_base.specs.declared.numbers.Moment.{Moment}
 use Rattle.rt_base.specs.declared.numbers.Offset.{Offset}
@@ -15,6 +15,7 @@ use Rattle.rt_model.specs.declared.reply.FailCause.TheVariants as cause
 use Rattle.rt_model.specs.declared.reply.ReplyStatus.{ReplyStatus}
 use Rattle.rt_model.specs.declared.reply.ReplyStatus.TheVariants as status
 use Rattle.rt_model.specs.declared.seg_meta.SeenMeta.{SeenMeta}
+use Rattle.rt_model.specs.Entries.{entries_by}
 use Rattle.rt_past.specs.Files.{header_named, header_in}
 use Rattle.rt_store.specs.declared.refused.StoreRefused.{StoreRefused}
 use Rattle.rt_store.specs.declared.refused.StoreRefused.TheVariants.{NoNode, VersionChanged}
@@ -24,7 +25,7 @@ use Rattle.rt_commit.specs.declared.job.JobStage.{JobStage}
 use Rattle.rt_commit.specs.declared.work.Work.TheVariants as work
 use Rattle.rt_commit.specs.declared.work.Work.{Work}
 use Rattle.rt_commit.specs.Calls.{Answer, got, read, set, created}
-use Rattle.rt_commit.specs.Job.{Stepping, done_write, step_at}
+use Rattle.rt_commit.specs.Job.{Stepping, changes, done_write, step_at}
 
 -- a step as it is made: when, and with which answer of its call
 pub record Move : Type 0 where
@@ -68,8 +69,8 @@ IsNamedBy stage.Ended n = ⊥
 
 -- where a job goes on: from a stage, by what its call answered, after an outcome, to the next stage. From `check` it goes on with the
 -- commit of the file that was read, whose header is the segment's up to the wanted end; from `done` with the write that it has made;
--- from `next` with that write, also where the next segment exists; and from `idealSet`, where another version was found there for the
--- ninth time or before, to read again
+-- from `next` with that write, also where the next segment exists; from `idealRead` with the ideal state that was read, of which it
+-- changes something; and from `idealSet`, where another version was found there for the ninth time or before, to read again
 abbrev pub MayGoOn : Asked → Moment → JobStage → Answer → StepOutcome → JobStage → Type 0
 MayGoOn q now (stage.Check from end path) answer o to =
     (bytes : List ℕ) × (commit : Commit) × (answer ≡ got (Ok bytes)) × (o ≡ outcome.Fine)
@@ -82,7 +83,8 @@ MayGoOn q now (stage.Done from commit) answer o to =
 MayGoOn q now (stage.Next done) answer o to =
     ((o ≡ outcome.Fine) ⊎ (o ≡ outcome.Exists)) × (to ≡ stage.IdealRead (work.Commit done) [])
 MayGoOn q now (stage.IdealRead w found) answer o to =
-    (ideal : Seen) × (answer ≡ read (Ok ideal)) × (o ≡ outcome.Fine) × (to ≡ stage.IdealSet w found ideal)
+    (ideal : Seen) × (answer ≡ read (Ok ideal)) × (changes q w (entries_by ideal.node) ≡ true) × (o ≡ outcome.Fine)
+    × (to ≡ stage.IdealSet w found ideal)
 MayGoOn q now (stage.IdealSet w found ideal) answer o to =
     (expected version : ℕ) × (answer ≡ set (Err (VersionChanged expected version))) × (o ≡ outcome.Changed expected version)
     × (length found < 9) × (to ≡ stage.IdealRead w (found ++ version ∷ []))
@@ -121,12 +123,14 @@ IsTenth before answer o r =
     (expected version : ℕ) × (answer ≡ set (Err (VersionChanged expected version))) × (o ≡ outcome.Changed expected version)
     × (length (before ++ version ∷ []) ≡ 10) × (r ≡ status.Failed (cause.IdealChanged (before ++ version ∷ [])))
 
--- the job succeeds: with a Done write that is gone at `next`, with nothing to change at `idealRead`, and with its set of the ideal state
+-- the job succeeds: with a Done write that is gone at `next`, with an ideal state of which it changes nothing at `idealRead`, and with its
+-- set of the ideal state
 abbrev pub SucceedsGone : Seen → Answer → StepOutcome → ReplyStatus → Type 0
 SucceedsGone done answer o r = (answer ≡ created (Err NoNode)) × (o ≡ outcome.Gone) × IsSuccess (work.Commit done) r
 
-abbrev pub SucceedsSame : Work → Answer → StepOutcome → ReplyStatus → Type 0
-SucceedsSame w answer o r = (ideal : Seen) × (answer ≡ read (Ok ideal)) × (o ≡ outcome.Same) × IsSuccess w r
+abbrev pub SucceedsSame : Asked → Work → Answer → StepOutcome → ReplyStatus → Type 0
+SucceedsSame q w answer o r =
+    (ideal : Seen) × (answer ≡ read (Ok ideal)) × (changes q w (entries_by ideal.node) ≡ false) × (o ≡ outcome.Same) × IsSuccess w r
 
 abbrev pub SucceedsSet : Work → Answer → StepOutcome → ReplyStatus → Type 0
 SucceedsSet w answer o r = (version : ℕ) × (answer ≡ set (Ok version)) × (o ≡ outcome.Fine) × IsSuccess w r
@@ -138,20 +142,20 @@ abbrev pub refuses_next : StoreRefused → Answer
 refuses_next refused = created (Err refused)
 
 -- the reply with which a step ends the job: from a stage, by what its call answered, with an outcome
-abbrev pub Answers : JobStage → Answer → StepOutcome → ReplyStatus → Type 0
-Answers (stage.Check from end path) answer o r = EndsAtFault o r ⊎ EndsAtFile o r
-Answers (stage.Done from commit) answer o r =
+abbrev pub Answers : Asked → JobStage → Answer → StepOutcome → ReplyStatus → Type 0
+Answers q (stage.Check from end path) answer o r = EndsAtFault o r ⊎ EndsAtFile o r
+Answers q (stage.Done from commit) answer o r =
     EndsAtFault o r ⊎ (EndsAtNone answer o r ⊎ EndsAtOther refuses_set answer o r)
-Answers (stage.Next done) answer o r =
+Answers q (stage.Next done) answer o r =
     EndsAtFault o r ⊎ (EndsAtOther refuses_next answer o r ⊎ SucceedsGone done answer o r)
-Answers (stage.IdealRead w found) answer o r = EndsAtFault o r ⊎ SucceedsSame w answer o r
-Answers (stage.IdealSet w found ideal) answer o r =
+Answers q (stage.IdealRead w found) answer o r = EndsAtFault o r ⊎ SucceedsSame q w answer o r
+Answers q (stage.IdealSet w found ideal) answer o r =
     EndsAtFault o r ⊎ (IsTenth found answer o r ⊎ SucceedsSet w answer o r)
-Answers stage.Ended answer o r = ⊥
+Answers q stage.Ended answer o r = ⊥
 
 abbrev pub EndsOrGoesOn : Asked → Moment → JobStage → Answer → StepOutcome → Option ReplyStatus → JobStage → Type 0
 EndsOrGoesOn q now from answer o None to = MayGoOn q now from answer o to
-EndsOrGoesOn q now from answer o (Some r) to = Answers from answer o r × (to ≡ stage.Ended)
+EndsOrGoesOn q now from answer o (Some r) to = Answers q from answer o r × (to ≡ stage.Ended)
 
 -- what a step tells is that of its stage: it ends the job with the reply of its outcome, or the job goes on as it may after it
 abbrev pub Tells : Asked → Moment → JobStage → Answer → Stepping → Type 0

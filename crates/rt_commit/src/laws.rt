@@ -31,7 +31,8 @@ pub fn jobs_end()
 /// A job's reply is that of its first failing step, else its success. Each step has its stage's name. A job goes on after no failure, and
 /// after another version only at `idealSet`, where fewer than nine were found before: the tenth ends it with all ten versions. It succeeds
 /// with COMMIT_SUCCESS, or with PROCESSED where it only turns an instance OFFLINE, at `next` where its Done write is gone, at `idealRead`
-/// where nothing is to be changed, and at `idealSet`. COMMIT_SUCCESS goes with the Done metadata that the job itself has written.
+/// where it changes nothing of what it has read, and at `idealSet`; it goes on from `idealRead` where it changes something. COMMIT_SUCCESS
+/// goes with the Done metadata that the job itself has written.
 pub fn a_job_replies_by_its_first_failure()
     ensures step { (q : Asked) (now : Moment) (from : JobStage) (answer : Answer) (x : Stepping)
         → IsTrying from → step_at q now from answer ≡ Some x → Tells q now from answer x }

@@ -124,7 +124,7 @@ module _ (Was : Partition → Sequence → Offset → List ℕ → Type 0) (q : 
 
   after_ideal : (w : Work) (found : List ℕ) (answer : Answer) (o : StepOutcome) (how : Option ReplyStatus) (to : JobStage)
       → EndsOrGoesOn q now (stage.IdealRead w found) answer o how to → Begun to
-  after_ideal w found answer o None to (ideal, answered, fine, is) = goes_to to _ is tt
+  after_ideal w found answer o None to (ideal, answered, changed, fine, is) = goes_to to _ is tt
   after_ideal w found answer o (Some r) to g = goes_to to stage.Ended g.1 tt
 
   after_change : (w : Work) (found : List ℕ) (answer : Result ℕ StoreRefused) (x : Stepping) → after_set w found answer ≡ Some x → Reaches x

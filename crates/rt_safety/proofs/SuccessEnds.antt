@@ -56,26 +56,26 @@ by_work : (w : Work) (found : List ℕ) (r : ReplyStatus) (seen : SeenMeta) → 
 by_work (work.Commit done) found r seen is e = (done, refl, sym (same_seen (seen_meta_of done) seen (sym is ∙ e)))
 by_work work.Offline found r seen is e = absurd (never_processed seen (sym is ∙ e))
 
-success_is : (from : JobStage) (answer : Answer) (o : StepOutcome) (r : ReplyStatus) (seen : SeenMeta) → Answers from answer o r → r ≡ status.CommitSuccess seen → IsOwn from seen
-success_is (stage.Check from end path) answer o r seen (inl h) e = absurd (never_fails _ seen (sym h.1 ∙ e))
-success_is (stage.Check from end path) answer o r seen (inr h) e = absurd (never_fails _ seen (sym h.3 ∙ e))
-success_is (stage.Done from commit) answer o r seen (inl h) e = absurd (never_fails _ seen (sym h.1 ∙ e))
-success_is (stage.Done from commit) answer o r seen (inr (inl h)) e = absurd (never_fails _ seen (sym h.2 ∙ e))
-success_is (stage.Done from commit) answer o r seen (inr (inr h)) e = absurd (never_fails _ seen (sym h.4 ∙ e))
-success_is (stage.Next done) answer o r seen (inl h) e = absurd (never_fails _ seen (sym h.1 ∙ e))
-success_is (stage.Next done) answer o r seen (inr (inl h)) e = absurd (never_fails _ seen (sym h.4 ∙ e))
-success_is (stage.Next done) answer o r seen (inr (inr h)) e = (done, refl, sym (same_seen (seen_meta_of done) seen (sym h.2 ∙ e)))
-success_is (stage.IdealRead w found) answer o r seen (inl h) e = absurd (never_fails _ seen (sym h.1 ∙ e))
-success_is (stage.IdealRead w found) answer o r seen (inr h) e = by_work w found r seen h.3 e
-success_is (stage.IdealSet w found ideal) answer o r seen (inl h) e = absurd (never_fails _ seen (sym h.1 ∙ e))
-success_is (stage.IdealSet w found ideal) answer o r seen (inr (inl h)) e = absurd (never_fails _ seen (sym h.5 ∙ e))
-success_is (stage.IdealSet w found ideal) answer o r seen (inr (inr h)) e = by_work w found r seen h.3 e
-success_is stage.Ended answer o r seen h e = absurd h
+success_is : (q : Asked) (from : JobStage) (answer : Answer) (o : StepOutcome) (r : ReplyStatus) (seen : SeenMeta) → Answers q from answer o r → r ≡ status.CommitSuccess seen → IsOwn from seen
+success_is q (stage.Check from end path) answer o r seen (inl h) e = absurd (never_fails _ seen (sym h.1 ∙ e))
+success_is q (stage.Check from end path) answer o r seen (inr h) e = absurd (never_fails _ seen (sym h.3 ∙ e))
+success_is q (stage.Done from commit) answer o r seen (inl h) e = absurd (never_fails _ seen (sym h.1 ∙ e))
+success_is q (stage.Done from commit) answer o r seen (inr (inl h)) e = absurd (never_fails _ seen (sym h.2 ∙ e))
+success_is q (stage.Done from commit) answer o r seen (inr (inr h)) e = absurd (never_fails _ seen (sym h.4 ∙ e))
+success_is q (stage.Next done) answer o r seen (inl h) e = absurd (never_fails _ seen (sym h.1 ∙ e))
+success_is q (stage.Next done) answer o r seen (inr (inl h)) e = absurd (never_fails _ seen (sym h.4 ∙ e))
+success_is q (stage.Next done) answer o r seen (inr (inr h)) e = (done, refl, sym (same_seen (seen_meta_of done) seen (sym h.2 ∙ e)))
+success_is q (stage.IdealRead w found) answer o r seen (inl h) e = absurd (never_fails _ seen (sym h.1 ∙ e))
+success_is q (stage.IdealRead w found) answer o r seen (inr h) e = by_work w found r seen h.4 e
+success_is q (stage.IdealSet w found ideal) answer o r seen (inl h) e = absurd (never_fails _ seen (sym h.1 ∙ e))
+success_is q (stage.IdealSet w found ideal) answer o r seen (inr (inl h)) e = absurd (never_fails _ seen (sym h.5 ∙ e))
+success_is q (stage.IdealSet w found ideal) answer o r seen (inr (inr h)) e = by_work w found r seen h.3 e
+success_is q stage.Ended answer o r seen h e = absurd h
 
 ends_own : (q : Asked) (now : Moment) (from to : JobStage) (answer : Answer) (o : StepOutcome) (r : Option ReplyStatus) (seen : SeenMeta) → EndsOrGoesOn q now from answer o r to
     → r ≡ Some (status.CommitSuccess seen) → IsOwn from seen
 ends_own q now from to answer o None seen h e = absurd (none-some (status.CommitSuccess seen) e)
-ends_own q now from to answer o (Some r) seen h e = success_is from answer o r seen h.0 (same_Some r (status.CommitSuccess seen) e)
+ends_own q now from to answer o (Some r) seen h e = success_is q from answer o r seen h.0 (same_Some r (status.CommitSuccess seen) e)
 
 -- ---- the step of a controller's job
 
