@@ -12,7 +12,9 @@ use Rattle.rt_model.specs.declared.job_step.StepName.TheVariants as name
 use Rattle.rt_model.specs.declared.job_step.StepOutcome.{StepOutcome}
 use Rattle.rt_model.specs.declared.job_step.StepOutcome.TheVariants as outcome
 use Rattle.rt_model.specs.declared.node.Seen.{Seen}
+use Rattle.rt_model.specs.declared.reply.FailCause.{FailCause}
 use Rattle.rt_model.specs.declared.reply.FailCause.TheVariants as cause
+use Rattle.rt_model.specs.declared.reply.ReplyStatus.{ReplyStatus}
 use Rattle.rt_model.specs.declared.reply.ReplyStatus.TheVariants as status
 use Rattle.rt_model.specs.Entries.{entries_by}
 use Rattle.rt_deep.specs.declared.refused.DeepRefused.{DeepRefused}
@@ -29,7 +31,7 @@ use Rattle.rt_commit.specs.Calls.{Answer, nothing, put, got, read, set, created}
 use Rattle.rt_commit.specs.Job.{Stepping, goes, ends, is_wanted, commit_of, bad, checked, after_get, done_write, after_done, after_next, changes, success, after_read, after_set, step_at}
 use Rattle.rt_commit.specs.Lasting.{commit_end}
 use Rattle.rt_commit.specs.Laws.{Move, GoesOn, IsTrying, steps_left}
-use Rattle.rt_commit.proofs.KeepsJobs.{not_ended, went}
+use Rattle.rt_commit.proofs.KeepsJobs.{not_ended, same_step, went}
 
 -- ---- the steps that are left
 
@@ -131,6 +133,32 @@ falls_set w found ideal (Err (VersionChanged expected version)) x e f = by_test 
     by_test false few h = absurd (not_ended name.IdealSet (outcome.Changed expected version) _ x h f)
 falls_set w found ideal (Err Failed) x e f = absurd (not_ended name.IdealSet outcome.Failed _ x e f)
 falls_set w found ideal (Err Memory) x e f = absurd (cc)
+
+-- ---- a set of the ideal state, whatever was found before
+
+abbrev Leads : (JobStage → Option ReplyStatus → Type 0) → Stepping → Type 0
+Leads P x = P x.stage x.did.status
+
+-- the job reads again, or it ends: it has failed or succeeded
+pub by_set : (w : Work) (found : List ℕ) (P : JobStage → Option ReplyStatus → Type 0) → ((more : List ℕ) → P (stage.IdealRead w more) None)
+    → ((because : FailCause) → P stage.Ended (Some (status.Failed because))) → P stage.Ended (Some (success w))
+    → (answer : Result ℕ StoreRefused) (x : Stepping) → after_set w found answer ≡ Some x → P x.stage x.did.status
+by_set w found P again failed succeeded (Ok version) x e = subst (Leads P) (same_step _ x e) succeeded
+by_set w found P again failed succeeded (Err NoNode) x e = subst (Leads P) (same_step _ x e) (failed cause.StoreFault)
+by_set w found P again failed succeeded (Err (Exists version)) x e = subst (Leads P) (same_step _ x e) (failed cause.StoreFault)
+by_set w found P again failed succeeded (Err (VersionChanged expected version)) x e = by_test (nat_lt (length found) 9) e
+  where
+    by_test :
+        (b : Bool)
+        → cond b
+        (goes (stage.IdealRead w (found ++ version ∷ [])) name.IdealSet (outcome.Changed expected version))
+        (ends name.IdealSet (outcome.Changed expected version) (status.Failed (cause.IdealChanged (found ++ version ∷ []))))
+        ≡ Some x
+        → P x.stage x.did.status
+    by_test true g = subst (Leads P) (same_step _ x g) (again (found ++ version ∷ []))
+    by_test false g = subst (Leads P) (same_step _ x g) (failed (cause.IdealChanged (found ++ version ∷ [])))
+by_set w found P again failed succeeded (Err Failed) x e = subst (Leads P) (same_step _ x e) (failed cause.StoreFault)
+by_set w found P again failed succeeded (Err Memory) x e = absurd (cc)
 
 -- ---- a step, by its stage
 

@@ -67,7 +67,8 @@ use Rattle.rt_commit.specs.Right.{HasChanged, StatusSo}
 use Rattle.rt_commit.proofs.Changed.{set_changed, set_gone, set_later, next_unchanged, more_tries, found_before, no_tries}
 use Rattle.rt_commit.proofs.FailsJobs.{get_other}
 use Rattle.rt_commit.proofs.KeepsJobs.{same_step}
-use Rattle.rt_commit.proofs.NamedFile.{IsChecked, header_is, named_file, put_at, same_bytes}
+use Rattle.rt_commit.proofs.NamedFile.{IsChecked, named_file, put_at, same_bytes}
+use Rattle.rt_commit.proofs.WantedHeader.{wanted_header}
 
 -- ---- the Done metadata of a segment
 
@@ -128,14 +129,13 @@ module _ (setup : Setup) (past : Past) (k : IsPast setup past) (s t : Meaning) (
       let same = same_bytes past.files path bytes file.0 stands file.1 in
       let here = subst (λ (b : List ℕ). IsChecked setup past q (meta_in from.node).start end b) same file.2 in
       let segment = here.right.file.segment in
-      let of = here.right.file.header in
       let commit = commit_of end path (header_of segment) in
       went true (stage.Done from commit) name.Check outcome.Fine x (sym (check_is from end path bytes here) ∙ f)
       (record {
         bytes = bytes;
         stands = stands;
         right = here.right;
-        header = header_is q (meta_in from.node).start end path segment of.0 of.1 of.2;
+        header = wanted_header q (meta_in from.node).start end path (header_of segment) here.fits;
       })
   check_steps from end path (Err deep.Absent) x read named c f =
       let file = named_file setup past k q from end path within read named in

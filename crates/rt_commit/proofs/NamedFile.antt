@@ -2,7 +2,6 @@
 use Rattle.std.proofs.Common.{◌≡◌, ℕ, ◌<◌, ◌==◌, ◌&&◌, Bool, true, List, Some, refl, sym, ◌∙◌, ap, subst}
 use Rattle.std.proofs.lemmas.Bool.{eq-eqb}
 use Rattle.std.proofs.lemmas.Option.{same_Some}
-use Rattle.rt_base.specs.declared.header.Header.{Header}
 use Rattle.rt_base.specs.declared.numbers.Offset.{Offset}
 use Rattle.rt_base.specs.declared.numbers.Partition.{Partition}
 use Rattle.rt_base.specs.declared.numbers.Sequence.{Sequence}
@@ -20,17 +19,16 @@ use Rattle.rt_model.specs.Metadata.{IsOpen}
 use Rattle.rt_model.proofs.Lawful.{has_chains}
 use Rattle.rt_deep.specs.declared.deep_put.DeepPut.{DeepPut}
 use Rattle.rt_store.specs.Contents.{starting_of}
-use Rattle.rt_segment.specs.Segment.{SealedSegment}
 use Rattle.rt_segment.specs.Spelling.{header_of}
 use Rattle.rt_segment.proofs.FileLaws.{spelled_read}
-use Rattle.rt_past.specs.Files.{IsRightFile, Stands, range_to, header_named, header_by, header_in}
+use Rattle.rt_past.specs.Files.{IsRightFile, Stands, header_by, header_in}
 use Rattle.rt_past.specs.IsPast.{IsPast}
 use Rattle.rt_past.specs.Past.{Past}
 use Rattle.rt_past.specs.Requests.{IsKind}
 use Rattle.rt_past.specs.Segments.{IsBegun}
 use Rattle.rt_znodes.specs.Znodes.{meta_in}
 use Rattle.rt_commit.specs.IsJob.{IsRead}
-use Rattle.rt_commit.specs.Job.{is_wanted, commit_of}
+use Rattle.rt_commit.specs.Job.{is_wanted}
 use Rattle.rt_commit.specs.Lasting.{WasNamed}
 
 same_offset : (x y : Offset) → x.0 ≡ y.0 → x ≡ y
@@ -112,12 +110,3 @@ put_at path bytes = record { path = path; bytes = bytes }
 
 pub same_bytes : (files : List DeepPut) (path bytes other : List ℕ) → Stands files path bytes → Stands files path other → other ≡ bytes
 same_bytes files path bytes other e f = ap (λ (x : DeepPut). x.bytes) (same_Some (put_at path other) (put_at path bytes) (sym f ∙ e))
-
-pub header_is : (a : Asked) (start end : Offset) (path : List ℕ) (x : SealedSegment) → x.partition ≡ a.partition → x.sequence ≡ a.sequence
-    → x.range ≡ range_to start end
-    → header_of x ≡ header_named a.partition a.sequence start (commit_of end path (header_of x))
-header_is a start end path x e f g =
-    let first : Partition → Header = λ p. record { partition = p; sequence = x.sequence; range = x.range; rows = (header_of x).rows; digest = (header_of x).digest } in
-    let second : Sequence → Header = λ s. record { partition = a.partition; sequence = s; range = x.range; rows = (header_of x).rows; digest = (header_of x).digest } in
-    let third : Range → Header = λ r. record { partition = a.partition; sequence = a.sequence; range = r; rows = (header_of x).rows; digest = (header_of x).digest } in
-    ap first e ∙ ap second f ∙ ap third g

@@ -1,5 +1,5 @@
 -- What a step of a job rests on and writes, over what the callers of its stores have seen.
-use Rattle.std.proofs.Common.{◌≡◌, ◌⊎◌, inl, inr, ℕ, Bool, true, false, cond, List, [], ◌∷◌, ◌++◌, append-nil, nat_lt, length, Option, Some, None, Result, Ok, Err, refl, sym, ◌∙◌, ap, subst}
+use Rattle.std.proofs.Common.{◌≡◌, ◌⊎◌, inl, inr, ℕ, List, [], ◌∷◌, ◌++◌, append-nil, Option, Some, None, Result, Ok, Err, sym, ◌∙◌, ap, subst}
 use Rattle.std.specs.Prelude.{All}
 use Rattle.std.proofs.lemmas.List.{append_cancel_left}
 use Rattle.std.proofs.lemmas.List.Elements.{All-nil, All-cons}
@@ -14,10 +14,7 @@ use Rattle.rt_model.specs.declared.commit.Commit.{Commit}
 use Rattle.rt_model.specs.declared.node.Key.{Key}
 use Rattle.rt_model.specs.declared.node.Key.TheVariants as key
 use Rattle.rt_model.specs.declared.node.Seen.{Seen}
-use Rattle.rt_model.specs.declared.job_step.StepName.TheVariants as name
 use Rattle.rt_model.specs.declared.job_step.StepOutcome.{StepOutcome}
-use Rattle.rt_model.specs.declared.job_step.StepOutcome.TheVariants as outcome
-use Rattle.rt_model.specs.declared.reply.FailCause.TheVariants as cause
 use Rattle.rt_model.specs.declared.reply.ReplyStatus.{ReplyStatus}
 use Rattle.rt_model.specs.declared.reply.ReplyStatus.TheVariants as status
 use Rattle.rt_model.specs.Lawful.{Write, set, create_after, written_by}
@@ -45,13 +42,14 @@ use Rattle.rt_commit.specs.Assignment.{Assigned}
 use Rattle.rt_commit.specs.Calls.{Answer, Makes, DeepIdles, DeepMeaning, StoreIdles, created, got, read}
 use Rattle.rt_commit.specs.Calls as calls
 use Rattle.rt_commit.specs.IsJob.{IsAt, IsSetDone, IsWork}
-use Rattle.rt_commit.specs.Job.{Stepping, after_set, call_at, done_node, ends, goes, ideal_node, next_key, next_node, step_at, success}
+use Rattle.rt_commit.specs.Job.{Stepping, after_set, call_at, done_node, ideal_node, next_key, next_node, step_at, success}
 use Rattle.rt_commit.specs.Laws.{EndsOrGoesOn, IsSuccess}
 use Rattle.rt_commit.specs.Own.{HasReadFile, IsOwnAnswer, IsOwnNode, IsOwnReply, OwnsMore}
 use Rattle.rt_commit.specs.Steps.{StageSteps}
-use Rattle.rt_commit.proofs.KeepsJobs.{done_on, same_step}
+use Rattle.rt_commit.proofs.Ending.{by_set}
+use Rattle.rt_commit.proofs.KeepsJobs.{done_on}
 use Rattle.rt_commit.proofs.LastsJobs.{was_done}
-use Rattle.rt_commit.proofs.Replying.{tells_done, tells_get, tells_next, tells_read}
+use Rattle.rt_commit.proofs.Replying.{succeeds, tells_done, tells_get, tells_next, tells_read}
 
 -- ---- what becomes the caller's own
 
@@ -198,29 +196,12 @@ module _ (s t : Meaning) (d e : DeepMeaning) (a : Assigned) (q : Asked) (now : M
   ideal_reads w found answer o None to (ideal, answered, changed, fine, is) = reaches to _ is tt
   ideal_reads w found answer o (Some r) to k = reaches to stage.Ended k.1 tt
 
-  abbrev ReachesRead : Stepping → Type 0
-  ReachesRead x = HasReadFile e.seen q x.stage
-
-  set_reads : (w : Work) (found : List ℕ) (answer : Result ℕ StoreRefused) (x : Stepping) → after_set w found answer ≡ Some x → ReachesRead x
-  set_reads w found (Ok version) x f = subst ReachesRead (same_step _ x f) tt
-  set_reads w found (Err NoNode) x f = subst ReachesRead (same_step _ x f) tt
-  set_reads w found (Err (Exists version)) x f = subst ReachesRead (same_step _ x f) tt
-  set_reads w found (Err (VersionChanged expected version)) x f = by_test (nat_lt (length found) 9) f
-    where
-      by_test :
-          (b : Bool)
-          → cond b
-          (goes (stage.IdealRead w (found ++ version ∷ [])) name.IdealSet (outcome.Changed expected version))
-          (ends name.IdealSet (outcome.Changed expected version) (status.Failed (cause.IdealChanged (found ++ version ∷ []))))
-          ≡ Some x
-          → ReachesRead x
-      by_test true h = subst ReachesRead (same_step _ x h) tt
-      by_test false h = subst ReachesRead (same_step _ x h) tt
-  set_reads w found (Err Failed) x f = subst ReachesRead (same_step _ x f) tt
-  set_reads w found (Err Memory) x f = absurd (cc)
+  set_reads : (w : Work) (found : List ℕ) (answer : Result ℕ StoreRefused) (x : Stepping) → after_set w found answer ≡ Some x
+      → HasReadFile e.seen q x.stage
+  set_reads w found answer x f = by_set w found (λ to how. HasReadFile e.seen q to) (λ more. tt) (λ because. tt) tt answer x f
 
   reads_stage : (from : JobStage) (x : Stepping) → IsAt s.seen q from
-      → Makes s t d e (call_at a q now from) (λ answer. step_at q now from answer ≡ Some x) → ReachesRead x
+      → Makes s t d e (call_at a q now from) (λ answer. step_at q now from answer ≡ Some x) → HasReadFile e.seen q x.stage
   reads_stage (stage.Check from end path) x is (answer, c, same, f) =
       check_reads from end path answer x.did.outcome x.did.status x.stage c (tells_get q now from end path x answer f).1
   reads_stage (stage.Done from commit) x is (answer, c, same, f) =
@@ -254,10 +235,6 @@ module _ (s t : Meaning) (d e : DeepMeaning) (a : Assigned) (q : Asked) (now : M
       (was_done t.seen q.partition q.sequence done (done_on s.seen t.seen q.partition q.sequence done g k.done))
   work_told work.Offline r g k is = reply_as r status.Processed is tt
 
-  own_success : (w : Work) → IsSuccess w (success w)
-  own_success (work.Commit done) = refl
-  own_success work.Offline = refl
-
   check_told : (from : Seen) (end : Offset) (path : List ℕ) (answer : Answer) (o : StepOutcome) (how : Option ReplyStatus) (to : JobStage)
       → EndsOrGoesOn q now (stage.Check from end path) answer o how to → AnswersOwn how
   check_told from end path answer o None to k = tt
@@ -286,30 +263,13 @@ module _ (s t : Meaning) (d e : DeepMeaning) (a : Assigned) (q : Asked) (now : M
   ideal_told w found answer o (Some r) to g is (inl fault, e) = reply_as r _ fault.1 tt
   ideal_told w found answer o (Some r) to g is (inr same, e) = work_told w r g is same.4
 
-  abbrev StepsTold : Stepping → Type 0
-  StepsTold x = AnswersOwn x.did.status
-
   set_told : (w : Work) (found : List ℕ) (answer : Result ℕ StoreRefused) (x : Stepping) → IsFront s.seen t.seen → IsWork s.seen q w
-      → after_set w found answer ≡ Some x → StepsTold x
-  set_told w found (Ok version) x g is f = subst StepsTold (same_step _ x f) (work_told w (success w) g is (own_success w))
-  set_told w found (Err NoNode) x g is f = subst StepsTold (same_step _ x f) tt
-  set_told w found (Err (Exists version)) x g is f = subst StepsTold (same_step _ x f) tt
-  set_told w found (Err (VersionChanged expected version)) x g is f = by_test (nat_lt (length found) 9) f
-    where
-      by_test :
-          (b : Bool)
-          → cond b
-          (goes (stage.IdealRead w (found ++ version ∷ [])) name.IdealSet (outcome.Changed expected version))
-          (ends name.IdealSet (outcome.Changed expected version) (status.Failed (cause.IdealChanged (found ++ version ∷ []))))
-          ≡ Some x
-          → StepsTold x
-      by_test true h = subst StepsTold (same_step _ x h) tt
-      by_test false h = subst StepsTold (same_step _ x h) tt
-  set_told w found (Err Failed) x g is f = subst StepsTold (same_step _ x f) tt
-  set_told w found (Err Memory) x g is f = absurd (cc)
+      → after_set w found answer ≡ Some x → AnswersOwn x.did.status
+  set_told w found answer x g is f =
+      by_set w found (λ to how. AnswersOwn how) (λ more. tt) (λ because. tt) (work_told w (success w) g is (succeeds w)) answer x f
 
   pub told_stage : (from : JobStage) (x : Stepping) → IsAt s.seen q from
-      → Makes s t d e (call_at a q now from) (λ answer. step_at q now from answer ≡ Some x) → StepsTold x
+      → Makes s t d e (call_at a q now from) (λ answer. step_at q now from answer ≡ Some x) → AnswersOwn x.did.status
   told_stage (stage.Check from end path) x is (answer, c, same, f) =
       check_told from end path (got answer) x.did.outcome x.did.status x.stage (tells_get q now from end path x answer f).1
   told_stage (stage.Done from commit) x is (answer, c, same, f) =

@@ -124,7 +124,7 @@ module _ (q : Asked) (now : Moment) (done : Seen) (x : Stepping) where
 
 -- ---- the ideal state
 
-succeeds : (w : Work) → IsSuccess w (success w)
+pub succeeds : (w : Work) → IsSuccess w (success w)
 succeeds (work.Commit done) = refl
 succeeds work.Offline = refl
 

@@ -1,5 +1,5 @@
 -- A step of a controller's job: which job it is, what becomes of it, and what it writes.
-use Rattle.std.proofs.Common.{◌≡◌, ℕ, Bool, true, false, cond, nat_lt, length, List, [], ◌∷◌, ◌++◌, Option, Some, None, Result, Ok, Err, bytes_eq, refl, sym, ◌∙◌, ap, subst}
+use Rattle.std.proofs.Common.{◌≡◌, ℕ, Bool, true, false, cond, List, [], ◌∷◌, Option, Some, None, Result, Ok, bytes_eq, refl, sym, ◌∙◌, ap, subst}
 use Rattle.std.specs.Prelude.{All, slice_get}
 use Rattle.std.proofs.lemmas.List.Elements.{All-append, All-set, All-weaker}
 use Rattle.std.proofs.lemmas.Option.{none-some, same_Some}
@@ -13,14 +13,14 @@ use Rattle.rt_commit.specs.Assignment.{Assigned}
 use Rattle.rt_commit.specs.Calls.{Answer, DeepMeaning, Makes, created, got, read}
 use Rattle.rt_commit.specs.Calls as calls
 use Rattle.rt_commit.specs.IsJob.{IsAt}
-use Rattle.rt_commit.specs.Job.{Stepping, after_set, at_stage, call_at, commits, ends, goes, job_call, job_step, step_at}
+use Rattle.rt_commit.specs.Job.{Stepping, after_set, at_stage, call_at, commits, job_call, job_step, step_at}
 use Rattle.rt_commit.specs.Laws.{EndsOrGoesOn}
 use Rattle.rt_commit.specs.Own.{HasReadFile, IsOwnMeta, IsOwnNode, IsOwnStatus, OwnsMore}
 use Rattle.rt_commit.specs.declared.job.Job.{Job}
 use Rattle.rt_commit.specs.declared.job.JobStage.{JobStage}
 use Rattle.rt_commit.specs.declared.job.JobStage.TheVariants as stage
 use Rattle.rt_commit.specs.declared.work.Work.{Work}
-use Rattle.rt_commit.proofs.KeepsJobs.{same_step}
+use Rattle.rt_commit.proofs.Ending.{by_set}
 use Rattle.rt_commit.proofs.Making.{makes_some}
 use Rattle.rt_commit.proofs.Owns.{owns_same, owns_step}
 use Rattle.rt_commit.proofs.Replying.{tells_done, tells_get, tells_next, tells_read}
@@ -32,17 +32,13 @@ use Rattle.rt_deep.specs.declared.deep_put.DeepPut.{DeepPut}
 use Rattle.rt_model.specs.declared.asked.Asked.{Asked}
 use Rattle.rt_model.specs.declared.commit.Commit.{Commit}
 use Rattle.rt_model.specs.declared.job_step.JobStep.{JobStep}
-use Rattle.rt_model.specs.declared.job_step.StepName.TheVariants as name
 use Rattle.rt_model.specs.declared.job_step.StepOutcome.{StepOutcome}
-use Rattle.rt_model.specs.declared.job_step.StepOutcome.TheVariants as outcome
 use Rattle.rt_model.specs.declared.node.Key.{Key}
 use Rattle.rt_model.specs.declared.node.Key.TheVariants as key
 use Rattle.rt_model.specs.declared.node.Node.{Node}
 use Rattle.rt_model.specs.declared.node.Node.TheVariants as node
 use Rattle.rt_model.specs.declared.node.Seen.{Seen}
-use Rattle.rt_model.specs.declared.reply.FailCause.TheVariants as cause
 use Rattle.rt_model.specs.declared.reply.ReplyStatus.{ReplyStatus}
-use Rattle.rt_model.specs.declared.reply.ReplyStatus.TheVariants as status
 use Rattle.rt_model.specs.declared.seg_meta.SegMeta.{SegMeta}
 use Rattle.rt_model.specs.declared.status.Status.{Status}
 use Rattle.rt_model.specs.declared.status.Status.TheVariants.{Abandoned, Done, InProgress}
@@ -50,7 +46,6 @@ use Rattle.rt_past.specs.Files.{header_in, header_named}
 use Rattle.rt_past.specs.View.{IsNamed}
 use Rattle.rt_store.specs.Meaning.{Meaning, Own}
 use Rattle.rt_store.specs.declared.refused.StoreRefused.{StoreRefused}
-use Rattle.rt_store.specs.declared.refused.StoreRefused.TheVariants.{Exists, Failed, Memory, NoNode, VersionChanged}
 use Rattle.rt_znodes.specs.Znodes.{meta_in}
 use Rattle.rt_live_controller.specs.Begun.{HasBegun, HasCommitted, HasMeta, HasWritten}
 
@@ -128,22 +123,7 @@ module _ (Was : Partition → Sequence → Offset → List ℕ → Type 0) (q : 
   after_ideal w found answer o (Some r) to g = goes_to to stage.Ended g.1 tt
 
   after_change : (w : Work) (found : List ℕ) (answer : Result ℕ StoreRefused) (x : Stepping) → after_set w found answer ≡ Some x → Reaches x
-  after_change w found (Ok version) x f = subst Reaches (same_step _ x f) tt
-  after_change w found (Err NoNode) x f = subst Reaches (same_step _ x f) tt
-  after_change w found (Err (Exists version)) x f = subst Reaches (same_step _ x f) tt
-  after_change w found (Err (VersionChanged expected version)) x f = by_count (nat_lt (length found) 9) f
-    where
-      by_count :
-          (b : Bool)
-          → cond b
-          (goes (stage.IdealRead w (found ++ version ∷ [])) name.IdealSet (outcome.Changed expected version))
-          (ends name.IdealSet (outcome.Changed expected version) (status.Failed (cause.IdealChanged (found ++ version ∷ []))))
-          ≡ Some x
-          → Reaches x
-      by_count true h = subst Reaches (same_step _ x h) tt
-      by_count false h = subst Reaches (same_step _ x h) tt
-  after_change w found (Err Failed) x f = subst Reaches (same_step _ x f) tt
-  after_change w found (Err Memory) x f = absurd (cc)
+  after_change w found answer x f = by_set w found (λ to how. Begun to) (λ more. tt) (λ because. tt) tt answer x f
 
   pub begun_on : (s t : Meaning) (d e : DeepMeaning) (a : Assigned) (from : JobStage) (x : Stepping) → Begun from
       → Makes s t d e (call_at a q now from) (λ answer. step_at q now from answer ≡ Some x) → Reaches x
