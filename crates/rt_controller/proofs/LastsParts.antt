@@ -9,11 +9,9 @@ use Rattle.rt_past.specs.Past.{Past}
 use Rattle.rt_commit.specs.Assignment.{assigned_by}
 use Rattle.rt_commit.specs.Lasting.{IsJobOver}
 use Rattle.rt_commit.proofs.Lasts.{JobLasts, job_lasts_of}
-use Rattle.rt_controller.specs.Answers.{Handling}
 use Rattle.rt_controller.specs.Controller.{Controlling}
 use Rattle.rt_controller.specs.IsController.{IsController}
 use Rattle.rt_controller.specs.Lasting.{IsMachineOver, IsControllerOver, HaveOneMachine, ArePaired, AreNumbered}
-use Rattle.rt_controller.specs.Right.{IsHandled}
 use Rattle.rt_controller.proofs.LastsMachines.{MachineLasts, lasts_of}
 
 -- ---- what lasts beside what was read
@@ -53,9 +51,8 @@ whole_of setup past c i k =
       numbered = k.numbered;
     }
 
--- the controller after a request, which stays itself, and its answer
-pub record Answers (setup : Setup) (past : Past) (c : Controlling) (x : Handling) : Type 0 where
-  pub lasts : Lasts setup past x.controller
-  pub right : IsHandled past x.handled
-  pub id : x.controller.id ≡ c.id
-  pub jobs : IsFront c.jobs x.controller.jobs
+-- the controller after a request, which stays itself and goes on with its jobs
+pub record Stays (setup : Setup) (past : Past) (c new : Controlling) : Type 0 where
+  pub lasts : Lasts setup past new
+  pub id : new.id ≡ c.id
+  pub jobs : IsFront c.jobs new.jobs

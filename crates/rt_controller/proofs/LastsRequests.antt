@@ -1,4 +1,4 @@
--- What lasts of a controller is kept by each request that was sent, and what is answered is right.
+-- What lasts of a controller is kept by each request that was sent.
 use Rattle.std.proofs.Common.{◌≡◌, ℕ, List, [], Option, Some, None, Result, Ok, Err, refl, sym, ◌∙◌, subst, arith}
 use Rattle.std.specs.Prelude.{slice_get, All}
 use Rattle.std.proofs.lemmas.List.Elements.{All-push}
@@ -12,13 +12,9 @@ use Rattle.rt_model.specs.declared.completion.Ask.{Ask}
 use Rattle.rt_model.specs.declared.completion.Ask.TheVariants as ask
 use Rattle.rt_model.specs.declared.completion.Reaction.{Reaction}
 use Rattle.rt_model.specs.declared.completion.Reaction.TheVariants as reaction
-use Rattle.rt_model.specs.declared.node.Key.TheVariants as key
 use Rattle.rt_model.specs.declared.node.Node.{Node}
 use Rattle.rt_model.specs.declared.node.Node.TheVariants as node
 use Rattle.rt_model.specs.declared.node.Seen.{Seen}
-use Rattle.rt_model.specs.declared.reply.FailCause.{FailCause}
-use Rattle.rt_model.specs.declared.reply.ReplyStatus.{ReplyStatus}
-use Rattle.rt_model.specs.declared.reply.ReplyStatus.TheVariants as status
 use Rattle.rt_model.specs.declared.request.Request.{Request}
 use Rattle.rt_model.specs.declared.request.RequestKind.{RequestKind}
 use Rattle.rt_model.specs.declared.request.RequestKind.TheVariants as kind
@@ -28,22 +24,13 @@ use Rattle.rt_model.specs.declared.setup.Setup.{Setup}
 use Rattle.rt_model.specs.declared.status.Status.{Status}
 use Rattle.rt_model.specs.declared.status.Status.TheVariants.{InProgress, Done, Abandoned}
 use Rattle.rt_model.specs.Completion.{Completion, first, react}
-use Rattle.rt_model.specs.Finished.{committed_row, abandoned_row}
 use Rattle.rt_model.specs.Messages.{asked_of}
-use Rattle.rt_model.specs.Metadata.{IsDoneStatus}
-use Rattle.rt_deep.specs.declared.deep_put.DeepPut.{DeepPut}
 use Rattle.rt_deep.specs.declared.refused.DeepRefused.{DeepRefused}
 use Rattle.rt_deep.specs.declared.refused.DeepRefused.TheVariants as deep
-use Rattle.rt_deep.specs.Calls as of_deep
-use Rattle.rt_deep.proofs.Seeing.{put_seen}
 use Rattle.rt_store.specs.declared.refused.StoreRefused.{StoreRefused}
 use Rattle.rt_store.specs.declared.refused.StoreRefused.TheVariants.{NoNode, Exists, VersionChanged, Failed, Memory}
-use Rattle.rt_store.specs.Calls.{Reads}
 use Rattle.rt_store.specs.Meaning.{Meaning}
-use Rattle.rt_store.proofs.Seeing.{read_seen}
-use Rattle.rt_past.specs.Files.{Stands}
 use Rattle.rt_past.specs.Past.{Past}
-use Rattle.rt_past.specs.Replies.{IsStatus}
 use Rattle.rt_past.specs.Requests.{IsRequest}
 use Rattle.rt_commit.specs.declared.job.Job.{Job}
 use Rattle.rt_commit.specs.declared.job.JobStage.TheVariants as stage
@@ -56,34 +43,29 @@ use Rattle.rt_commit.specs.Laws.{IsTrying}
 use Rattle.rt_commit.proofs.Changed.{no_tries}
 use Rattle.rt_commit.proofs.Lasts.{JobLasts}
 use Rattle.rt_controller.specs.declared.segment_machine.SegmentMachine.{SegmentMachine}
-use Rattle.rt_controller.specs.Answers.{Handling, after_put, follows, follows_by, commit_stage, named_in, read_write, ask_in, status_of, replies, fails}
+use Rattle.rt_controller.specs.Answers.{Handling, after_put, follows, follows_by, commit_stage, named_in, read_write, ask_in}
 use Rattle.rt_controller.specs.Controller.{Controlling, replaced, added, with_machine, machine_place}
 use Rattle.rt_controller.specs.Lasting.{HaveOneMachine, machine_end}
 use Rattle.rt_controller.specs.Requests.{Turn, not_leading, uploads, not_assigned, past_last, has_machine, has_none, turn_of, call_of, handled_at, at_machine, after_read, by_node, by_status, opens, first_state}
-use Rattle.rt_controller.proofs.KeepsRequests.{All-replaced, All-added, its_machine, has_at, made}
+use Rattle.rt_controller.proofs.KeepsRequests.{All-replaced, All-added, its_machine, made}
 use Rattle.rt_controller.proofs.LastsMachines.{no_first_end, MachineLasts, reacts_lasts, first_lasts}
-use Rattle.rt_controller.proofs.LastsParts.{Answers, Lasts}
+use Rattle.rt_controller.proofs.LastsParts.{Lasts, Stays}
 use Rattle.rt_controller.proofs.Numbered.{start_numbered}
 use Rattle.rt_controller.proofs.Paired.{Moves, moves_at, replaced_moves, added_moves, replaced_one, added_one}
 use Rattle.rt_controller.proofs.PairedJobs.{PairedIn, follows_paired}
-use Rattle.rt_controller.proofs.RightStatuses.{own_said, row_right, abandoned_right}
 use Rattle.rt_controller.proofs.Turning.{TurnsTo, turned}
 use Rattle.rt_controller.proofs.Turns.{Tells, told_turn}
 
 module _ (setup : Setup) (past : Past) (r : Request) (has : Has past.sent (sent.Request r)) (q : IsRequest setup past r) where
-  abbrev Right : Controlling → Handling → Type 0
-  Right c x = Answers setup past c x
+  abbrev Kept : Controlling → Handling → Type 0
+  Kept c x = Stays setup past c x.controller
 
   asked_now : WasSent past (asked_of r)
   asked_now = record { request = r; was_sent = has; answers = refl }
 
   -- an answer that is given at once
-  answered : (c : Controlling) (s : ReplyStatus) → Lasts setup past c → IsStatus past r s → Right c (replies c r s)
-  answered c s k right =
-      record { lasts = k; right = record { request = r; was_sent = has; answers = refl; status = right }; id = refl; jobs = front_same c.jobs }
-
-  failed : (c : Controlling) (because : FailCause) → Lasts setup past c → Right c (fails c r because)
-  failed c because k = answered c (status.Failed because) k tt
+  answered : (c : Controlling) → Lasts setup past c → Stays setup past c c
+  answered c k = record { lasts = k; id = refl; jobs = front_same c.jobs }
 
   abbrev new_job : Controlling → JobStage → Job
   new_job c s = record { number = c.started; asked = asked_of r; stage = s }
@@ -91,7 +73,7 @@ module _ (setup : Setup) (past : Past) (r : Request) (has : Has past.sent (sent.
   -- a job starts
   started : (c : Controlling) (ns : List SegmentMachine) (s : JobStage) → Lasts setup past c → All (MachineLasts setup past) ns → HaveOneMachine ns
       → IsBacked setup past (asked_of r) s → IsTrying s → PairedIn (follows_by (record c { machines = ns }) r (Ok s)).controller
-      → Right c (follows_by (record c { machines = ns }) r (Ok s))
+      → Kept c (follows_by (record c { machines = ns }) r (Ok s))
   started c ns s k machines one backed trying paired =
       record {
         lasts = record {
@@ -102,15 +84,14 @@ module _ (setup : Setup) (past : Past) (r : Request) (has : Has past.sent (sent.
           paired = paired;
           numbered = start_numbered c.jobs c.started (new_job c s) refl k.numbered;
         };
-        right = tt;
         id = refl;
         jobs = front_push c.jobs (new_job c s);
       }
 
-  said_only : (c : Controlling) (ns : List SegmentMachine) (s : ReplyStatus) → Lasts setup past c → All (MachineLasts setup past) ns → HaveOneMachine ns
-      → IsStatus past r s → PairedIn (follows_by (record c { machines = ns }) r (Err s)).controller
-      → Right c (follows_by (record c { machines = ns }) r (Err s))
-  said_only c ns s k machines one right paired =
+  -- a machine answers
+  said_only : (c : Controlling) (ns : List SegmentMachine) → Lasts setup past c → All (MachineLasts setup past) ns → HaveOneMachine ns
+      → PairedIn (record c { machines = ns }) → Stays setup past c (record c { machines = ns })
+  said_only c ns k machines one paired =
       record {
         lasts = record {
           assigned = k.assigned;
@@ -120,7 +101,6 @@ module _ (setup : Setup) (past : Past) (r : Request) (has : Has past.sent (sent.
           paired = paired;
           numbered = k.numbered;
         };
-        right = record { request = r; was_sent = has; answers = refl; status = right };
         id = refl;
         jobs = front_same c.jobs;
       }
@@ -137,11 +117,11 @@ module _ (setup : Setup) (past : Past) (r : Request) (has : Has past.sent (sent.
   commit_starts : (c : Controlling) (ns : List SegmentMachine) (seen : SeenMeta) (what : Ask) (end : Offset) (k : RequestKind) → r.kind ≡ k
       → ask_in r.offset k ≡ Some what → what ≡ ask.CommitEnd end → Lasts setup past c → All (MachineLasts setup past) ns → HaveOneMachine ns
       → PairedIn (follows_by (record c { machines = ns }) r (commit_stage end (named_in r seen k))).controller
-      → Right c (follows_by (record c { machines = ns }) r (commit_stage end (named_in r seen k)))
-  commit_starts c ns seen what end (kind.Consumed reason) e asks is k ms one paired = said_only c ns status.Hold k ms one tt paired
-  commit_starts c ns seen what end kind.Stopped e asks is k ms one paired = said_only c ns status.Hold k ms one tt paired
-  commit_starts c ns seen what end kind.CommitStart e asks is k ms one paired = said_only c ns status.Hold k ms one tt paired
-  commit_starts c ns seen what end (kind.Upload path bytes) e asks is k ms one paired = said_only c ns status.Hold k ms one tt paired
+      → Kept c (follows_by (record c { machines = ns }) r (commit_stage end (named_in r seen k)))
+  commit_starts c ns seen what end (kind.Consumed reason) e asks is k ms one paired = said_only c ns k ms one paired
+  commit_starts c ns seen what end kind.Stopped e asks is k ms one paired = said_only c ns k ms one paired
+  commit_starts c ns seen what end kind.CommitStart e asks is k ms one paired = said_only c ns k ms one paired
+  commit_starts c ns seen what end (kind.Upload path bytes) e asks is k ms one paired = said_only c ns k ms one paired
   commit_starts c ns seen what end (kind.CommitEnd path) e asks is k ms one paired =
       started c ns (stage.Check (read_write r seen) end path) k ms one
       (record {
@@ -152,13 +132,13 @@ module _ (setup : Setup) (past : Past) (r : Request) (has : Has past.sent (sent.
         names = e;
       })
       tt paired
-  commit_starts c ns seen what end (kind.Extend millis) e asks is k ms one paired = said_only c ns status.Hold k ms one tt paired
+  commit_starts c ns seen what end (kind.Extend millis) e asks is k ms one paired = said_only c ns k ms one paired
 
   -- what a machine's reaction leads to
   reacted : (c : Controlling) (ns : List SegmentMachine) (seen : SeenMeta) (m n : Completion) (what : Ask) (y : Reaction)
       → ask_in r.offset r.kind ≡ Some what → TurnsTo m what n y → Lasts setup past c → All (MachineLasts setup past) ns → HaveOneMachine ns
-      → PairedIn (follows (record c { machines = ns }) r seen y).controller → Right c (follows (record c { machines = ns }) r seen y)
-  reacted c ns seen m n what (reaction.Answer answer) asks t k ms one paired = said_only c ns (status_of answer) k ms one (own_said past r answer) paired
+      → PairedIn (follows (record c { machines = ns }) r seen y).controller → Kept c (follows (record c { machines = ns }) r seen y)
+  reacted c ns seen m n what (reaction.Answer answer) asks t k ms one paired = said_only c ns k ms one paired
   reacted c ns seen m n what (reaction.StartCommit end) asks t k ms one paired = commit_starts c ns seen what end r.kind refl asks t.2 k ms one paired
   reacted c ns seen m n what reaction.StartOffline asks t k ms one paired =
       started c ns (stage.IdealRead work.Offline []) k ms one (no_tries past.history) (omega arith) paired
@@ -166,7 +146,7 @@ module _ (setup : Setup) (past : Past) (r : Request) (has : Has past.sent (sent.
   -- the segment's machine reacts
   machine_reacts : (c : Controlling) (now : Moment) (place : ℕ) (what : Ask) (m : SegmentMachine) → ask_in r.offset r.kind ≡ Some what
       → machine_place c.machines r.partition r.sequence ≡ Some place → slice_get c.machines place ≡ Some m → Lasts setup past c
-      → Right c
+      → Kept c
       (follows (record c { machines = replaced c.machines place (with_machine m (react m.machine r.number.instance what now).1) })
       r m.machine.seen (react m.machine r.number.instance what now).0)
   machine_reacts c now place what m asks found at k =
@@ -184,7 +164,7 @@ module _ (setup : Setup) (past : Past) (r : Request) (has : Has past.sent (sent.
 
   -- a machine is made, and reacts
   machine_opens : (c : Controlling) (now : Moment) (what : Ask) (seen : SeenMeta) → ask_in r.offset r.kind ≡ Some what
-      → machine_place c.machines r.partition r.sequence ≡ None → Lasts setup past c → Right c (opens c r now what seen)
+      → machine_place c.machines r.partition r.sequence ≡ None → Lasts setup past c → Kept c (opens c r now what seen)
   machine_opens c now what seen asks none k =
       let n = first seen (replicas_in c.assigned r.partition) (first_state what) now in
       let y = react n r.number.instance what now in
@@ -200,80 +180,62 @@ module _ (setup : Setup) (past : Past) (r : Request) (has : Has past.sent (sent.
 
   -- ---- a segment without a machine
 
-  status_right : (c : Controlling) (now : Moment) (what : Ask) (m : SeenMeta) (s : Status) → ask_in r.offset r.kind ≡ Some what
-      → machine_place c.machines r.partition r.sequence ≡ None → Lasts setup past c → Has past.history (read_write r m) → m.meta.status ≡ s
-      → Right c (by_status c r now what m s)
-  status_right c now what m InProgress asks none k there e = machine_opens c now what m asks none k
-  status_right c now what m (Done commit) asks none k there e =
-      answered c (committed_row m commit.end what) k (row_right past r m commit.end what (there, subst IsDoneStatus (sym e) tt))
-  status_right c now what m Abandoned asks none k there e = answered c (abandoned_row what) k (abandoned_right past r what)
+  status_lasts : (c : Controlling) (now : Moment) (what : Ask) (m : SeenMeta) (s : Status) → ask_in r.offset r.kind ≡ Some what
+      → machine_place c.machines r.partition r.sequence ≡ None → Lasts setup past c → Kept c (by_status c r now what m s)
+  status_lasts c now what m InProgress asks none k = machine_opens c now what m asks none k
+  status_lasts c now what m (Done commit) asks none k = answered c k
+  status_lasts c now what m Abandoned asks none k = answered c k
 
-  abbrev write_at : ℕ → Node → Seen
-  write_at version n = record { key = key.Meta r.partition r.sequence; version = version; node = n }
-
-  node_right : (c : Controlling) (now : Moment) (what : Ask) (version : ℕ) (n : Node) → ask_in r.offset r.kind ≡ Some what
-      → machine_place c.machines r.partition r.sequence ≡ None → Lasts setup past c → Has past.history (write_at version n)
-      → Right c (by_node c r now what version n)
-  node_right c now what version (node.Meta meta) asks none k there =
-      status_right c now what (record { version = version; meta = meta }) meta.status asks none k there refl
-  node_right c now what version (node.Ideal i) asks none k there = failed c _ k
-  node_right c now what version node.Boot asks none k there = failed c _ k
-  node_right c now what version node.Gone asks none k there = failed c _ k
+  node_lasts : (c : Controlling) (now : Moment) (what : Ask) (version : ℕ) (n : Node) → ask_in r.offset r.kind ≡ Some what
+      → machine_place c.machines r.partition r.sequence ≡ None → Lasts setup past c → Kept c (by_node c r now what version n)
+  node_lasts c now what version (node.Meta meta) asks none k =
+      status_lasts c now what (record { version = version; meta = meta }) meta.status asks none k
+  node_lasts c now what version (node.Ideal i) asks none k = answered c k
+  node_lasts c now what version node.Boot asks none k = answered c k
+  node_lasts c now what version node.Gone asks none k = answered c k
 
   abbrev some_handling : Handling → Option Handling
   some_handling x = Some x
 
-  same_handling : (c : Controlling) (x y : Handling) → some_handling x ≡ some_handling y → Right c x → Right c y
-  same_handling c x y e k = subst (λ z. Answers setup past c z) (same_Some x y e) k
+  same_handling : (c : Controlling) (x y : Handling) → some_handling x ≡ some_handling y → Kept c x → Kept c y
+  same_handling c x y e k = subst (Kept c) (same_Some x y e) k
 
-  read_right : (s t : Meaning) (c : Controlling) (now : Moment) (what : Ask) (answer : Result Seen StoreRefused) (x : Handling)
-      → ask_in r.offset r.kind ≡ Some what → machine_place c.machines r.partition r.sequence ≡ None → Lasts setup past c
-      → t.seen ≡ past.history → Reads s t (key.Meta r.partition r.sequence) answer → after_read c r now what answer ≡ Some x → Right c x
-  read_right s t c now what (Ok w) x asks none k same m e =
-      let has = read_seen s t (key.Meta r.partition r.sequence) w m in
-      let there : Has past.history w = subst (λ (h : List Seen). Has h w) same has.0 in
-      same_handling c _ x e (node_right c now what w.version w.node asks none k (has_at past.history r w there has.1))
-  read_right s t c now what (Err NoNode) x asks none k same m e = same_handling c _ x e (failed c _ k)
-  read_right s t c now what (Err (Exists found)) x asks none k same m e = same_handling c _ x e (failed c _ k)
-  read_right s t c now what (Err (VersionChanged expected found)) x asks none k same m e = same_handling c _ x e (failed c _ k)
-  read_right s t c now what (Err Failed) x asks none k same m e = same_handling c _ x e (failed c _ k)
-  read_right s t c now what (Err Memory) x asks none k same m e = absurd (cc)
+  read_lasts : (c : Controlling) (now : Moment) (what : Ask) (answer : Result Seen StoreRefused) (x : Handling) → ask_in r.offset r.kind ≡ Some what
+      → machine_place c.machines r.partition r.sequence ≡ None → Lasts setup past c → after_read c r now what answer ≡ Some x → Kept c x
+  read_lasts c now what (Ok w) x asks none k e = same_handling c _ x e (node_lasts c now what w.version w.node asks none k)
+  read_lasts c now what (Err NoNode) x asks none k e = same_handling c _ x e (answered c k)
+  read_lasts c now what (Err (Exists found)) x asks none k e = same_handling c _ x e (answered c k)
+  read_lasts c now what (Err (VersionChanged expected found)) x asks none k e = same_handling c _ x e (answered c k)
+  read_lasts c now what (Err Failed) x asks none k e = same_handling c _ x e (answered c k)
+  read_lasts c now what (Err Memory) x asks none k e = absurd (cc)
 
   -- ---- an upload
 
-  put_right : (d e : DeepMeaning) (c : Controlling) (path bytes : List ℕ) (answer : Result (Unit {0}) DeepRefused) (x : Handling)
-      → r.kind ≡ kind.Upload path bytes → e.seen ≡ past.files → Lasts setup past c → of_deep.Puts d e path bytes answer
-      → after_put c r path answer ≡ Some x → Right c x
-  put_right d e c path bytes (Ok u) x is same k m f =
-      same_handling c _ x f
-      (answered c (status.UploadSuccess path) k
-      (bytes, is, subst (λ (fs : List DeepPut). Stands fs path bytes) same (put_seen d e path bytes m)))
-  put_right d e c path bytes (Err deep.Absent) x is same k m f = same_handling c _ x f (failed c _ k)
-  put_right d e c path bytes (Err (deep.OtherBytes kept offered)) x is same k m f = same_handling c _ x f (failed c _ k)
-  put_right d e c path bytes (Err deep.Failed) x is same k m f = same_handling c _ x f (failed c _ k)
-  put_right d e c path bytes (Err deep.Memory) x is same k m f = absurd (cc)
+  put_lasts : (c : Controlling) (path : List ℕ) (answer : Result (Unit {0}) DeepRefused) (x : Handling) → Lasts setup past c
+      → after_put c r path answer ≡ Some x → Kept c x
+  put_lasts c path (Ok u) x k e = same_handling c _ x e (answered c k)
+  put_lasts c path (Err deep.Absent) x k e = same_handling c _ x e (answered c k)
+  put_lasts c path (Err (deep.OtherBytes kept offered)) x k e = same_handling c _ x e (answered c k)
+  put_lasts c path (Err deep.Failed) x k e = same_handling c _ x e (answered c k)
+  put_lasts c path (Err deep.Memory) x k e = absurd (cc)
 
   -- ---- the first rule that applies
 
-  slot_right : (c : Controlling) (now : Moment) (place : ℕ) (what : Ask) (o : Option SegmentMachine) (x : Handling) → ask_in r.offset r.kind ≡ Some what
+  slot_lasts : (c : Controlling) (now : Moment) (place : ℕ) (what : Ask) (o : Option SegmentMachine) (x : Handling) → ask_in r.offset r.kind ≡ Some what
       → machine_place c.machines r.partition r.sequence ≡ Some place → slice_get c.machines place ≡ o → Lasts setup past c
-      → at_machine c r now place what o ≡ Some x → Right c x
-  slot_right c now place what None x asks found at k e = absurd (cc)
-  slot_right c now place what (Some m) x asks found at k e = same_handling c _ x e (machine_reacts c now place what m asks found at k)
+      → at_machine c r now place what o ≡ Some x → Kept c x
+  slot_lasts c now place what None x asks found at k e = absurd (cc)
+  slot_lasts c now place what (Some m) x asks found at k e = same_handling c _ x e (machine_reacts c now place what m asks found at k)
 
-  turn_right : (s t : Meaning) (d e : DeepMeaning) (c : Controlling) (now : Moment) (turn : Turn) (x : Handling) → t.seen ≡ past.history
-      → e.seen ≡ past.files → Lasts setup past c → Tells c r turn → Makes s t d e (call_of r turn) (λ a. handled_at c r now turn a ≡ Some x)
-      → Right c x
-  turn_right s t d e c now not_leading x h f k told m = same_handling c _ x m.2 (answered c status.NotLeader k tt)
-  turn_right s t d e c now (uploads path bytes) x h f k told (answer, put, same, is) = put_right d e c path bytes answer x told f k put is
-  turn_right s t d e c now not_assigned x h f k told m = same_handling c _ x m.2 (failed c _ k)
-  turn_right s t d e c now past_last x h f k told m = same_handling c _ x m.2 (answered c status.Hold k tt)
-  turn_right s t d e c now (has_machine place what) x h f k told m =
-      slot_right c now place what (slice_get c.machines place) x told.2 told.1 refl k m.2
-  turn_right s t d e c now (has_none what) x h f k told (answer, read, same, is) =
-      read_right s t c now what answer x told.2 told.1 k h read is
+  turn_lasts : (s t : Meaning) (d e : DeepMeaning) (c : Controlling) (now : Moment) (turn : Turn) (x : Handling) → Lasts setup past c → Tells c r turn
+      → Makes s t d e (call_of r turn) (λ a. handled_at c r now turn a ≡ Some x) → Kept c x
+  turn_lasts s t d e c now not_leading x k told m = same_handling c _ x m.2 (answered c k)
+  turn_lasts s t d e c now (uploads path bytes) x k told (answer, put, same, is) = put_lasts c path answer x k is
+  turn_lasts s t d e c now not_assigned x k told m = same_handling c _ x m.2 (answered c k)
+  turn_lasts s t d e c now past_last x k told m = same_handling c _ x m.2 (answered c k)
+  turn_lasts s t d e c now (has_machine place what) x k told m = slot_lasts c now place what (slice_get c.machines place) x told.2 told.1 refl k m.2
+  turn_lasts s t d e c now (has_none what) x k told (answer, read, same, is) = read_lasts c now what answer x told.2 told.1 k is
 
-  pub request_right : (s t : Meaning) (d e : DeepMeaning) (c : Controlling) (now : Moment) (x : Handling) → t.seen ≡ past.history
-      → e.seen ≡ past.files → Lasts setup past c → Makes s t d e (call_of r (turn_of c r)) (λ a. handled_at c r now (turn_of c r) a ≡ Some x)
-      → Right c x
-  request_right s t d e c now x h f k m = turn_right s t d e c now (turn_of c r) x h f k (told_turn c r) m
+  pub request_lasts : (s t : Meaning) (d e : DeepMeaning) (c : Controlling) (now : Moment) (x : Handling) → Lasts setup past c
+      → Makes s t d e (call_of r (turn_of c r)) (λ a. handled_at c r now (turn_of c r) a ≡ Some x) → Kept c x
+  request_lasts s t d e c now x k m = turn_lasts s t d e c now (turn_of c r) x k (told_turn c r) m

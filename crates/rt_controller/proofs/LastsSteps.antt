@@ -1,25 +1,19 @@
--- What lasts of a controller is kept by each step of a job, and what ends a job is right.
-use Rattle.std.proofs.Common.{◌≡◌, ℕ, ◌<◌, Bool, Option, Some, None, refl, sym, ◌∙◌, ap, subst}
+-- What lasts of a controller is kept by each step of a job, and how a job ends.
+use Rattle.std.proofs.Common.{◌≡◌, ℕ, ◌<◌, Option, Some, None, refl, subst}
 use Rattle.std.specs.Prelude.{slice_get}
 use Rattle.std.proofs.lemmas.List.Elements.{All-set}
 use Rattle.std.proofs.lemmas.Option.{none-some, same_Some}
 use Rattle.rt_base.specs.declared.numbers.Moment.{Moment}
-use Rattle.rt_base.specs.declared.numbers.Partition.{Partition}
-use Rattle.rt_base.specs.declared.numbers.Sequence.{Sequence}
 use Rattle.rt_lists.specs.Members.{Has}
 use Rattle.rt_lists.proofs.Lists.{All-found}
 use Rattle.rt_model.specs.declared.asked.Asked.{Asked}
-use Rattle.rt_model.specs.declared.job_step.StepName.{StepName}
 use Rattle.rt_model.specs.declared.reply.ReplyStatus.{ReplyStatus}
-use Rattle.rt_model.specs.declared.reply.ReplyStatus.TheVariants as status
 use Rattle.rt_model.specs.declared.setup.Setup.{Setup}
 use Rattle.rt_model.specs.Lawful.{IsLawfulHistory}
 use Rattle.rt_store.specs.Contents.{starting_of}
 use Rattle.rt_store.specs.Meaning.{Meaning}
 use Rattle.rt_past.specs.IsPast.{IsPast}
 use Rattle.rt_past.specs.Past.{Past}
-use Rattle.rt_past.specs.Replies.{IsStatus}
-use Rattle.rt_past.specs.Segments.{WasDone}
 use Rattle.rt_commit.specs.declared.job.Job.{Job}
 use Rattle.rt_commit.specs.declared.job.JobStage.TheVariants as stage
 use Rattle.rt_commit.specs.declared.job.JobStage.{JobStage}
@@ -35,7 +29,7 @@ use Rattle.rt_commit.proofs.LastsJobs.{step_so}
 use Rattle.rt_commit.proofs.Making.{makes_some}
 use Rattle.rt_controller.specs.Controller.{Controlling}
 use Rattle.rt_controller.specs.Lasting.{IsControllerOver}
-use Rattle.rt_controller.specs.Right.{IsReplied, LeavesJob, job_of, left_of}
+use Rattle.rt_controller.specs.Right.{LeavesJob, job_of, left_of}
 use Rattle.rt_controller.specs.Working.{Working, job_place, settled, with_stage, worked}
 use Rattle.rt_controller.proofs.JobOf.{fewer_left, job_goes, job_gone}
 use Rattle.rt_controller.proofs.JobsStay.{settled_keeps}
@@ -76,34 +70,11 @@ settles setup past c place j x (Some r) k at asked goes =
       numbered = ends_numbered c.jobs c.started place j x.stage at k.numbered;
     }
 
--- ---- the reply of a step
-
--- an answer with which a job ends is right
-so_right : (past : Past) (p : Partition) (s : Sequence) (rose : Type 0) (commit : Bool) (n : StepName) (a : Asked) (w : WasSent past a) (r : ReplyStatus)
-    → a.partition ≡ p → a.sequence ≡ s → StatusSo past.history p s rose commit n r → IsStatus past w.request r
-so_right past p s rose commit n a w (status.CommitSuccess seen) e f so =
-    let q = w.request in
-    let first = ap (λ (x : Asked). x.partition) w.answers ∙ e in
-    let second = ap (λ (x : Asked). x.sequence) w.answers ∙ f in
-    subst (λ (t : Sequence). WasDone past.history q.partition t seen) (sym second)
-    (subst (λ (o : Partition). WasDone past.history o s seen) (sym first) so.1)
-so_right past p s rose commit n a w status.Processed e f so = tt
-so_right past p s rose commit n a w (status.Failed because) e f so = tt
-so_right past p s rose commit n a w (status.Keep seen) e f so = absurd so
-so_right past p s rose commit n a w (status.UploadSuccess path) e f so = absurd so
-so_right past p s rose commit n a w status.Hold e f so = absurd so
-so_right past p s rose commit n a w (status.CatchUp offset) e f so = absurd so
-so_right past p s rose commit n a w status.Discard e f so = absurd so
-so_right past p s rose commit n a w (status.Commit offset) e f so = absurd so
-so_right past p s rose commit n a w status.NotLeader e f so = absurd so
-so_right past p s rose commit n a w status.CommitContinue e f so = absurd so
-
 -- ---- a step of the job of a number
 
 -- what is told of a step, and what it leaves
 pub record StepsRight (setup : Setup) (past : Past) (c : Controlling) (n : ℕ) (j : Job) (rose : Type 0) (w : Working) : Type 0 where
   pub lasts : Lasts setup past w.controller
-  pub right : IsReplied past w.step.reply
   pub so : EndsSo past.history j.asked.partition j.asked.sequence rose (commits j.stage) w.step.step w.step.reply
   pub leaves : LeavesJob j w.step.reply (job_of w.controller n)
   pub fewer : left_of w.controller n < left_of c n
@@ -140,7 +111,6 @@ module _ (setup : Setup) (past : Past) (k : IsPast setup past) (s t : Meaning) (
   told_step j place x None job found at so f =
       record {
         lasts = settles setup past c place j x None (parts_of setup past c lasts) at job.asked (goes_or_ends j x None so f);
-        right = tt;
         so = tt;
         leaves = (at_stage j x.stage, job_goes c.jobs n place j found at x.stage, refl, refl, (f refl).end, (f refl).fewer);
         fewer = fewer_left c n place j x None found at lasts.numbered job.trying f;
@@ -150,12 +120,6 @@ module _ (setup : Setup) (past : Past) (k : IsPast setup past) (s t : Meaning) (
   told_step j place x (Some r) job found at so f =
       record {
         lasts = settles setup past c place j x (Some r) (parts_of setup past c lasts) at job.asked (goes_or_ends j x (Some r) so f);
-        right = record {
-          request = job.asked.request;
-          was_sent = job.asked.was_sent;
-          answers = job.asked.answers;
-          status = so_right past j.asked.partition j.asked.sequence rose (commits j.stage) x.did.step j.asked job.asked r refl refl so;
-        };
         so = so;
         leaves = (job_gone c.jobs n place c.started j x.stage found at lasts.numbered, refl, refl, refl);
         fewer = fewer_left c n place j x (Some r) found at lasts.numbered job.trying f;

@@ -28,8 +28,9 @@ use Rattle.rt_controller.specs.Told.{handled_on}
 use Rattle.rt_controller.proofs.JobsStay.{job_stays}
 use Rattle.rt_controller.proofs.KeepsRequests.{keeps_request}
 use Rattle.rt_controller.proofs.Lasts.{controller_lasts, ready_over}
-use Rattle.rt_controller.proofs.LastsParts.{Answers, parts_of, whole_of}
-use Rattle.rt_controller.proofs.LastsRequests.{request_right}
+use Rattle.rt_controller.proofs.LastsParts.{Stays, parts_of, whole_of}
+use Rattle.rt_controller.proofs.LastsRequests.{request_lasts}
+use Rattle.rt_controller.proofs.OwnAnswers.{request_answers}
 use Rattle.rt_controller.proofs.Realized.{made_request}
 use Rattle.rt_controller.proofs.RightCalls.{request_call}
 
@@ -53,9 +54,9 @@ module _ (setup : Setup) (past : Past) (t : Told) (d : ToldDeep) (c : Controllin
   goes : GoesOnRight setup (told_past past t d) after
   goes = request_past setup past t d c r k has
 
-  answers : Answers setup after c x
-  answers =
-      request_right setup after r has (goes.1.requests r has) (means t) (means later) (deep.means d) (deep.means later_deep) c now x refl refl
+  stays : Stays setup after c x.controller
+  stays =
+      request_lasts setup after r has (goes.1.requests r has) (means t) (means later) (deep.means d) (deep.means later_deep) c now x
       (parts_of setup after c (controller_lasts setup (told_past past t d) after c goes.0 i)) (made_request t d c r now x k.once e)
 
   remembers : IsController (starting_of setup) after.history x.controller
@@ -65,14 +66,16 @@ module _ (setup : Setup) (past : Past) (t : Told) (d : ToldDeep) (c : Controllin
       (goes.1.requests r has).partition (ready_over setup (told_past past t d) c s k i) (made_request t d c r now x k.once e)
 
   pub request_kept : IsControllerOver setup after x.controller
-  request_kept = whole_of setup after x.controller remembers answers.lasts
+  request_kept = whole_of setup after x.controller remembers stays.lasts
 
   pub request_answered : IsHandled after x.handled
-  request_answered = answers.right
+  request_answered =
+      request_answers after (means t) (means later) (deep.means d) (deep.means later_deep) c x.controller r now x.handled
+      (record { history = refl; files = refl }) has (made_request t d c r now x k.once e)
 
   pub request_id : x.controller.id ≡ c.id
-  request_id = answers.id
+  request_id = stays.id
 
   pub request_stays : (n : ℕ) (j : Job) → job_of c n ≡ Some j → job_of x.controller n ≡ Some j
   request_stays n j at =
-      job_stays c.jobs x.controller.jobs x.controller.started n j answers.lasts.numbered (Has-front c.jobs x.controller.jobs j answers.jobs) at
+      job_stays c.jobs x.controller.jobs x.controller.started n j stays.lasts.numbered (Has-front c.jobs x.controller.jobs j stays.jobs) at

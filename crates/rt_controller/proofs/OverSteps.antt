@@ -32,6 +32,7 @@ use Rattle.rt_controller.proofs.Keeps.{keeps_work}
 use Rattle.rt_controller.proofs.Lasts.{controller_lasts, ready_over}
 use Rattle.rt_controller.proofs.LastsParts.{whole_of}
 use Rattle.rt_controller.proofs.LastsSteps.{StepsRight, work_right}
+use Rattle.rt_controller.proofs.OwnAnswers.{step_answers}
 use Rattle.rt_controller.proofs.Realized.{made_work}
 use Rattle.rt_controller.proofs.RightCalls.{work_call_right}
 
@@ -86,10 +87,12 @@ module _ (setup : Setup) (past : Past) (t : Told) (d : ToldDeep) (c : Controllin
   goes : GoesOnRight setup (told_past past t d) after
   goes = work_past setup past t d c n now s k i
 
+  over : IsControllerOver setup after c
+  over = controller_lasts setup (told_past past t d) after c goes.0 i
+
   pub work_found : Found setup after (means t) (means later) (deep.means d) (deep.means later_deep) c n now x
   work_found =
-      found_place setup after goes.1 (means t) (means later) (deep.means d) (deep.means later_deep) c n now x
-      (controller_lasts setup (told_past past t d) after c goes.0 i) k.lawful refl refl (job_place c.jobs n) refl (made_work t d c n now x k.once e)
+      found_place setup after goes.1 (means t) (means later) (deep.means d) (deep.means later_deep) c n now x over k.lawful refl refl (job_place c.jobs n) refl (made_work t d c n now x k.once e)
 
   remembers : IsController (starting_of setup) after.history x.controller
   remembers =
@@ -101,7 +104,10 @@ module _ (setup : Setup) (past : Past) (t : Told) (d : ToldDeep) (c : Controllin
   work_kept = whole_of setup after x.controller remembers work_found.right.lasts
 
   pub work_replied : IsReplied after x.step.reply
-  work_replied = work_found.right.right
+  work_replied =
+      step_answers after (starting_of setup) (means t) (means later) (deep.means d) (deep.means later_deep) c x.controller n now x.step
+      (record { history = refl; files = refl }) (λ m h lt. (over.jobs m h lt).asked) (ready_over setup (told_past past t d) c s k i)
+      (made_work t d c n now x k.once e)
 
   -- another job stays as it is
   pub work_stays : (m : ℕ) (j : Job) → (m ≡ n → ⊥) → job_of c m ≡ Some j → job_of x.controller m ≡ Some j
