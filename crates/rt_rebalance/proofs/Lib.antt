@@ -5,6 +5,7 @@ pub mod Gathered
 pub mod Grouping
 pub mod Least
 pub mod Lines
+pub mod Once
 pub mod Orders
 pub mod Placing
 pub mod Plans

@@ -20,10 +20,10 @@ front_all P e ((f ∷ fs) ∷ ss) p h = by (is_beside e f)
     by true = ((p, h.0), h.1)
     by false = ((p, tt), h)
 
-abbrev IsAfter : IdealEntry → IdealEntry → Type 0
+abbrev pub IsAfter : IdealEntry → IdealEntry → Type 0
 IsAfter e x = is_before e x ≡ true
 
-all_after : (e : IdealEntry) (es : List IdealEntry) → IsBeforeAll e es → AllIn (IsAfter e) (segments_of es)
+pub all_after : (e : IdealEntry) (es : List IdealEntry) → IsBeforeAll e es → AllIn (IsAfter e) (segments_of es)
 all_after e [] h = tt
 all_after e (f ∷ fs) h = front_all (IsAfter e) f (segments_of fs) h.0 (all_after e fs h.1)
 

@@ -6,6 +6,7 @@ ghost use Rattle.rt_base.specs.declared.numbers.Sequence.{Sequence};
 ghost use Rattle.rt_model.specs.declared.ideal_state.IdealEntry.{IdealEntry};
 ghost use Rattle.rt_model.specs.declared.ideal_state.IdealState.{IdealState};
 ghost use Rattle.rt_model.specs.Ideal.{is_of_instance};
+ghost use Rattle.rt_model.specs.Order.{IsAscending};
 ghost use Rattle.rt_rebalance.specs.Available.{AreStatesOnce, IsOnlineIn, is_available, present};
 ghost use Rattle.rt_rebalance.specs.InTurn.{AreInTurn};
 ghost use Rattle.rt_rebalance.specs.Plan.{IsRebalancePlan};
@@ -30,6 +31,7 @@ pub fn the_lowest_leave_and_come_first()
 /// Which ONLINE instances are available while states are gone through in each of which an instance has a segment once: in
 /// the first state all; after a step those that the state before has too, whose instances were all available then; and
 /// those that have loaded their segment since they came. What is waited for are the others, in the order of the state.
+/// In each state of a plan from an ascending state an instance has a segment once.
 pub fn instances_are_available_once_they_have_loaded()
     ensures first { (states : List IdealState) (e : IdealEntry)
         → is_available (start_of states) e ≡ is_online e.mode }
@@ -46,4 +48,6 @@ pub fn instances_are_available_once_they_have_loaded()
         → (after calls (start_of states)).waiting
         ≡ filter (λ e. is_online e.mode && not (is_available (after calls (start_of states)) e))
         (present (after calls (start_of states))) }
+    ensures plan { (keep : ℕ) (now goal : List IdealEntry) (states : List IdealState)
+        → IsAscending now → IsRebalancePlan keep now goal states → AreStatesOnce states }
 {}

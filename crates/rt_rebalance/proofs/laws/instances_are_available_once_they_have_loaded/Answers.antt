@@ -1,4 +1,5 @@
 use Rattle.rt_rebalance.proofs.Availability.{waiting_in_order, all_before_a_step, after_a_taken_step, after_a_load}
+use Rattle.rt_rebalance.proofs.Once.{plan_once}
 use Rattle.rt_rebalance.proofs.laws.instances_are_available_once_they_have_loaded.Goals as goal
 
 pub returns-clause-before : goal.returns-clause-before
@@ -12,3 +13,6 @@ returns-clause-loaded c = after_a_load
 
 pub returns-clause-waiting : goal.returns-clause-waiting
 returns-clause-waiting c = waiting_in_order
+
+pub returns-clause-plan : goal.returns-clause-plan
+returns-clause-plan c = plan_once
