@@ -12,9 +12,11 @@ use Rattle.rt_model.proofs.Kept.{present_is}
 use Rattle.rt_model.proofs.Lawful.{has_ideal_state}
 use Rattle.rt_store.specs.Contents.{starting_of}
 use Rattle.rt_store.proofs.Assigned.{setup_assigned}
+use Rattle.rt_rebalance.specs.Available.{AreStatesOnce}
 use Rattle.rt_rebalance.specs.Plan.{IsRebalancePlan}
 use Rattle.rt_rebalance.specs.Rehearsed.{Call, IsAvailable, after, entries_in, start_of}
 use Rattle.rt_rebalance.specs.Target.{IsTarget}
+use Rattle.rt_rebalance.proofs.Once.{plan_once}
 use Rattle.rt_rebalance.proofs.Placing.{is_target}
 use Rattle.rt_rebalance.proofs.Plans.{plans_are}
 use Rattle.rt_rebalance.proofs.Rehearsals.{enough_available}
@@ -43,6 +45,11 @@ safe_plan w servers keep states s fit planned =
     let target : IsTarget (entries_now w) (goal_of w servers) =
     is_target w.setup.table.replication servers s.safe.setup.some_replicas (fit_enough w servers fit) (entries_now w) (goal_of w servers) refl (now_ascends w s) in
     plans_are keep (entries_now w) (goal_of w servers) (Ok states) (sym planned) target
+
+pub safe_once : (w : State) (servers keep : ℕ) (states : List IdealState) → IsSafeWorld w → is_fit w servers ≡ true → plan_in w servers keep ≡ Ok states
+    → AreStatesOnce states
+safe_once w servers keep states s fit planned =
+    plan_once keep (entries_now w) (goal_of w servers) states (now_ascends w s) (safe_plan w servers keep states s fit planned)
 
 pub safe_rehearsal : (w : State) (servers keep : ℕ) (states : List IdealState) (calls : List Call) → IsSafeWorld w → is_fit w servers ≡ true
     → plan_in w servers keep ≡ Ok states → IsAvailable keep (entries_now w) (goal_of w servers) (after calls (start_of states))

@@ -15,6 +15,7 @@ ghost use Rattle.rt_entry.specs.declared.entry.CommittedSegment.{CommittedSegmen
 ghost use Rattle.rt_entry.specs.declared.entry.Entry.TheVariants.{Committed};
 ghost use Rattle.rt_server.specs.Table.{entry_of};
 ghost use Rattle.rt_nodes.specs.declared.server_node.ServerNode.{ServerNode};
+ghost use Rattle.rt_rebalance.specs.Available.{AreStatesOnce};
 ghost use Rattle.rt_rebalance.specs.Plan.{IsRebalancePlan};
 ghost use Rattle.rt_rebalance.specs.Rehearsed.{Call, IsAvailable, after, start_of};
 ghost use Rattle.rt_state.specs.IsSafeWorld.{IsSafeWorld};
@@ -22,11 +23,14 @@ ghost use Rattle.rt_state.specs.declared.state.State.{State};
 ghost use Rattle.rt_dryrun.specs.Peers.{meta_in, peer_meaning, server_copy};
 ghost use Rattle.rt_dryrun.specs.Rehearsing.{entries_now, goal_of, is_fit, plan_in};
 
-/// What is planned from the ideal state of a world that is safe is a rebalance plan; and however it is rehearsed, each
-/// segment that moves has at every moment at least as many instances that are ONLINE and have loaded it as are to be kept.
+/// What is planned from the ideal state of a world that is safe is a rebalance plan, in each of whose states an instance
+/// has a segment once; and however it is rehearsed, each segment that moves has at every moment at least as many
+/// instances that are ONLINE and have loaded it as are to be kept.
 pub fn what_is_rehearsed_keeps_enough()
     ensures plan { (w : State) (servers keep : ℕ) (states : List IdealState) → IsSafeWorld w → is_fit w servers ≡ true
         → plan_in w servers keep ≡ Ok states → IsRebalancePlan keep (entries_now w) (goal_of w servers) states }
+    ensures once { (w : State) (servers keep : ℕ) (states : List IdealState) → IsSafeWorld w → is_fit w servers ≡ true
+        → plan_in w servers keep ≡ Ok states → AreStatesOnce states }
     ensures available { (w : State) (servers keep : ℕ) (states : List IdealState) (calls : List Call) → IsSafeWorld w → is_fit w servers ≡ true
         → plan_in w servers keep ≡ Ok states → IsAvailable keep (entries_now w) (goal_of w servers) (after calls (start_of states)) }
 {}
