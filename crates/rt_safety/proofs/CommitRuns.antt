@@ -8,7 +8,7 @@ use Rattle.rt_commit.specs.declared.job.Job.{Job}
 use Rattle.rt_commit.specs.Job.{commits}
 use Rattle.rt_commit.specs.Lasting.{commit_end}
 use Rattle.rt_commit.specs.Laws.{steps_left}
-use Rattle.rt_commit.specs.Right.{EndsSo, MetFault, StatusSo}
+use Rattle.rt_commit.specs.Right.{EndsSo, HasChanged, MetFault, StatusSo}
 use Rattle.rt_controller.specs.Right.{LeavesJob, WorksOver, job_of}
 use Rattle.rt_controller.proofs.CallsOver.{works_over}
 use Rattle.rt_commit.proofs.CommitEnds.{end_commits}
@@ -21,6 +21,7 @@ use Rattle.rt_model.specs.declared.job_step.JobStep.{JobStep}
 use Rattle.rt_model.specs.Metadata.{IsDoneStatus}
 use Rattle.rt_model.specs.declared.job_step.StepName.{StepName}
 use Rattle.rt_model.specs.declared.node.Seen.{Seen}
+use Rattle.rt_model.specs.declared.reply.FailCause.TheVariants as cause
 use Rattle.rt_model.specs.declared.reply.Reply.{Reply}
 use Rattle.rt_model.specs.declared.reply.ReplyStatus.{ReplyStatus}
 use Rattle.rt_model.specs.declared.reply.ReplyStatus.TheVariants as status
@@ -30,6 +31,7 @@ use Rattle.rt_base.specs.declared.numbers.Sequence.{Sequence}
 use Rattle.rt_controller.specs.Steps.{Works}
 use Rattle.rt_deep.specs.Memory.{means as deep_means}
 use Rattle.rt_store.specs.Memory.{means}
+use Rattle.rt_safety.proofs.ChangedEnds.{changed_wrote_nothing}
 use Rattle.rt_safety.proofs.SuccessEnds.{success_ends}
 use Rattle.rt_deep.specs.Meaning.{Told as ToldDeep}
 use Rattle.rt_store.specs.Meaning.{Told}
@@ -125,6 +127,22 @@ module _ (w : State) (c : ControllerId) (n : ℕ) (a : Asked) (end : Offset) (le
         ap (λ (l : List ControllerNode). job_in (slice_get l c.0) n) (stepped_controllers (after_job w c node new store deep cost) cost step r)
         ∙ ap (λ (x : Option ControllerNode). job_in x n) (own_slot w.controllers c.0 node (record node { controller = new }) at)
 
+    -- how it ends, by what is known of the job
+    its_own : (reply : Reply)
+        → StatusSo store.writes k.job.asked.partition k.job.asked.sequence (MetFault w.store store w.deep deep) (commits k.job.stage) step.step reply.status
+        → StatusSo store.writes a.partition a.sequence (MetFault w.store store w.deep deep) true step.step reply.status
+    its_own reply so =
+        subst (λ (b : Bool). StatusSo store.writes a.partition a.sequence (MetFault w.store store w.deep deep) b step.step reply.status) commits_is
+        (subst (λ (x : Asked). StatusSo store.writes x.partition x.sequence (MetFault w.store store w.deep deep) (commits k.job.stage) step.step reply.status) asked_is so)
+
+    changed : (reply : Reply) (expected found : ℕ) → step.reply ≡ Some reply → reply.status ≡ status.Failed (cause.VersionChanged expected found)
+        → StatusSo store.writes a.partition a.sequence (MetFault w.store store w.deep deep) true step.step reply.status
+        → HasChanged w.store.writes a.partition a.sequence expected found
+    changed reply expected found e is so =
+        subst (λ (h : List Seen). HasChanged h a.partition a.sequence expected found)
+        (changed_wrote_nothing w.store store (deep_means w.deep) (deep_means deep) node.controller new n w.moment step reply expected found works e is)
+        (subst (λ (s : ReplyStatus). StatusSo store.writes a.partition a.sequence (MetFault w.store store w.deep deep) true step.step s) is so).1
+
     by_reply : (r : Option Reply) → step.reply ≡ r → LeavesJob k.job r (job_of new n)
         → EndsSo store.writes k.job.asked.partition k.job.asked.sequence (MetFault w.store store w.deep deep) (commits k.job.stage) step.step r
         → GoesBy w c n a end left (event.Job c n) (y r) (stepped_by (after_job w c node new store deep cost) cost step r).1
@@ -151,14 +169,13 @@ module _ (w : State) (c : ControllerId) (n : ℕ) (a : Asked) (end : Offset) (le
           number = number ∙ ap (λ (x : Asked). x.number) asked_is;
           partition = partition ∙ ap (λ (x : Asked). x.partition) asked_is;
           sequence = sequence ∙ ap (λ (x : Asked). x.sequence) asked_is;
-          so =
-              subst (λ (b : Bool). StatusSo store.writes a.partition a.sequence (MetFault w.store store w.deep deep) b step.step reply.status) commits_is
-              (subst (λ (x : Asked). StatusSo store.writes x.partition x.sequence (MetFault w.store store w.deep deep) (commits k.job.stage) step.step reply.status) asked_is so);
+          so = its_own reply so;
           success =
               λ seen is. success_ends w.setup (past_of w) (means w.store) (means store) (deep_means w.deep) (deep_means deep) node.controller n w.moment
               (record { controller = new; step = step }) o.job end reply seen (s.safe.controllers c.0 node at).over works
               (sym (ap (λ (x : Option ControllerNode). job_in x n) at) ∙ o.there) o.ends_at e is
               (done_so store.writes k.job.asked.partition k.job.asked.sequence (MetFault w.store store w.deep deep) (commits k.job.stage) step.step reply.status seen is so);
+          changed_before = λ expected found is. changed reply expected found e is (its_own reply so);
           gone = opened (Some reply) ∙ gone;
         })
 

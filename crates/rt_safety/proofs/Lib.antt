@@ -7,6 +7,7 @@ pub mod Alike
 pub mod AlwaysPresent
 pub mod Answering
 pub mod Can
+pub mod ChangedEnds
 pub mod CommitOpens
 pub mod CommitRuns
 pub mod Committed

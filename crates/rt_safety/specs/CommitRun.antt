@@ -5,7 +5,7 @@ use Rattle.rt_base.specs.declared.numbers.Offset.{Offset}
 use Rattle.rt_commit.specs.declared.job.Job.{Job}
 use Rattle.rt_commit.specs.Lasting.{commit_end}
 use Rattle.rt_commit.specs.Laws.{steps_left}
-use Rattle.rt_commit.specs.Right.{MetFault, StatusSo}
+use Rattle.rt_commit.specs.Right.{HasChanged, MetFault, StatusSo}
 use Rattle.rt_controller.specs.Right.{job_of}
 use Rattle.rt_events.specs.declared.event.Event.TheVariants as event
 use Rattle.rt_events.specs.declared.outcome.Outcome.{Outcome}
@@ -13,6 +13,7 @@ use Rattle.rt_events.specs.declared.outcome.Outcome.TheVariants as told
 use Rattle.rt_model.specs.declared.asked.Asked.{Asked}
 use Rattle.rt_model.specs.declared.commit.Commit.{Commit}
 use Rattle.rt_model.specs.declared.job_step.JobStep.{JobStep}
+use Rattle.rt_model.specs.declared.reply.FailCause.TheVariants as cause
 use Rattle.rt_model.specs.declared.reply.Reply.{Reply}
 use Rattle.rt_model.specs.declared.reply.ReplyStatus.TheVariants as status
 use Rattle.rt_model.specs.declared.seg_meta.SeenMeta.{SeenMeta}
@@ -49,7 +50,9 @@ abbrev pub EndsAt : SeenMeta → Offset → Type 0
 EndsAt seen end = (commit : Commit) × (seen.meta.status ≡ Done commit) × (commit.end ≡ end)
 
 -- the turn is a step of it, with which it ends: the reply that is told of the step is the one that is sent, for that request, and is one
--- of those with which a commit ends: a COMMIT_SUCCESS with a Done write up to the job's offset. And the job is gone, so that it ends once
+-- of those with which a commit ends: a COMMIT_SUCCESS with a Done write up to the job's offset. Where it fails since the segment's node
+-- has another version, the node had that version before the step, which therefore isn't one that the step wrote. And the job is gone, so
+-- that it ends once
 pub record EndsIn (w : State) (c : ControllerId) (n : ℕ) (a : Asked) (end : Offset) (turn : Turn) (y : State) : Type 0 where
   pub step : JobStep
   pub reply : Reply
@@ -61,6 +64,9 @@ pub record EndsIn (w : State) (c : ControllerId) (n : ℕ) (a : Asked) (end : Of
   pub sequence : reply.sequence ≡ a.sequence
   pub so : StatusSo y.store.writes a.partition a.sequence (MetFault w.store y.store w.deep y.deep) true step.step reply.status
   pub success : (seen : SeenMeta) → reply.status ≡ status.CommitSuccess seen → EndsAt seen end
+  pub changed_before :
+      (expected found : ℕ) → reply.status ≡ status.Failed (cause.VersionChanged expected found)
+      → HasChanged w.store.writes a.partition a.sequence expected found
   pub gone : open_job y c n ≡ None
 
 -- ---- turns, one after the other

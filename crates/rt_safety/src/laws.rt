@@ -47,9 +47,9 @@ pub fn a_commit_end_in_time_opens_its_commit()
 {}
 
 /// A commit job that is open goes on along any turns without a crash of its controller, lines that are no events among them, with one step
-/// less left at each of its own steps, until it ends in one of them: with COMMIT_SUCCESS, or for a node that is gone or has another version,
-/// ten versions of the ideal state each found in place of the one just read, or a fault that was met in that step. Its reply is the one that
-/// is told of that step; it is sent, and the job is gone.
+/// less left at each of its own steps, until it ends in one of them: with COMMIT_SUCCESS, or for a node that is gone or had another version
+/// before that step, ten versions of the ideal state each found in place of the one just read, or a fault that was met in that step. Its
+/// reply is the one that is told of that step; it is sent, and the job is gone.
 #[tactic(auto, using(crate::proofs::CommitRuns::commit_runs))]
 pub fn an_open_commit_goes_on_until_it_ends()
     ensures { (c : ControllerId) (n : ℕ) (a : Asked) (end : Offset) (left : ℕ) (w : State) (turns : List Turn) (x : State)
