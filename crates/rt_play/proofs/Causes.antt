@@ -21,7 +21,6 @@ use Rattle.rt_broker.specs.Routing.{Routes as broker_routes}
 use Rattle.rt_broker.specs.declared.piece_asked.PieceAnswer.{PieceAnswer}
 use Rattle.rt_broker.specs.declared.piece_asked.PieceAsked.{PieceAsked}
 use Rattle.rt_broker.specs.declared.piece_got.PieceGot.{PieceGot}
-use Rattle.rt_broker.specs.declared.piece_got.PieceGot.TheVariants as got
 use Rattle.rt_broker.specs.declared.refused.BrokerRefused.{BrokerRefused}
 use Rattle.rt_broker.specs.declared.refused.BrokerRefused.TheVariants as broker
 use Rattle.rt_broker.specs.declared.route.Route.{Route}
@@ -42,8 +41,8 @@ use Rattle.rt_model.specs.declared.setup.Setup.{Setup}
 use Rattle.rt_nodes.specs.Queries.{Gives, piece_outcome, routed_by}
 use Rattle.rt_nodes.specs.declared.server_node.ServerNode.{ServerNode}
 use Rattle.rt_play.proofs.Leading.{leads_then}
-use Rattle.rt_play.proofs.Misses.{gave_none}
-use Rattle.rt_play.specs.Causes.{Happened, IsCaused, MissesForCause, WasMissed, WasPlanned, WasRefused, WasUnrouted}
+use Rattle.rt_play.proofs.Misses.{told_refusal}
+use Rattle.rt_play.specs.Causes.{Happened, IsCaused, MissesForCause, RefusesBy, WasMissed, WasPlanned, WasRefused, WasUnrouted}
 use Rattle.rt_safety.proofs.Answering.{answers_right}
 use Rattle.rt_safety.proofs.Later.{leads_on, runs_are_safe}
 use Rattle.rt_safety.proofs.Produced.{quiet_leaves}
@@ -115,7 +114,7 @@ module _ (setup : Setup) (turns : List Turn) (w : State) (turn : Turn) (v : Stat
     refused =
         λ y has refusal.
         let h = k.refused y has refusal in
-        record { earlier = h.earlier; outcome = h.outcome; asked = happened_more _ _ h.earlier h.asked; told_so = h.told_so; refuses = h.refuses };
+        record { earlier = h.earlier; outcome = h.outcome; asked = happened_more _ _ h.earlier h.asked; node = h.node; there = h.there; refuses = h.refuses };
   }
 
   route_more : (q n : ℕ) (route : Route) → IsRouteAt setup turns w q n route → IsRouteAt setup more v q n route
@@ -157,12 +156,6 @@ fails_by nodes fault met none = not_failed (subst (λ (f : Fault). answer_under 
   where
     not_failed : listed nodes ≡ Err store_refused.Failed → ⊥
     not_failed e = cc
-
--- what was refused is told
-told_refusal : (what : PieceGot) → IsRefusal what → (piece_outcome what ≡ told.NodeDown) ⊎ (piece_outcome what ≡ told.NotServed)
-told_refusal (got.Served served) refusal = absurd refusal
-told_refusal got.NotServed refusal = inr refl
-told_refusal got.Down refusal = inl refl
 
 abbrev sequence_of : ℕ → Sequence
 sequence_of n = record { 0 = n }
@@ -321,8 +314,9 @@ module _ (setup : Setup) (turns : List Turn) (w : State) (o : Outcome) (v : Stat
           earlier = w;
           outcome = o;
           asked = subst (λ (z : Event). Happened setup asked_turns v z o w) own (happened (event.Piece q p s i) t);
-          told_so = subst (λ (z : Outcome). (z ≡ told.NodeDown) ⊎ (z ≡ told.NotServed)) (sym is) (told_refusal what refusal);
-          refuses = record { node = n; there = stands; why = gave_none n piece a.query what n.up refl gives refusal };
+          node = n;
+          there = stands;
+          refuses = subst (λ (z : Outcome). RefusesBy z n piece) (sym is) (told_refusal n piece a.query what n.up refl gives refusal);
         }
 
     piece_is : (piece : Piece) (n : ServerNode) (b : Asking) (what : PieceGot) → slice_get w.servers i.0 ≡ Some n → piece_at a p s ≡ Some piece

@@ -1,6 +1,6 @@
 -- What the answer of a `query` line misses, each of the partition's servers refuses in the world of the line; and what a view misses none of
 -- them gives.
-use Rattle.std.proofs.Common.{◌≡◌, ◌⊎◌, inl, inr, ℕ, Bool, true, false, List, [], ◌∷◌, map, Option, Some, None, Ok, Err, refl, sym, ◌∙◌, ap, subst, slice_get}
+use Rattle.std.proofs.Common.{◌≡◌, ◌⊎◌, inl, inr, ℕ, Bool, true, false, List, [], ◌∷◌, map, Option, Some, None, Ok, Err, refl, sym, ◌∙◌, ap, subst, slice_get, ⊎_elim}
 use Rattle.std.specs.Prelude.{option_and_then, option_map, unwrap_or}
 use Rattle.std.proofs.lemmas.Option.{none-some, same_Some}
 use Rattle.rt_assign.specs.Placement.{replicas_of}
@@ -29,10 +29,11 @@ use Rattle.rt_model.specs.declared.answer.Answer.{Answer}
 use Rattle.rt_model.specs.declared.piece.Piece.{Piece}
 use Rattle.rt_model.specs.declared.query.Query.{Query}
 use Rattle.rt_model.specs.declared.setup.Setup.{Setup}
-use Rattle.rt_nodes.specs.Queries.{GivesIf}
+use Rattle.rt_nodes.specs.Queries.{Gives, GivesIf, piece_outcome}
 use Rattle.rt_nodes.specs.declared.server_node.ServerNode.{ServerNode}
 use Rattle.rt_play.proofs.Gathered.{GivesIn, IsRouteOf}
 use Rattle.rt_play.proofs.QueryLines.{IsFound, query_answer}
+use Rattle.rt_play.specs.Causes.{RefusesBy}
 use Rattle.rt_play.specs.Missed.{IsMissedIn, MissesSo, RefusesIn}
 use Rattle.rt_server.specs.Serving.{serve}
 use Rattle.rt_state.specs.IsSafeWorld.{IsSafeWorld}
@@ -43,13 +44,17 @@ use Rattle.rt_views.specs.declared.found.Found.{Found}
 
 -- ---- an answer
 
--- what a server gave for a piece is a refusal
-pub gave_none : (n : ServerNode) (piece : Piece) (query : Query) (what : PieceGot) (up : Bool) → n.up ≡ up → GivesIf up n piece query what → IsRefusal what
+-- what a server gave for a piece is a refusal, and is told as one
+pub told_refusal : (n : ServerNode) (piece : Piece) (query : Query) (what : PieceGot) (up : Bool) → n.up ≡ up → GivesIf up n piece query what → IsRefusal what
+    → RefusesBy (piece_outcome what) n piece
+told_refusal n piece query what false e gives refusal = inl (ap piece_outcome gives, e)
+told_refusal n piece query (got.Served served) true e gives refusal = absurd refusal
+told_refusal n piece query got.NotServed true e gives refusal = inr (refl, gives)
+told_refusal n piece query got.Down true e gives refusal = absurd gives
+
+gave_none : (n : ServerNode) (piece : Piece) (query : Query) (what : PieceGot) → Gives n piece query what → IsRefusal what
     → (n.up ≡ false) ⊎ ((reached : Option Offset) × (serve n.server.table piece ≡ Err (NotServed reached)))
-gave_none n piece query what false e gives refusal = inl e
-gave_none n piece query (got.Served served) true e gives refusal = absurd refusal
-gave_none n piece query got.NotServed true e gives refusal = inr gives
-gave_none n piece query got.Down true e gives refusal = absurd gives
+gave_none n piece query what gives refusal = ⊎_elim (λ down. inl down.1) (λ none. inr none.1) (told_refusal n piece query what n.up refl gives refusal)
 
 refuses : (w : State) (query : Query) (x : PieceAsked) (i : Instance) → AreKnownAnswers (GivesIn w query) x.piece x.answers → RefusedBy x.answers i → RefusesIn w i x.piece
 refuses w query x i given (y, has, from, refusal) =
@@ -57,7 +62,7 @@ refuses w query x i given (y, has, from, refusal) =
     record {
       node = g.node;
       there = subst (λ (j : Instance). slice_get w.servers j.0 ≡ Some g.node) from g.there;
-      why = gave_none g.node x.piece query y.got g.node.up refl g.gives refusal;
+      why = gave_none g.node x.piece query y.got g.gives refusal;
     }
 
 module _ (w v : State) (answer : Answer) (f : IsFound w v answer) (p : Partition) (s : Sequence) where

@@ -1,12 +1,13 @@
 -- Every safe world is right, every run keeps what it had, and what its answers miss has its cause.
 use Rattle.std.proofs.Common.{◌≡◌, List, Some, slice_get}
+use Rattle.std.proofs.lemmas.List.Elements.{All-weaker}
 use Rattle.rt_base.specs.declared.numbers.Instance.{Instance}
 use Rattle.rt_model.specs.Setup.{IsSetup}
 use Rattle.rt_model.specs.declared.setup.Setup.{Setup}
 use Rattle.rt_macros.specs.Doing.{Reached}
 use Rattle.rt_nodes.specs.declared.server_node.ServerNode.{ServerNode}
 use Rattle.rt_play.proofs.Causes.{run_misses}
-use Rattle.rt_play.specs.Headline.{IsRight, IsRightPast, IsRightServer, Keeps, RunsRightly}
+use Rattle.rt_play.specs.Headline.{HasItsPlan, IsRight, IsRightPast, IsRightServer, Keeps, RunsRightly}
 use Rattle.rt_safety.proofs.Answering.{answers_right}
 use Rattle.rt_safety.proofs.CommitOpens.{commit_opens}
 use Rattle.rt_safety.proofs.CommitRuns.{commit_runs}
@@ -16,7 +17,9 @@ use Rattle.rt_safety.specs.Runs.{Turn, Leads, Runs}
 use Rattle.rt_state.proofs.NeedsServers.{finds_its_file}
 use Rattle.rt_state.specs.IsSafeWorld.{IsSafeWorld}
 use Rattle.rt_state.specs.declared.state.State.{State}
-use Rattle.rt_views.proofs.RightViews.{hybrid_right, latest_right}
+use Rattle.rt_views.proofs.RightViews.{hybrid_right, latest_right, views_each_have_plans, views_whole_have_plans}
+use Rattle.rt_views.specs.Streamed.{IsViewOf}
+use Rattle.rt_views.specs.Views.{views_each, views_whole}
 
 past_is_right : (w : State) → IsSafeWorld w → IsRightPast w
 past_is_right w safe = record {
@@ -45,6 +48,8 @@ world_is_right w safe = record {
   answers = λ q answer next steps. answers_right w next q answer safe steps;
   latest = λ config query. latest_right w config query safe;
   hybrid = λ table query same. hybrid_right w table query safe same;
+  whole = All-weaker (IsViewOf w) (HasItsPlan w) (λ v k. k.pieces) (views_whole w) (views_whole_have_plans w safe);
+  each = All-weaker (IsViewOf w) (HasItsPlan w) (λ v k. k.pieces) (views_each w) (views_each_have_plans w safe);
   opens = λ m c q node path place g next outcome asks at timely steps. commit_opens w m c q node path place g next outcome safe asks at timely steps;
   ends = λ c n a end left turns x r opened. commit_runs c n a end left w turns x r safe opened;
 }

@@ -1,12 +1,14 @@
 -- Why an answer of a run misses something: what came of its query in earlier turns. No two queries of a run have one number, so that events
 -- with the answer's number are of this very query.
-use Rattle.std.specs.Prelude.{◌≡◌, ◌⊎◌, ℕ, List, ◌∷◌, ◌++◌, Option, Some, None, Ok}
+use Rattle.std.specs.Prelude.{◌≡◌, ◌⊎◌, ℕ, false, List, ◌∷◌, ◌++◌, Option, Some, None, Ok, Err, slice_get}
 use Rattle.rt_assign.specs.Placement.{replicas_of}
 use Rattle.rt_base.specs.Faults.{fault_of}
 use Rattle.rt_base.specs.declared.fault.Fault.TheVariants.{Nothing}
 use Rattle.rt_base.specs.declared.numbers.Instance.{Instance}
+use Rattle.rt_base.specs.declared.numbers.Offset.{Offset}
 use Rattle.rt_base.specs.declared.numbers.Partition.{Partition}
 use Rattle.rt_base.specs.declared.numbers.Sequence.{Sequence}
+use Rattle.rt_entry.specs.declared.refused.ServeRefused.TheVariants.{NotServed}
 use Rattle.rt_events.specs.declared.event.Event.{Event}
 use Rattle.rt_events.specs.declared.event.Event.TheVariants as event
 use Rattle.rt_events.specs.declared.outcome.Outcome.{Outcome}
@@ -17,8 +19,9 @@ use Rattle.rt_model.specs.Plan.{plan_of}
 use Rattle.rt_model.specs.declared.answer.Answer.{Answer}
 use Rattle.rt_model.specs.declared.piece.Piece.{Piece}
 use Rattle.rt_model.specs.declared.setup.Setup.{Setup}
-use Rattle.rt_play.specs.Missed.{RefusesIn}
+use Rattle.rt_nodes.specs.declared.server_node.ServerNode.{ServerNode}
 use Rattle.rt_safety.specs.Runs.{Leads, Runs, Turn, happens}
+use Rattle.rt_server.specs.Serving.{serve}
 use Rattle.rt_state.specs.declared.state.State.{State}
 use Rattle.rt_world.specs.Step.{Steps}
 
@@ -37,13 +40,20 @@ pub record WasPlanned (setup : Setup) (turns : List Turn) (w : State) (q : ℕ) 
   pub routed : Happened setup turns w (event.Route q p) (told.Routed count) earlier
   pub planned : Has (plan_of p (metadata_of earlier.store.writes p)) piece
 
--- the query asked the server for the piece in an earlier world, and the server was down there, or didn't serve it
+-- by what was told of it a server was down, or served none of the piece
+abbrev pub RefusesBy : Outcome → ServerNode → Piece → Type 0
+RefusesBy outcome node piece =
+    ((outcome ≡ told.NodeDown) × (node.up ≡ false))
+    ⊎ ((outcome ≡ told.NotServed) × ((reached : Option Offset) × (serve node.server.table piece ≡ Err (NotServed reached))))
+
+-- the query asked the server for the piece in an earlier world, and the server was down there, or didn't serve it, as was told of that turn
 pub record WasRefused (setup : Setup) (turns : List Turn) (w : State) (q : ℕ) (p : Partition) (piece : Piece) (i : Instance) : Type 0 where
   pub earlier : State
   pub outcome : Outcome
   pub asked : Happened setup turns w (event.Piece q p piece.sequence i) outcome earlier
-  pub told_so : (outcome ≡ told.NodeDown) ⊎ (outcome ≡ told.NotServed)
-  pub refuses : RefusesIn earlier i piece
+  pub node : ServerNode
+  pub there : slice_get earlier.servers i.0 ≡ Some node
+  pub refuses : RefusesBy outcome node piece
 
 -- a piece of the query's plan, for which it asked each of the partition's servers, none of which gave it
 pub record WasMissed (setup : Setup) (turns : List Turn) (w : State) (q : ℕ) (p : Partition) (s : Sequence) : Type 0 where

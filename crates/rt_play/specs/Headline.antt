@@ -1,5 +1,5 @@
 -- What the report of every script comes with: the run of its lines, in which every world is right.
-use Rattle.std.specs.Prelude.{◌≡◌, ℕ, ◌<◌, ◌≤◌, List, [], ◌++◌, length, map, IfSome, Some, Result, Ok, Err, slice_get}
+use Rattle.std.specs.Prelude.{◌≡◌, ℕ, ◌<◌, ◌≤◌, List, [], ◌++◌, All, length, map, IfSome, Some, Result, Ok, Err, slice_get}
 use Rattle.rt_base.specs.declared.numbers.ControllerId.{ControllerId}
 use Rattle.rt_base.specs.declared.numbers.Instance.{Instance}
 use Rattle.rt_base.specs.declared.numbers.Offset.{Offset}
@@ -25,6 +25,8 @@ use Rattle.rt_lists.specs.Members.{Has}
 use Rattle.rt_macros.specs.Doing.{Reached, reached}
 use Rattle.rt_model.specs.Chain.{IsChain}
 use Rattle.rt_model.specs.Messages.{asked_of}
+use Rattle.rt_model.specs.Metadata.{metadata_of}
+use Rattle.rt_model.specs.Plan.{plan_of}
 use Rattle.rt_model.specs.Tiled.{IsTiled}
 use Rattle.rt_model.specs.declared.answer.Answer.{Answer}
 use Rattle.rt_model.specs.declared.asked.Asked.{Asked}
@@ -71,6 +73,7 @@ use Rattle.rt_upconf.specs.declared.upsert_config.UpsertConfig.{UpsertConfig}
 use Rattle.rt_views.specs.Answers.{hybrid_answer, latest_answer}
 use Rattle.rt_views.specs.Streamed.{IsLatestAnswer}
 use Rattle.rt_views.specs.Views.{routed_of, views_each, views_whole}
+use Rattle.rt_views.specs.declared.view.View.{View}
 use Rattle.rt_world.specs.Step.{Steps}
 
 -- ---- a world
@@ -101,6 +104,10 @@ pub record IsRightServer (w : State) (i : Instance) (n : ServerNode) : Type 0 wh
       → AreRightRows w.setup.schema (messages_of w.log piece.partition) piece served
   pub downloads : (p : Partition) (q : Sequence) → FindsItsFile w.deep n.server p q
 
+-- a view has each piece of its partition's plan over the metadata list that the store has
+abbrev pub HasItsPlan : State → View → Type 0
+HasItsPlan w v = map (λ f. f.piece) v.found ≡ plan_of v.partition (metadata_of w.store.writes v.partition)
+
 -- what is right of a world
 pub record IsRight (w : State) : Type 0 where
   pub past : IsRightPast w
@@ -111,6 +118,9 @@ pub record IsRight (w : State) : Type 0 where
   pub latest : (config : UpsertConfig) (query : Query) → IsLatestAnswer w.setup.schema config w.log query (map routed_of (views_whole w)) (latest_answer w config query)
   pub hybrid : (table : OfflineTable) (query : Query) → table.schema ≡ w.setup.schema
       → IsHybridAnswer table w.log query (map routed_of (views_each w)) (hybrid_answer w table query)
+  -- these look at each piece of the plans, where the partition's pieces come from one server, and where each comes from any
+  pub whole : All (HasItsPlan w) (views_whole w)
+  pub each : All (HasItsPlan w) (views_each w)
   -- a COMMIT_END in time opens its commit job
   pub opens : (m : ℕ) (c : ControllerId) (q : Request) (node : ControllerNode) (path : List ℕ) (place : ℕ) (g : SegmentMachine) (next : State) (outcome : Outcome)
       → request_at w m ≡ Some q → slice_get w.controllers c.0 ≡ Some node → IsTimely node.controller q w.moment path place g

@@ -26,7 +26,7 @@ mod words;
 pub use laws::a_script_is_a_run;
 pub use missing::{
     a_query_line_misses_what_no_server_serves, a_view_misses_what_no_server_serves,
-    an_answer_misses_what_was_refused,
+    an_answer_misses_only_what_was_refused,
 };
 pub use one_report::a_script_has_one_report;
 pub use pausing::a_script_is_paused_from_pause_to_resume;

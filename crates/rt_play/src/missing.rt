@@ -28,9 +28,9 @@ pub fn a_query_line_misses_what_no_server_serves()
 
 /// An answer of a run, of an `answer` line or of a `query` line, misses nothing without its cause in the turns before it. Where a piece is
 /// missing, each of the partition's servers was asked for it for this query, and was down in the world in which it was asked, or didn't serve
-/// it; and the piece is one of the plan with which the query's partition was routed. Where a partition is missing whole, it was to be routed for
+/// it, as was told of that turn; and the piece is one of the plan with which the query's partition was routed. Where a partition is missing whole, it was to be routed for
 /// this query, and the store failed, as was planned.
-pub fn an_answer_misses_what_was_refused()
+pub fn an_answer_misses_only_what_was_refused()
     ensures { (setup : Setup) (turns : List Turn) (w : State) → IsSetup setup → Runs setup turns w → MissesForCause setup turns w }
 {}
 

@@ -40,7 +40,7 @@ pub fn play<S: Source, K: Sink>(
     ensures plays { asked_of (map (λ word. word.now) words.now) ≡ Some Asked.Script → PlaysInput (S.meaning source.old) (S.meaning source.new) (K.meaning sink.old) (K.meaning sink.new) result }
 
     // The report comes with the run of its lines, up to the end of that at which it stops: every world on the way is right, and keeps what
-    // those before it had, and no answer misses anything without its cause in the turns before it.
+    // those before it had, and no answer of an `answer` event misses anything without its cause in the turns before it.
     ensures headline { asked_of (map (λ word. word.now) words.now) ≡ Some Asked.Script → PlaysRightly (S.meaning source.old) (S.meaning source.new) (K.meaning sink.old) (K.meaning sink.new) result }
 
     // Where the source tells what is left and no count rises, the answer is one of the script's own, or want of memory.
