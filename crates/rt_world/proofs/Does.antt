@@ -1,29 +1,25 @@
--- A server's own step, with a call of a store or without one, keeps a world safe.
+-- A server's own step, with a look at the stream, with a call of a store or without one, keeps a world safe.
 use Rattle.std.proofs.Common.{◌≡◌, ℕ, Ok, Option, Some, None, refl, sym, ap, subst, arith, slice_get}
 use Rattle.std.specs.Prelude.{slice_set}
 use Rattle.rt_base.specs.declared.numbers.Instance.{Instance}
 use Rattle.rt_deep.specs.Meaning.{Told as ToldDeep}
-use Rattle.rt_events.specs.declared.outcome.Outcome.{Outcome}
-use Rattle.rt_past.specs.Past.{Past, with_history}
+use Rattle.rt_past.specs.Past.{with_history}
 use Rattle.rt_store.specs.Meaning.{Told}
+use Rattle.rt_stream.specs.Log.{Log}
 use Rattle.rt_state.specs.Applying.{Next}
-use Rattle.rt_state.specs.IsSafe.{IsServerAt, HasDrawn, IsSafeOver, past_of}
+use Rattle.rt_state.specs.IsSafe.{IsSafeOver, past_of}
 use Rattle.rt_state.specs.IsSafeWorld.{IsFewOver, IsSafeWorld}
-use Rattle.rt_state.specs.Nodes.{ServerStep, ServerDoesAt, ServerDoes, ServerCallsAt, ServerCalls, ServerGetsAt, ServerGets}
+use Rattle.rt_state.specs.Nodes.{ServerStep, ServerDoesAt, ServerDoes, ServerFetchesAt, ServerFetches, ServerCallsAt, ServerCalls, ServerGetsAt, ServerGets}
 use Rattle.rt_state.specs.Room.{no_cost, priced, spent, counted}
 use Rattle.rt_state.specs.declared.cost.Cost.{Cost}
 use Rattle.rt_nodes.specs.declared.server_node.ServerNode.{ServerNode}
 use Rattle.rt_state.specs.declared.state.State.{State}
 use Rattle.rt_world.proofs.Few.{few_after, none_started}
 use Rattle.rt_world.proofs.KeepsClock.{free_keeps}
+use Rattle.rt_world.proofs.Owing.{IsServerOf, StepKeeps}
 use Rattle.rt_state.proofs.Possible.{HasRoom, priced_room}
 use Rattle.rt_world.proofs.Sets.{drawn_same, safe_grows, server_set}
-use Rattle.rt_world.proofs.Stores.{WritesOn}
-
--- a server that is right over a past, and has drawn the numbers of its requests there
-pub record IsServerOf (w : State) (a : Past) (i : ℕ) (n : ServerNode) : Type 0 where
-  pub at : IsServerAt w.setup a i n
-  pub drawn : HasDrawn a i n
+use Rattle.rt_world.specs.Way as way
 
 pub server_of : (w : State) (i : ℕ) (n : ServerNode) → IsSafeWorld w → slice_get w.servers i ≡ Some n → IsServerOf w (past_of w) i n
 server_of w i n s e = record { at = s.safe.servers i n e; drawn = s.safe.drawn i n e }
@@ -31,8 +27,7 @@ server_of w i n s e = record { at = s.safe.servers i n e; drawn = s.safe.drawn i
 -- ---- alone
 
 pub server_does_keeps : (w : State) (i : Instance) (does : ServerStep) (cost : Cost) (x : Next) → IsSafeWorld w → priced w no_cost ≡ Ok cost
-    → ((old new : ServerNode) (o : Outcome) → slice_get w.servers i.0 ≡ Some old → IsServerOf w (past_of w) i.0 old → does old new o → IsServerOf w (past_of w) i.0 new)
-    → ServerDoes w i does cost x → IsSafeWorld x.0
+    → StepKeeps w (way.alone i does) → ServerDoes w i does cost x → IsSafeWorld x.0
 server_does_keeps w i does cost x s possible keeps h = by_node (slice_get w.servers i.0) refl h
   where
     by_node : (n : Option ServerNode) → slice_get w.servers i.0 ≡ n → ServerDoesAt n w i does cost x → IsSafeWorld x.0
@@ -45,17 +40,29 @@ server_does_keeps w i does cost x s possible keeps h = by_node (slice_get w.serv
           few = free_keeps w cost s possible;
         })
 
+-- ---- with a look at the stream
+
+pub server_fetches_keeps : (w : State) (i : Instance) (does : Log → Log → ServerStep) (cost : Cost) (x : Next) → IsSafeWorld w → priced w no_cost ≡ Ok cost
+    → StepKeeps w (way.looks i does) → ServerFetches w i does cost x → IsSafeWorld x.0
+server_fetches_keeps w i does cost x s possible keeps h = by_node (slice_get w.servers i.0) refl h
+  where
+    by_node : (n : Option ServerNode) → slice_get w.servers i.0 ≡ n → ServerFetchesAt n w i does cost x → IsSafeWorld x.0
+    by_node None e h = absurd h
+    by_node (Some old) e (new, log, step, is) =
+        let a = past_of w in
+        let k = keeps old new log x.1 e (server_of w i.0 old s e) step in
+        let same : record a { log = log } ≡ a = ap (λ log. record a { log = log }) k.0 in
+        let safe = server_set w.setup a w.servers w.controllers w.queries i.0 new s.safe k.1.at k.1.drawn in
+        subst IsSafeWorld (sym is)
+        (record {
+          safe = subst (λ b. IsSafeOver w.setup b (slice_set w.servers i.0 new) w.controllers w.queries) (sym same) safe;
+          few = subst (λ b. IsFewOver w.setup b w.controllers w.queries (spent w.counts cost) w.moment) (sym same) (free_keeps w cost s possible);
+        })
+
 -- ---- with a call of the store
 
--- what such a step leaves
-pub record ServerWrites (w : State) (i : ℕ) (new : ServerNode) (store : Told) : Type 0 where
-  pub past : WritesOn w.setup (past_of w) store.writes
-  pub server : IsServerOf w (with_history (past_of w) store.writes) i new
-
 pub server_calls_keeps : (w : State) (i : Instance) (does : Told → Told → ServerStep) (cost : Cost) (x : Next) → IsSafeWorld w → priced w no_cost ≡ Ok cost
-    → ((old new : ServerNode) (store : Told) (o : Outcome) → slice_get w.servers i.0 ≡ Some old → IsServerOf w (past_of w) i.0 old → does w.store store old new o
-    → ServerWrites w i.0 new store)
-    → ServerCalls w i does cost x → IsSafeWorld x.0
+    → StepKeeps w (way.calls i does) → ServerCalls w i does cost x → IsSafeWorld x.0
 server_calls_keeps w i does cost x s possible keeps h = by_node (slice_get w.servers i.0) refl h
   where
     by_node : (n : Option ServerNode) → slice_get w.servers i.0 ≡ n → ServerCallsAt n w i does cost x → IsSafeWorld x.0
@@ -91,9 +98,7 @@ server_calls_keeps w i does cost x s possible keeps h = by_node (slice_get w.ser
 -- ---- with a look at a file
 
 pub server_gets_keeps : (w : State) (i : Instance) (does : ToldDeep → ToldDeep → ServerStep) (cost : Cost) (x : Next) → IsSafeWorld w → priced w no_cost ≡ Ok cost
-    → ((old new : ServerNode) (deep : ToldDeep) (o : Outcome) → slice_get w.servers i.0 ≡ Some old → IsServerOf w (past_of w) i.0 old → does w.deep deep old new o
-    → (deep.files ≡ w.deep.files) × IsServerOf w (past_of w) i.0 new)
-    → ServerGets w i does cost x → IsSafeWorld x.0
+    → StepKeeps w (way.gets i does) → ServerGets w i does cost x → IsSafeWorld x.0
 server_gets_keeps w i does cost x s possible keeps h = by_node (slice_get w.servers i.0) refl h
   where
     by_node : (n : Option ServerNode) → slice_get w.servers i.0 ≡ n → ServerGetsAt n w i does cost x → IsSafeWorld x.0

@@ -6,7 +6,7 @@ use Rattle.rt_controller.specs.Controller.{Controlling, believing}
 use Rattle.rt_controller.proofs.Lasts.{believes_over}
 use Rattle.rt_events.specs.declared.outcome.Outcome.{Outcome}
 use Rattle.rt_events.specs.declared.outcome.Outcome.TheVariants as told
-use Rattle.rt_state.specs.Applying.{Next, comes}
+use Rattle.rt_state.specs.Applying.{Next}
 use Rattle.rt_state.specs.Clock.{tick_due, ticked, node_believing, pass_due}
 use Rattle.rt_state.specs.IsSafe.{IsSafe, IsControllerAt, past_of}
 use Rattle.rt_state.specs.IsSafeWorld.{IsFew, IsSafeWorld}
@@ -16,8 +16,10 @@ use Rattle.rt_nodes.specs.declared.controller_node.ControllerNode.{ControllerNod
 use Rattle.rt_state.specs.declared.cost.Cost.{Cost}
 use Rattle.rt_state.specs.declared.state.State.{State}
 use Rattle.rt_world.proofs.Few.{GrowsFew, few_after, few_put, none_started}
+use Rattle.rt_world.proofs.Owing.{StepKeeps}
 use Rattle.rt_world.proofs.Places.{at_set}
 use Rattle.rt_state.proofs.Possible.{HasRoom, priced_room}
+use Rattle.rt_world.specs.Way as way
 
 -- an event that costs nothing, and leaves all but the counts
 pub counts_grow : (w : State) (cost : Cost) → IsFew w → no_cost ≡ cost → GrowsFew w (counted w cost) cost
@@ -45,12 +47,11 @@ free_keeps w cost s possible =
 pub passed_keeps : (w : State) (cost : Cost) → IsSafeWorld w → pass_due w ≡ Ok cost → IsSafeWorld (counted w cost)
 passed_keeps w cost s possible = record { safe = s.safe; few = free_keeps w cost s possible }
 
-pub tick_keeps : (w : State) (millis : ℕ) (cost : Cost) (x : Next) → IsSafeWorld w → tick_due w millis ≡ Ok cost → comes (ticked w millis cost) x → IsSafeWorld x.0
-tick_keeps w millis cost x s possible e =
+pub tick_keeps : (w : State) (millis : ℕ) (cost : Cost) → IsSafeWorld w → tick_due w millis ≡ Ok cost → IsSafeWorld (ticked w millis cost).0
+tick_keeps w millis cost s possible =
     let room = priced_room w (time_cost millis) cost possible in
     let f = s.few in
-    subst (λ (y : Next). IsSafeWorld y.0) (sym e)
-    (record {
+    record {
       safe = s.safe;
       few =
           few_after w (ticked w millis cost).0 cost (subst (HasRoom w) room.0 room.1)
@@ -69,13 +70,7 @@ tick_keeps w millis cost x s possible e =
             moment = omega (arith, ap (λ (c : Cost). c.millis) room.0);
           })
           f;
-    })
-
--- ---- no node steps
-
--- an event that comes to a safe world
-pub comes_safe : (y x : Next) → IsSafe y.0 → IsFew y.0 → comes y x → IsSafeWorld x.0
-comes_safe y x safe few e = subst (λ (z : Next). IsSafeWorld z.0) (sym e) (record { safe = safe; few = few })
+    }
 
 -- ---- a controller's own step that calls no store
 
@@ -94,24 +89,23 @@ controller_put w c n cost s k =
     }
 
 -- such a step keeps what lasts of each controller
-pub controller_does_keeps :
-    (w : State) (c : ControllerId) (does : ControllerNode → ControllerNode) (o : Outcome) (cost : Cost) (x : Next) → IsSafeWorld w → priced w no_cost ≡ Ok cost
-    → ((n : ControllerNode) → IsControllerAt w.setup (past_of w) c.0 n → IsControllerAt w.setup (past_of w) c.0 (does n))
-    → ((n : ControllerNode) → (does n).controller.started ≡ n.controller.started) → ControllerDoes w c does o cost x → IsSafeWorld x.0
-controller_does_keeps w c does o cost x s possible keeps same h = by_node (slice_get w.controllers c.0) refl h
+pub controller_does_keeps : (w : State) (c : ControllerId) (does : ControllerNode → ControllerNode) (o : Outcome) (cost : Cost) (x : Next) → IsSafeWorld w
+    → priced w no_cost ≡ Ok cost → StepKeeps w (way.turns c does o) → ControllerDoes w c does o cost x → IsSafeWorld x.0
+controller_does_keeps w c does o cost x s possible keeps h = by_node (slice_get w.controllers c.0) refl h
   where
     by_node : (n : Option ControllerNode) → slice_get w.controllers c.0 ≡ n → ControllerDoesAt n w c does o cost x → IsSafeWorld x.0
     by_node None e h = absurd h
     by_node (Some n) e h =
+        let k = keeps n (s.safe.controllers c.0 n e) in
         subst (λ (y : Next). IsSafeWorld y.0) (sym h)
-        (record { safe = controller_put w c (does n) cost s.safe (keeps n (s.safe.controllers c.0 n e)); few = few_put (counted w cost) c (does n) (free_keeps w cost s possible) (omega (arith, same n, s.few.started c.0 n e)) })
+        (record { safe = controller_put w c (does n) cost s.safe k.0; few = few_put (counted w cost) c (does n) (free_keeps w cost s possible) (omega (arith, k.1, s.few.started c.0 n e)) })
 
-pub lead_keeps : (w : State) (c : ControllerId) (on : Bool) (cost : Cost) (x : Next) → IsSafeWorld w → priced w no_cost ≡ Ok cost
-    → ControllerDoes w c (node_believing on) told.Noted cost x → IsSafeWorld x.0
-lead_keeps w c on cost x s room h =
-    controller_does_keeps w c (node_believing on) told.Noted cost x s room
-    (λ n k. record { over = believes_over w.setup (past_of w) n.controller on k.over; placed = believing_id n.controller on ∙ k.placed; partitions = k.partitions; upkeep = k.upkeep })
-    (λ n. believing_started n.controller on) h
+pub lead_keeps : (w : State) (c : ControllerId) (on : Bool) → StepKeeps w (way.turns c (node_believing on) told.Noted)
+lead_keeps w c on =
+    λ n k. (
+      record { over = believes_over w.setup (past_of w) n.controller on k.over; placed = believing_id n.controller on ∙ k.placed; partitions = k.partitions; upkeep = k.upkeep },
+      believing_started n.controller on,
+    )
   where
     believing_started : (a : Controlling) (b : Bool) → (believing a b).started ≡ a.started
     believing_started a true = refl

@@ -1,4 +1,4 @@
--- Crashes and restarts keep a world safe.
+-- What crashes and restarts keep.
 use Rattle.std.proofs.Common.{◌≡◌, ℕ, Bool, true, false, Result, Ok, Err, Some, None, refl, sym, ◌∙◌, ap, subst, slice_get, not}
 use Rattle.rt_base.specs.declared.numbers.ControllerId.{ControllerId}
 use Rattle.rt_base.specs.declared.numbers.Instance.{Instance}
@@ -20,20 +20,18 @@ use Rattle.rt_server.proofs.LastingNeeds.{restarts_drawn}
 use Rattle.rt_server.proofs.Stepped.{came}
 use Rattle.rt_store.specs.Meaning.{Meaning, Told}
 use Rattle.rt_store.specs.Memory.{means}
-use Rattle.rt_state.specs.Applying.{Next}
 use Rattle.rt_state.specs.Finding.{has_server, is_server_up, is_up}
 use Rattle.rt_state.specs.IsSafe.{past_of}
 use Rattle.rt_state.specs.IsSafeWorld.{IsSafeWorld}
 use Rattle.rt_state.specs.Lives.{node_crashed, NodeCrashes, controller_crashed, restart_server_due, NodeRestarts, controller_restarted}
-use Rattle.rt_state.specs.Nodes.{ControllerDoes, ServerCalls, ServerDoes}
 use Rattle.rt_state.specs.Room.{no_cost, priced}
 use Rattle.rt_state.specs.declared.cost.Cost.{Cost}
 use Rattle.rt_nodes.specs.declared.server_node.ServerNode.{ServerNode}
 use Rattle.rt_state.specs.declared.state.State.{State}
-use Rattle.rt_world.proofs.Does.{IsServerOf, server_does_keeps, ServerWrites, server_calls_keeps}
-use Rattle.rt_world.proofs.KeepsClock.{controller_does_keeps}
+use Rattle.rt_world.proofs.Owing.{IsServerOf, ServerWrites, StepKeeps}
 use Rattle.rt_state.proofs.Possible.{only_passed}
 use Rattle.rt_world.proofs.Stores.{wrote_told, writes_called}
+use Rattle.rt_world.specs.Way as way
 
 -- ---- crashes
 
@@ -44,28 +42,17 @@ node_crash_keeps w i n right k =
       drawn = k.drawn;
     }
 
-pub crash_server_keeps : (w : State) (i : Instance) (cost : Cost) (x : Next) → IsSafeWorld w → priced w no_cost ≡ Ok cost → ServerDoes w i NodeCrashes cost x
-    → IsSafeWorld x.0
-crash_server_keeps w i cost x s room h =
-    server_does_keeps w i NodeCrashes cost x s room
-    (λ old new o e k step. subst (IsServerOf w (past_of w) i.0) (sym step.0) (node_crash_keeps w i.0 old s.safe.past k))
-    h
+pub crash_server_keeps : (w : State) (i : Instance) → IsSafeWorld w → StepKeeps w (way.alone i NodeCrashes)
+crash_server_keeps w i s = λ old new o e k step. subst (IsServerOf w (past_of w) i.0) (sym step.0) (node_crash_keeps w i.0 old s.safe.past k)
 
-pub crash_controller_keeps : (w : State) (c : ControllerId) (cost : Cost) (x : Next) → IsSafeWorld w → priced w no_cost ≡ Ok cost
-    → ControllerDoes w c controller_crashed told.Down cost x → IsSafeWorld x.0
-crash_controller_keeps w c cost x s room h =
-    controller_does_keeps w c controller_crashed told.Down cost x s room
-    (λ n k. record { over = crashes_over w.setup (past_of w) n.controller k.over; placed = k.placed; partitions = k.partitions; upkeep = k.upkeep })
-    (λ n. refl) h
+pub crash_controller_keeps : (w : State) (c : ControllerId) → StepKeeps w (way.turns c controller_crashed told.Down)
+crash_controller_keeps w c =
+    λ n k. (record { over = crashes_over w.setup (past_of w) n.controller k.over; placed = k.placed; partitions = k.partitions; upkeep = k.upkeep }, refl)
 
 -- ---- restarts
 
-pub restart_controller_keeps : (w : State) (c : ControllerId) (cost : Cost) (x : Next) → IsSafeWorld w → priced w no_cost ≡ Ok cost
-    → ControllerDoes w c controller_restarted (told.Up None) cost x → IsSafeWorld x.0
-restart_controller_keeps w c cost x s room h =
-    controller_does_keeps w c controller_restarted (told.Up None) cost x s room
-    (λ n k. record { over = k.over; placed = k.placed; partitions = k.partitions; upkeep = k.upkeep })
-    (λ n. refl) h
+pub restart_controller_keeps : (w : State) (c : ControllerId) → StepKeeps w (way.turns c controller_restarted (told.Up None))
+restart_controller_keeps w c = λ n k. (record { over = k.over; placed = k.placed; partitions = k.partitions; upkeep = k.upkeep }, refl)
 
 -- a server that restarts is the same instance, and holds what it held
 record IsSameAs (old new : ServerState) : Type 0 where
@@ -114,10 +101,8 @@ node_restart_keeps w i old new store o s there down k (answer, restarts, told, u
           };
     }
 
-pub restart_server_keeps : (w : State) (i : Instance) (cost : Cost) (x : Next) → IsSafeWorld w → restart_server_due w i ≡ Ok cost → ServerCalls w i NodeRestarts cost x → IsSafeWorld x.0
-restart_server_keeps w i cost x s possible h =
-    let there = only_passed (has_server w i) NoSuchNode _ cost possible in
+pub restart_server_keeps : (w : State) (i : Instance) (cost : Cost) → IsSafeWorld w → restart_server_due w i ≡ Ok cost → StepKeeps w (way.calls i NodeRestarts)
+restart_server_keeps w i cost s due =
+    let there = only_passed (has_server w i) NoSuchNode _ cost due in
     let down = only_passed (not (is_server_up w i)) NothingToDo (priced w no_cost) cost there.1 in
-    server_calls_keeps w i NodeRestarts cost x s down.1
-    (λ old new store o e k step. node_restart_keeps w i old new store o s e down.0 k step)
-    h
+    λ old new store o e k step. node_restart_keeps w i old new store o s e down.0 k step

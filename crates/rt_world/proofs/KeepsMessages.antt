@@ -36,7 +36,8 @@ use Rattle.rt_nodes.specs.declared.controller_node.ControllerNode.{ControllerNod
 use Rattle.rt_state.specs.declared.cost.Cost.{Cost}
 use Rattle.rt_nodes.specs.declared.server_node.ServerNode.{ServerNode}
 use Rattle.rt_state.specs.declared.state.State.{State}
-use Rattle.rt_world.proofs.Does.{IsServerOf, server_does_keeps}
+use Rattle.rt_world.proofs.Does.{server_does_keeps}
+use Rattle.rt_world.proofs.Owing.{IsServerOf}
 use Rattle.rt_state.proofs.Bounds.{few_writes}
 use Rattle.rt_world.proofs.JobCounts.{handles_started}
 use Rattle.rt_world.proofs.Few.{GrowsFew, few_after, one_started}

@@ -22,7 +22,7 @@ use Rattle.rt_lists.proofs.Members.{front_same}
 use Rattle.rt_past.specs.Past.{with_history}
 use Rattle.rt_store.specs.Meaning.{Meaning, Told}
 use Rattle.rt_store.specs.Memory.{means}
-use Rattle.rt_state.specs.Applying.{Next, comes}
+use Rattle.rt_state.specs.Applying.{Next}
 use Rattle.rt_state.specs.Finding.{query_in, query_at}
 use Rattle.rt_state.specs.IsSafe.{IsQueryAsked, IsSafeOver, IsSafe, past_of}
 use Rattle.rt_state.specs.IsSafeWorld.{open_in, IsFewOver, IsFew, IsSafeWorld}
@@ -59,14 +59,12 @@ asked_there w q a s e = s.queries q (Some a) (query_there w q a e)
 
 -- ---- ask
 
-pub ask_keeps : (w : State) (query : Query) (cost : Cost) (x : Next) → IsSafeWorld w → IsQuery w.setup.schema query → priced w query_cost ≡ Ok cost → comes (asked w query cost) x
-    → IsSafeWorld x.0
-ask_keeps w query cost x s checked possible e =
+pub ask_keeps : (w : State) (query : Query) (cost : Cost) → IsSafeWorld w → IsQuery w.setup.schema query → priced w query_cost ≡ Ok cost → IsSafeWorld (asked w query cost).0
+ask_keeps w query cost s checked possible =
     let room = priced_room w query_cost cost possible in
     let a : Option Asking = Some (asking query w.setup) in
     let costs : 1 ≡ cost.queries = ap (λ (c : Cost). c.queries) room.0 in
-    subst (λ (y : Next). IsSafeWorld y.0) (sym e)
-    (record {
+    record {
       safe =
           query_added w.setup (past_of w) w.servers w.controllers w.queries a s.safe
           (record { query = checked; over = asked_begins w.setup (past_of w) query });
@@ -87,7 +85,7 @@ ask_keeps w query cost x s checked possible e =
             moment = omega arith;
           })
           s.few;
-    })
+    }
 
 -- ---- what is noted of a query
 

@@ -16,11 +16,12 @@ use Rattle.rt_state.proofs.Bounds.{few_sent}
 use Rattle.rt_state.proofs.Dues.{replica_due_is, server_there}
 use Rattle.rt_world.proofs.Few.{few_after, none_started}
 use Rattle.rt_world.proofs.KeepsServers.{not_down, up_there}
+use Rattle.rt_world.proofs.Owing.{StepKeeps}
 use Rattle.rt_world.proofs.Places.{at_set}
 use Rattle.rt_state.proofs.Possible.{HasRoom, priced_room, then_passed}
 use Rattle.rt_world.proofs.Topics.{controllers_grow, queries_grow, servers_grow}
 use Rattle.rt_state.specs.Applying.{Next}
-use Rattle.rt_state.specs.Finding.{find_server, is_server_up, replica_at}
+use Rattle.rt_state.specs.Finding.{find_server, replica_at}
 use Rattle.rt_state.specs.IsSafe.{HasDrawn, IsSafe, IsServerAt, past_of}
 use Rattle.rt_state.specs.IsSafeWorld.{IsSafeWorld}
 use Rattle.rt_state.specs.Nodes.{with_server}
@@ -30,6 +31,7 @@ use Rattle.rt_state.specs.Room.{counted, priced, upload_cost}
 use Rattle.rt_state.specs.declared.cost.Cost.{Cost}
 use Rattle.rt_nodes.specs.declared.server_node.ServerNode.{ServerNode}
 use Rattle.rt_state.specs.declared.state.State.{State}
+use Rattle.rt_world.specs.Way as way
 
 -- ---- one item is put, and all others have something else
 
@@ -112,37 +114,39 @@ sent_keeps w i n request cost bytes s possible safe =
           f;
     }
 
+pub server_sends_keeps : (w : State) (i : Instance) (asks : AskStep) (cost : Cost) (x : Next) (bytes : ℕ) → IsSafeWorld w → priced w (upload_cost bytes) ≡ Ok cost
+    → StepKeeps w (way.sends i asks) → SendsRequest w i asks cost x → IsSafeWorld x.0
+server_sends_keeps w i asks cost x bytes s possible keeps h = by_node (slice_get w.servers i.0) refl h
+  where
+    by_node : (n : Option ServerNode) → slice_get w.servers i.0 ≡ n → SendsAt n w i asks cost x → IsSafeWorld x.0
+    by_node None found h = absurd h
+    by_node (Some old) found (new, request, does, is) =
+        let k = keeps old new request found does in
+        subst (λ (y : Next). IsSafeWorld y.0) (sym is)
+        (sent_keeps w i new request cost bytes s possible (asked_safe w i k.2 k.3 old new request s.safe found k.0 k.1 k.4 cost))
+
 -- ---- report and extend
 
-module _ (w : State) (i : Instance) (p : Partition) (q : Sequence) (cost : Cost) (x : Next) (s : IsSafeWorld w) where
-  sends_keep : (asks : AskStep) (bytes : ℕ) → is_server_up w i ≡ true → priced w (upload_cost bytes) ≡ Ok cost
-      → ((n new : ServerNode) (request : Request) → slice_get w.servers i.0 ≡ Some n → asks n new request
-      → (new.up ≡ n.up) × SendsRight w.setup (past_of w) n.server new.server p q request)
-      → (o : Option ServerNode) → slice_get w.servers i.0 ≡ o → SendsAt o w i asks cost x → IsSafeWorld x.0
-  sends_keep asks bytes up possible right None found h = absurd h
-  sends_keep asks bytes up possible right (Some n) found (new, request, does, e) =
-      let r = right n new request found does in
-      subst (λ (y : Next). IsSafeWorld y.0) (sym e)
-      (sent_keeps w i new request cost bytes s possible
-      (asked_safe w i p q n new request s.safe found (up_there w i n up found) r.0 r.1 cost))
-
-  pub report_keeps : (bytes : ℕ) → report_due w i p q ≡ Ok cost → priced w (upload_cost bytes) ≡ Ok cost → SendsRequest w i (NodeAsks p q) cost x → IsSafeWorld x.0
-  report_keeps bytes due room h =
+module _ (w : State) (i : Instance) (p : Partition) (q : Sequence) (cost : Cost) (s : IsSafeWorld w) where
+  pub report_keeps : report_due w i p q ≡ Ok cost → StepKeeps w (way.sends i (NodeAsks p q))
+  report_keeps due =
       let there = then_passed (find_server w i p) (report_by w (replica_at w i p q)) cost due in
-      sends_keep (NodeAsks p q) bytes (server_there w i p there.0).up room
-      (λ n new request found does. (
+      λ old new request found does. (
+        up_there w i old (server_there w i p there.0).up found,
         does.2,
-        asks_right w.setup (past_of w) n.server new.server p q request s.safe.past (s.safe.servers i.0 n found).over (s.safe.drawn i.0 n found) (few_sent w s) does.1 does.0,
-      ))
-      (slice_get w.servers i.0) refl h
+        p,
+        q,
+        asks_right w.setup (past_of w) old.server new.server p q request s.safe.past (s.safe.servers i.0 old found).over (s.safe.drawn i.0 old found) (few_sent w s) does.1 does.0,
+      )
 
-  pub extend_keeps : (millis : ℕ) → extend_due w i p q ≡ Ok cost → SendsRequest w i (NodeAsksFor p q millis) cost x → IsSafeWorld x.0
-  extend_keeps millis due h =
+  pub extend_keeps : (millis : ℕ) → extend_due w i p q ≡ Ok cost → StepKeeps w (way.sends i (NodeAsksFor p q millis))
+  extend_keeps millis due =
       let d = replica_due_is w i p q extends_now cost due in
-      sends_keep (NodeAsksFor p q millis) 0 d.there.up d.priced
-      (λ n new request found does. (
+      λ old new request found does. (
+        up_there w i old d.there.up found,
         does.2,
-        asks_for_right w.setup (past_of w) n.server new.server p q request s.safe.past (s.safe.servers i.0 n found).over (s.safe.drawn i.0 n found) (few_sent w s) does.1 millis
-            does.0,
-      ))
-      (slice_get w.servers i.0) refl h
+        p,
+        q,
+        asks_for_right w.setup (past_of w) old.server new.server p q request s.safe.past (s.safe.servers i.0 old found).over (s.safe.drawn i.0 old found) (few_sent w s) does.1
+            millis does.0,
+      )

@@ -1,11 +1,9 @@
--- A server that looks at the stream, at a store or at a file, and a replica's own step, keep a world safe.
-use Rattle.std.proofs.Common.{◌≡◌, ℕ, Bool, true, false, slice_get, Option, Some, None, Ok, refl, sym, ap, subst, ◌∙◌}
-use Rattle.std.specs.Prelude.{slice_set}
+-- What the step of a server keeps that looks at the stream, at a store or at a file, and a replica's own.
+use Rattle.std.proofs.Common.{◌≡◌, ℕ, Bool, true, false, slice_get, Some, Ok, refl, sym, ap, subst, ◌∙◌}
 use Rattle.rt_base.specs.declared.numbers.Instance.{Instance}
 use Rattle.rt_base.specs.declared.numbers.Partition.{Partition}
 use Rattle.rt_base.specs.declared.numbers.Sequence.{Sequence}
 use Rattle.rt_deep.specs.Memory.{means as deep_means}
-use Rattle.rt_events.specs.declared.outcome.Outcome.{Outcome}
 use Rattle.rt_events.specs.declared.refusal.Refusal.TheVariants.{NoSuchNode, NodeDown, NothingToDo}
 use Rattle.rt_msgs.specs.Numbered.{Numbered}
 use Rattle.rt_past.specs.IsPast.{IsPast}
@@ -17,26 +15,22 @@ use Rattle.rt_server.proofs.LastingEntries.{Keeps}
 use Rattle.rt_store.specs.Meaning.{Told}
 use Rattle.rt_store.specs.Memory.{means}
 use Rattle.rt_stream.specs.Feed.{log_meaning}
-use Rattle.rt_stream.specs.Log.{Log}
-use Rattle.rt_state.specs.Applying.{Next}
 use Rattle.rt_state.specs.Finding.{find_server, has_server, is_server_up, is_up}
-use Rattle.rt_state.specs.IsSafe.{IsSafeOver, past_of}
-use Rattle.rt_state.specs.IsSafeWorld.{IsFewOver, IsSafeWorld}
-use Rattle.rt_state.specs.Nodes.{ServerFetches, ServerFetchesAt, ServerStep}
-use Rattle.rt_state.specs.Replicas.{Builds, Consumes, Forces, NodeBuilds, NodeConsumes, NodeForces, NodeStops, Stops, build_due, builds_now, consume_due, force_due, forces_now, stop_due, stops_now, takes_now}
-use Rattle.rt_state.specs.Room.{no_cost, only_if, priced, spent}
-use Rattle.rt_state.specs.Servers.{Loads, Moves, NodeLoads, NodeMoves, NodeSees, Sees, download_due, moves_at, see_due, transit_due, wants_at}
+use Rattle.rt_state.specs.IsSafe.{past_of}
+use Rattle.rt_state.specs.IsSafeWorld.{IsSafeWorld}
+use Rattle.rt_state.specs.Replicas.{NodeBuilds, NodeConsumes, NodeForces, NodeStops, build_due, builds_now, consume_due, force_due, forces_now, stop_due, stops_now, takes_now}
+use Rattle.rt_state.specs.Room.{no_cost, only_if, priced}
+use Rattle.rt_state.specs.Servers.{NodeLoads, NodeMoves, NodeSees, download_due, moves_at, see_due, transit_due, wants_at}
 use Rattle.rt_state.specs.declared.cost.Cost.{Cost}
 use Rattle.rt_nodes.proofs.Looks.{downloads_looks, sees_looks, takes_looks, transits_looks, unput, unwritten}
 use Rattle.rt_nodes.specs.declared.server_node.ServerNode.{ServerNode}
 use Rattle.rt_state.specs.declared.state.State.{State}
-use Rattle.rt_world.proofs.Does.{IsServerOf, ServerWrites, server_calls_keeps, server_does_keeps, server_gets_keeps, server_of}
 use Rattle.rt_state.proofs.Dues.{replica_due_is, server_there}
-use Rattle.rt_world.proofs.KeepsClock.{free_keeps}
+use Rattle.rt_world.proofs.Owing.{IsServerOf, ServerWrites, StepKeeps}
 use Rattle.rt_state.proofs.Possible.{only_passed, then_passed}
-use Rattle.rt_world.proofs.Sets.{server_set}
 use Rattle.rt_world.proofs.Stores.{writes_same}
 use Rattle.rt_world.proofs.Topics.{server_at_grows}
+use Rattle.rt_world.specs.Way as way
 
 -- ---- the server that took the step
 
@@ -60,68 +54,39 @@ stays_at w a i old new k up stays numbers over =
 pub up_there : (w : State) (i : Instance) (n : ServerNode) → is_server_up w i ≡ true → slice_get w.servers i.0 ≡ Some n → n.up ≡ true
 up_there w i n up found = subst (λ o. is_up o ≡ true) found up
 
--- ---- with a look at the stream
-
-server_fetches_keeps : (w : State) (i : Instance) (does : Log → Log → ServerStep) (cost : Cost) (x : Next) → IsSafeWorld w → priced w no_cost ≡ Ok cost
-    → ((old new : ServerNode) (log : Log) (o : Outcome) → slice_get w.servers i.0 ≡ Some old → IsServerOf w (past_of w) i.0 old → does w.log log old new o
-    → (log ≡ w.log) × IsServerOf w (past_of w) i.0 new)
-    → ServerFetches w i does cost x → IsSafeWorld x.0
-server_fetches_keeps w i does cost x s possible keeps h = by_node (slice_get w.servers i.0) refl h
-  where
-    by_node : (n : Option ServerNode) → slice_get w.servers i.0 ≡ n → ServerFetchesAt n w i does cost x → IsSafeWorld x.0
-    by_node None e h = absurd h
-    by_node (Some old) e (new, log, step, is) =
-        let a = past_of w in
-        let k = keeps old new log x.1 e (server_of w i.0 old s e) step in
-        let same : record a { log = log } ≡ a = ap (λ log. record a { log = log }) k.0 in
-        let safe = server_set w.setup a w.servers w.controllers w.queries i.0 new s.safe k.1.at k.1.drawn in
-        subst IsSafeWorld (sym is)
-        (record {
-          safe = subst (λ b. IsSafeOver w.setup b (slice_set w.servers i.0 new) w.controllers w.queries) (sym same) safe;
-          few = subst (λ b. IsFewOver w.setup b w.controllers w.queries (spent w.counts cost) w.moment) (sym same) (free_keeps w cost s possible);
-        })
-
 -- ---- replicas
 
-module _ (w : State) (i : Instance) (p : Partition) (q : Sequence) (cost : Cost) (x : Next) (s : IsSafeWorld w) where
-  pub consume_keeps : (max : ℕ) → consume_due w i p q max ≡ Ok cost → Consumes w i p q max cost x → IsSafeWorld x.0
-  consume_keeps max due h =
+module _ (w : State) (i : Instance) (p : Partition) (q : Sequence) (cost : Cost) (s : IsSafeWorld w) where
+  pub consume_keeps : (max : ℕ) → consume_due w i p q max ≡ Ok cost → StepKeeps w (way.looks i (NodeConsumes p q max w.moment))
+  consume_keeps max due =
       let d = replica_due_is w i p q (takes_now max) cost due in
-      server_fetches_keeps w i (NodeConsumes p q max w.moment) cost x s d.priced
-      (λ old new log o e k step.
+      λ old new log o e k step.
       let same = takes_looks w.log log old.server.table new.server.table p q max w.moment (Ok tt) step.0 in (
         same,
         stays_at w (past_of w) i.0 old new k (up_there w i old d.there.up e) step.2 step.1.1
             (takes_over w.setup (past_of w) s.safe.past old.server k.at.over new.server step.1 p q (Ok tt) (log_meaning w.log) (log_meaning log) max w.moment (sym same) step.0),
-      ))
-      h
+      )
 
-  pub force_keeps : force_due w i p q ≡ Ok cost → Forces w i p q cost x → IsSafeWorld x.0
-  force_keeps due h =
+  pub force_keeps : force_due w i p q ≡ Ok cost → StepKeeps w (way.alone i (NodeForces p q))
+  force_keeps due =
       let d = replica_due_is w i p q forces_now cost due in
-      server_does_keeps w i (NodeForces p q) cost x s d.priced
-      (λ old new o e k step.
+      λ old new o e k step.
       stays_at w (past_of w) i.0 old new k (up_there w i old d.there.up e) step.2 step.1.1
-      (forces_over w.setup (past_of w) s.safe.past old.server k.at.over new.server step.1 p q (Ok tt) step.0))
-      h
+      (forces_over w.setup (past_of w) s.safe.past old.server k.at.over new.server step.1 p q (Ok tt) step.0)
 
-  pub stop_keeps : stop_due w i p q ≡ Ok cost → Stops w i p q cost x → IsSafeWorld x.0
-  stop_keeps due h =
+  pub stop_keeps : stop_due w i p q ≡ Ok cost → StepKeeps w (way.alone i (NodeStops p q))
+  stop_keeps due =
       let d = replica_due_is w i p q stops_now cost due in
-      server_does_keeps w i (NodeStops p q) cost x s d.priced
-      (λ old new o e k step.
+      λ old new o e k step.
       stays_at w (past_of w) i.0 old new k (up_there w i old d.there.up e) step.2 step.1.1
-      (stops_over w.setup (past_of w) s.safe.past old.server k.at.over new.server step.1 p q (Ok tt) step.0))
-      h
+      (stops_over w.setup (past_of w) s.safe.past old.server k.at.over new.server step.1 p q (Ok tt) step.0)
 
-  pub build_keeps : build_due w i p q ≡ Ok cost → Builds w i p q cost x → IsSafeWorld x.0
-  build_keeps due h =
+  pub build_keeps : build_due w i p q ≡ Ok cost → StepKeeps w (way.alone i (NodeBuilds p q))
+  build_keeps due =
       let d = replica_due_is w i p q builds_now cost due in
-      server_does_keeps w i (NodeBuilds p q) cost x s d.priced
-      (λ old new o e k step.
+      λ old new o e k step.
       stays_at w (past_of w) i.0 old new k (up_there w i old d.there.up e) step.2 step.1.1
-      (seals_over w.setup (past_of w) s.safe.past old.server k.at.over new.server step.1 p q (Ok tt) step.0))
-      h
+      (seals_over w.setup (past_of w) s.safe.past old.server k.at.over new.server step.1 p q (Ok tt) step.0)
 
 -- ---- servers
 
@@ -142,38 +107,30 @@ looks_on w i old new store s same k up stays keeps =
       server = stays_at w b i old new (record { at = at; drawn = k.drawn }) up stays kept.1 kept.0;
     }
 
-module _ (w : State) (i : Instance) (cost : Cost) (x : Next) (s : IsSafeWorld w) where
-  pub see_keeps : see_due w i ≡ Ok cost → Sees w i cost x → IsSafeWorld x.0
-  see_keeps due h =
+module _ (w : State) (i : Instance) (cost : Cost) (s : IsSafeWorld w) where
+  pub see_keeps : see_due w i ≡ Ok cost → StepKeeps w (way.calls i NodeSees)
+  see_keeps due =
       let there = only_passed (has_server w i) NoSuchNode (only_if (is_server_up w i) NodeDown (priced w no_cost)) cost due in
       let up = only_passed (is_server_up w i) NodeDown (priced w no_cost) cost there.1 in
-      server_calls_keeps w i NodeSees cost x s up.1
-      (λ old new store o e k step.
+      λ old new store o e k step.
       looks_on w i.0 old new store s (unwritten w.store store (sees_looks w.store store old.server new.server step.0 step.1)) k (up_there w i old up.0 e) step.3
-      (λ over right. sees_keep w.setup (with_history (past_of w) store.writes) right old.server over (means w.store) (means store) new.server refl step.0 step.1))
-      h
+      (λ over right. sees_keep w.setup (with_history (past_of w) store.writes) right old.server over (means w.store) (means store) new.server refl step.0 step.1)
 
-  pub transit_keeps : (p : Partition) (q : Sequence) → transit_due w i p q ≡ Ok cost → Moves w i p q cost x → IsSafeWorld x.0
-  transit_keeps p q due h =
+  pub transit_keeps : (p : Partition) (q : Sequence) → transit_due w i p q ≡ Ok cost → StepKeeps w (way.calls i (NodeMoves p q w.moment))
+  transit_keeps p q due =
       let there = then_passed (find_server w i p) (only_if (moves_at w i p q) NothingToDo (priced w no_cost)) cost due in
-      let moves = only_passed (moves_at w i p q) NothingToDo (priced w no_cost) cost there.1 in
-      server_calls_keeps w i (NodeMoves p q w.moment) cost x s moves.1
-      (λ old new store o e k step.
+      λ old new store o e k step.
       looks_on w i.0 old new store s (unwritten w.store store (transits_looks w.store store old.server new.server p q w.moment step.0 step.1)) k
       (up_there w i old (server_there w i p there.0).up e) step.3
       (λ over right.
-      transits_keep w.setup (with_history (past_of w) store.writes) right old.server over (means w.store) (means store) new.server refl p q w.moment step.0 step.1))
-      h
+      transits_keep w.setup (with_history (past_of w) store.writes) right old.server over (means w.store) (means store) new.server refl p q w.moment step.0 step.1)
 
-  pub download_keeps : (p : Partition) (q : Sequence) → download_due w i p q ≡ Ok cost → Loads w i p q cost x → IsSafeWorld x.0
-  download_keeps p q due h =
+  pub download_keeps : (p : Partition) (q : Sequence) → download_due w i p q ≡ Ok cost → StepKeeps w (way.gets i (NodeLoads p q))
+  download_keeps p q due =
       let there = then_passed (find_server w i p) (only_if (wants_at w i p q) NothingToDo (priced w no_cost)) cost due in
-      let wants = only_passed (wants_at w i p q) NothingToDo (priced w no_cost) cost there.1 in
-      server_gets_keeps w i (NodeLoads p q) cost x s wants.1
-      (λ old new deep o e k step.
+      λ old new deep o e k step.
       let same = unput w.deep deep (downloads_looks w.deep deep old.server.setup.schema old.server.table new.server.table p q step.0 step.1) in (
         same,
         stays_at w (past_of w) i.0 old new k (up_there w i old (server_there w i p there.0).up e) step.4 step.2.1
             (downloads_over w.setup (past_of w) s.safe.past old.server k.at.over (deep_means w.deep) (deep_means deep) new.server p q (sym same) step.0 step.1 step.2),
-      ))
-      h
+      )

@@ -14,6 +14,7 @@ pub mod KeepsRepairs
 pub mod KeepsRequests
 pub mod KeepsServers
 pub mod KeepsStream
+pub mod Owing
 pub mod Places
 pub mod Producing
 pub mod Refusing
