@@ -23,6 +23,7 @@ use Rattle.rt_nodes.specs.declared.chore.Chore.{Chore}
 use Rattle.rt_nodes.specs.declared.controller_node.ControllerNode.{ControllerNode}
 use Rattle.rt_nodes.specs.declared.server_node.ServerNode.{ServerNode}
 use Rattle.rt_nodes.specs.declared.upkeep.Upkeep.{Upkeep}
+use Rattle.rt_safety.proofs.Ways.{leaving, Leaving}
 use Rattle.rt_safety.specs.Runs.{happens, passes, Turn, TurnsTo}
 use Rattle.rt_state.specs.Applying.{Next}
 use Rattle.rt_state.specs.Finding.{query_at, reply_at, request_at}
@@ -188,9 +189,6 @@ module _ (w : State) where
       by_query None h = absurd h
       by_query (Some a) (answer, right, is) = same_servers x.0 (ap (λ (z : Next). z.0.servers) is)
 
-  outside_came : (x y : Next) → x ≡ y → y.0.servers ≡ w.servers → ServersCame x.0
-  outside_came x y is e = same_servers x.0 (ap (λ (z : Next). z.0.servers) is ∙ e)
-
   -- ---- steps in which no server does what is its own
 
   abbrev IsOfOthers : Way → Type 0
@@ -199,19 +197,19 @@ module _ (w : State) where
   IsOfOthers (way.calls i does) = ⊥
   IsOfOthers (way.gets i does) = ⊥
   IsOfOthers (way.sends i does) = ⊥
-  IsOfOthers (way.outside next) = ⊥
   IsOfOthers other = Unit {0}
 
-  others_came : (y : Way) (cost : Cost) (x : Next) → IsOfOthers y → Goes w y cost x → ServersCame x.0
-  others_came (way.takes m) cost x of h = takes_came m cost x h
-  others_came (way.turns c does outcome) cost x of h = turns_came c does outcome cost x h
-  others_came (way.handles m c) cost x of h = handles_came m c cost x h
-  others_came (way.works c j) cost x of h = works_came c j cost x h
-  others_came (way.keeps c p chore) cost x of h = chores_came c p chore cost x h
-  others_came (way.routes q p) cost x of h = routes_came q p cost x h
-  others_came (way.serves q p t i) cost x of h = serves_came q p t i cost x h
-  others_came (way.closes q) cost x of h = closes_came q cost x h
-  others_came y cost x of h = absurd of
+  others_came : (y : Way) (cost : Cost) (x : Next) → IsOfOthers y → Leaving w cost y → Goes w y cost x → ServersCame x.0
+  others_came (way.takes m) cost x of left h = takes_came m cost x h
+  others_came (way.turns c does outcome) cost x of left h = turns_came c does outcome cost x h
+  others_came (way.handles m c) cost x of left h = handles_came m c cost x h
+  others_came (way.works c j) cost x of left h = works_came c j cost x h
+  others_came (way.keeps c p chore) cost x of left h = chores_came c p chore cost x h
+  others_came (way.routes q p) cost x of left h = routes_came q p cost x h
+  others_came (way.serves q p t i) cost x of left h = serves_came q p t i cost x h
+  others_came (way.closes q) cost x of left h = closes_came q cost x h
+  others_came (way.outside next) cost x of left h = same_servers x.0 (ap (λ (z : Next). z.0.servers) h ∙ left.servers)
+  others_came y cost x of left h = absurd of
 
   -- ---- an event
 
@@ -252,14 +250,7 @@ module _ (w : State) where
       gets_came i cost (v, o) _
       (λ deep old new step.
       downloads_came w.sent w.log (deep_means w.deep) (deep_means deep) old.server.setup.schema old.server.table new.server.table p q step.0 step.1) h
-  event_came (event.Produce p message) v o (cost, due, h) = outside_came (v, o) _ h refl
-  event_came (event.Tick millis) v o (cost, due, h) = outside_came (v, o) _ h refl
-  event_came (event.FaultStore kept) v o (cost, due, h) = outside_came (v, o) _ h refl
-  event_came (event.FaultDeep kept) v o (cost, due, h) = outside_came (v, o) _ h refl
-  event_came (event.Ask query) v o (cost, due, h) = outside_came (v, o) _ h refl
-  event_came (event.ShowMeta p q) v o (cost, due, h) = outside_came (v, o) _ h refl
-  event_came event.ShowIdeal v o (cost, due, h) = outside_came (v, o) _ h refl
-  event_came e v o (cost, due, h) = others_came (way_of w e) cost (v, o) tt h
+  event_came e v o (cost, due, h) = others_came (way_of w e) cost (v, o) tt (leaving w e cost due) h
 
   pub turn_came : (turn : Turn) (v : State) → TurnsTo w turn v → ServersCame v
   turn_came (happens e o) v (fits, steps) = event_came e v o steps

@@ -22,6 +22,7 @@ use Rattle.rt_nodes.specs.declared.chore.Chore.{Chore}
 use Rattle.rt_nodes.specs.declared.controller_node.ControllerNode.{ControllerNode}
 use Rattle.rt_nodes.specs.declared.server_node.ServerNode.{ServerNode}
 use Rattle.rt_nodes.specs.declared.upkeep.Upkeep.{Upkeep}
+use Rattle.rt_safety.proofs.Ways.{leaving, Leaving}
 use Rattle.rt_server.proofs.EachEntry.{add_each}
 use Rattle.rt_server.specs.Fresh.{first_replica, first_segments, first_sequence, is_assigned, with_first}
 use Rattle.rt_server.specs.Kept.{IsServer}
@@ -84,12 +85,9 @@ Keeps w (way.looks i does) = (log : Log) (o : Outcome) → KeepsFew (λ old new.
 Keeps w (way.calls i does) = (store : Told) (o : Outcome) → KeepsFew (λ old new. does w.store store old new o)
 Keeps w (way.gets i does) = (deep : ToldDeep) (o : Outcome) → KeepsFew (λ old new. does w.deep deep old new o)
 Keeps w (way.sends i asks) = (request : Request) → KeepsFew (λ old new. asks old new request)
-Keeps w (way.outside next) = (cost : Cost) → (next cost).0.servers ≡ w.servers
 Keeps w other = Unit {0}
 
 keeps : (w : State) (e : Event) → Keeps w (way_of w e)
-keeps w (event.Produce p message) = λ cost. refl
-keeps w (event.Tick millis) = λ cost. refl
 keeps w (event.Consume i p q max) =
     λ log o old new is few step.
     takes_few old.server.setup old.server.table new.server.table p q is few (log_meaning w.log) (log_meaning log) max w.moment (Ok tt) step.0
@@ -110,11 +108,6 @@ keeps w (event.Transit i p q) =
 keeps w (event.Download i p q) =
     λ deep o old new is few step.
     downloads_few (deep_means w.deep) (deep_means deep) old.server.setup.schema old.server.table new.server.table p q step.0 few step.1
-keeps w (event.FaultStore kept) = λ cost. refl
-keeps w (event.FaultDeep kept) = λ cost. refl
-keeps w (event.Ask query) = λ cost. refl
-keeps w (event.ShowMeta p q) = λ cost. refl
-keeps w event.ShowIdeal = λ cost. refl
 keeps w e = tt
 
 -- ---- where a way leads
@@ -243,21 +236,21 @@ module _ (w : State) (s : IsSafeWorld w) (few : HaveFewRows w) where
       by None h = absurd h
       by (Some a) (answer, of, is) = stays_next x _ is refl
 
-  goes_few : (y : Way) (cost : Cost) (x : Next) → Keeps w y → Goes w y cost x → HaveFewRows x.0
-  goes_few (way.alone i does) cost x k h = does_few i does cost x k h
-  goes_few (way.looks i does) cost x k h = looks_few i does cost x k h
-  goes_few (way.calls i does) cost x k h = calls_few i does cost x k h
-  goes_few (way.gets i does) cost x k h = gets_few i does cost x k h
-  goes_few (way.sends i asks) cost x k h = sends_few i asks cost x k h
-  goes_few (way.takes m) cost x k h = taken_few m cost x h
-  goes_few (way.turns c does outcome) cost x k h = turns_few c does outcome cost x h
-  goes_few (way.handles m c) cost x k h = handles_few m c cost x h
-  goes_few (way.works c j) cost x k h = works_few c j cost x h
-  goes_few (way.keeps c p chore) cost x k h = chores_few c p chore cost x h
-  goes_few (way.routes q p) cost x k h = routes_few q p cost x h
-  goes_few (way.serves q p t i) cost x k h = serves_few q p t i cost x h
-  goes_few (way.closes q) cost x k h = closes_few q cost x h
-  goes_few (way.outside next) cost x k h = stays_next x (next cost) h (k cost)
+  goes_few : (y : Way) (cost : Cost) (x : Next) → Keeps w y → Leaving w cost y → Goes w y cost x → HaveFewRows x.0
+  goes_few (way.alone i does) cost x k left h = does_few i does cost x k h
+  goes_few (way.looks i does) cost x k left h = looks_few i does cost x k h
+  goes_few (way.calls i does) cost x k left h = calls_few i does cost x k h
+  goes_few (way.gets i does) cost x k left h = gets_few i does cost x k h
+  goes_few (way.sends i asks) cost x k left h = sends_few i asks cost x k h
+  goes_few (way.takes m) cost x k left h = taken_few m cost x h
+  goes_few (way.turns c does outcome) cost x k left h = turns_few c does outcome cost x h
+  goes_few (way.handles m c) cost x k left h = handles_few m c cost x h
+  goes_few (way.works c j) cost x k left h = works_few c j cost x h
+  goes_few (way.keeps c p chore) cost x k left h = chores_few c p chore cost x h
+  goes_few (way.routes q p) cost x k left h = routes_few q p cost x h
+  goes_few (way.serves q p t i) cost x k left h = serves_few q p t i cost x h
+  goes_few (way.closes q) cost x k left h = closes_few q cost x h
+  goes_few (way.outside next) cost x k left h = stays_next x (next cost) h left.servers
 
   pub steps_few : (e : Event) (v : State) (o : Outcome) → Steps w e v (Ok o) → HaveFewRows v
-  steps_few e v o (cost, due, h) = goes_few (way_of w e) cost (v, o) (keeps w e) h
+  steps_few e v o (cost, due, h) = goes_few (way_of w e) cost (v, o) (keeps w e) (leaving w e cost due) h

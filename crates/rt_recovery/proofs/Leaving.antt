@@ -118,7 +118,7 @@ use Rattle.rt_recovery.specs.Retiring.{IsLeft, IsOld, LeavesOldOnes}
 use Rattle.rt_recovery.proofs.Entered.{commit_entered, offline_entered, Entered}
 use Rattle.rt_recovery.proofs.Retired.{number, retire_writes_for, HasRetired}
 use Rattle.rt_recovery.proofs.Stepping.{repair_writes_for, HasWritten}
-use Rattle.rt_recovery.proofs.Written.{event_moves, goes_moment}
+use Rattle.rt_recovery.proofs.Written.{event_goes_on}
 
 -- ---- a committed segment without entries is the lowest, and another one follows it
 
@@ -607,7 +607,7 @@ turn_leaves w turn new safe all t = λ p within l left.
     by_turn : (turn : Turn) → TurnsTo w turn new → IsSafeWorld new → new.setup ≡ w.setup
         → (w.moment.0 ≤ new.moment.0) × KeepsOrOld w.setup w.moment w.store.writes new.store.writes
     by_turn (happens e o) (fits, (cost, due, h)) after setup = (
-      goes_moment w (new, o) (way_of w e) cost (event_moves w e) h,
+      (event_goes_on w e new o (cost, due, h)).moment,
       goes_kept w (new, o) safe (subst (λ (x : Setup). IsLawfulHistory (starting_of x) new.store.writes) setup after.safe.past.lawful) (way_of w e) cost
           (is_free w e cost due) (leaving w e cost due) h,
     )

@@ -1,5 +1,5 @@
 -- In each world of a run no segment's node was written later than now: what writes one writes it with its own moment.
-use Rattle.std.proofs.Common.{◌≡◌, ◌⊎◌, inl, inr, ℕ, zero, suc, ◌≤◌, Bool, List, [], ◌∷◌, ◌++◌, Option, Some, None, refl, sym, ◌∙◌, ap, subst, arith, length, slice_get}
+use Rattle.std.proofs.Common.{◌≡◌, ◌⊎◌, inl, inr, ℕ, zero, suc, ◌≤◌, Bool, List, [], ◌∷◌, ◌++◌, Option, Some, None, Ok, refl, sym, ◌∙◌, ap, subst, arith, length, slice_get}
 use Rattle.std.proofs.lemmas.Bool.{cond_both}
 use Rattle.rt_base.specs.declared.numbers.ControllerId.{ControllerId}
 use Rattle.rt_base.specs.declared.numbers.Instance.{Instance}
@@ -7,7 +7,6 @@ use Rattle.rt_base.specs.declared.numbers.Moment.{Moment}
 use Rattle.rt_base.specs.declared.numbers.Partition.{Partition}
 use Rattle.rt_base.specs.declared.numbers.Sequence.{Sequence}
 use Rattle.rt_base.specs.declared.numbers.Offset.{Offset}
-use Rattle.rt_broker.specs.Asking.{piece_at, Asking}
 use Rattle.rt_commit.specs.Assignment.{Assigned}
 use Rattle.rt_commit.specs.Calls.{calls_nothing, creates, gets, puts, reads, sets, Call}
 use Rattle.rt_commit.specs.Job.{call_at}
@@ -23,7 +22,6 @@ use Rattle.rt_controller.specs.Working.{job_place, work_call, work_call_at, work
 use Rattle.rt_controller.specs.declared.handled.Handled.{Handled}
 use Rattle.rt_controller.specs.declared.handled.Handled.TheVariants as handled
 use Rattle.rt_events.specs.declared.event.Event.{Event}
-use Rattle.rt_events.specs.declared.event.Event.TheVariants as event
 use Rattle.rt_events.specs.declared.outcome.Outcome.{Outcome}
 use Rattle.rt_lists.proofs.Members.{Has-append_cases, Has-push_cases}
 use Rattle.rt_lists.specs.Members.{Has}
@@ -38,7 +36,6 @@ use Rattle.rt_model.specs.declared.job_step.JobStep.{JobStep}
 use Rattle.rt_model.specs.declared.node.Node.{Node}
 use Rattle.rt_model.specs.declared.node.Node.TheVariants as node
 use Rattle.rt_model.specs.declared.node.Seen.{Seen}
-use Rattle.rt_model.specs.declared.piece.Piece.{Piece}
 use Rattle.rt_model.specs.declared.reply.Reply.{Reply}
 use Rattle.rt_model.specs.declared.request.Request.{Request}
 use Rattle.rt_model.specs.declared.seg_meta.SegMeta.{SegMeta}
@@ -47,7 +44,6 @@ use Rattle.rt_nodes.specs.Repairs.{begun, retiring, UpkeepSteps}
 use Rattle.rt_nodes.specs.declared.chore.Chore.{Chore}
 use Rattle.rt_nodes.specs.declared.chore.Chore.TheVariants.{Repair, Retire}
 use Rattle.rt_nodes.specs.declared.controller_node.ControllerNode.{ControllerNode}
-use Rattle.rt_nodes.specs.declared.server_node.ServerNode.{ServerNode}
 use Rattle.rt_nodes.specs.declared.upkeep.Upkeep.{Upkeep}
 use Rattle.rt_repair.proofs.Setting.{repair_leaves, retire_leaves}
 use Rattle.rt_repair.proofs.Telling.{told_repair, told_retire}
@@ -67,13 +63,11 @@ use Rattle.rt_safety.proofs.Spares.{spares, Spares}
 use Rattle.rt_safety.proofs.Ways.{is_free, leaving, IsFree, Leaving}
 use Rattle.rt_safety.specs.Runs.{happens, passes, Leads, Runs, Turn, TurnsTo}
 use Rattle.rt_state.specs.Applying.{Next}
-use Rattle.rt_state.specs.Finding.{query_at, reply_at, request_at}
+use Rattle.rt_state.specs.Finding.{request_at}
 use Rattle.rt_state.specs.Jobs.{noted_set, stepped_by, JobSteps, JobStepsAt}
-use Rattle.rt_state.specs.Messages.{after_step, handed, node_took, Delivers, DeliversAt, RepliesAt}
-use Rattle.rt_state.specs.Nodes.{ControllerDoes, ControllerDoesAt, ServerCallsAt, ServerDoesAt, ServerFetchesAt, ServerGetsAt}
-use Rattle.rt_state.specs.Queries.{AnswersAt, PiecesAt, PiecesOf, RoutesAt}
+use Rattle.rt_state.specs.Messages.{after_step, handed, Delivers, DeliversAt}
+use Rattle.rt_state.specs.Nodes.{ControllerDoes, ControllerDoesAt}
 use Rattle.rt_state.specs.Repairs.{after_upkeep, upkeep_at, Keeps, KeepsAt}
-use Rattle.rt_state.specs.Requests.{SendsAt}
 use Rattle.rt_state.specs.Start.{start}
 use Rattle.rt_state.specs.declared.cost.Cost.{Cost}
 use Rattle.rt_state.specs.declared.state.State.{State}
@@ -82,7 +76,7 @@ use Rattle.rt_store.specs.Answers.{after_call, Leaves}
 use Rattle.rt_store.specs.Calls.{told_on}
 use Rattle.rt_store.specs.Contents.{starting_of}
 use Rattle.rt_store.specs.Meaning.{Told}
-use Rattle.rt_world.specs.Step.{way_of}
+use Rattle.rt_world.specs.Step.{way_of, Steps}
 use Rattle.rt_world.specs.Way.{Goes, Way}
 use Rattle.rt_world.specs.Way as way
 use Rattle.rt_heal.proofs.TurnedRuns.{stepped_writes}
@@ -232,15 +226,10 @@ module _ (t : Told) (now : Moment) where
 
 -- ---- the clock never goes back
 
--- what no node does
-abbrev pub MovesOn : State → Way → Type 0
-MovesOn w (way.outside next) = (cost : Cost) → w.moment.0 ≤ (next cost).0.moment.0
-MovesOn w other = Unit {0}
-
 -- an event goes on in time, and writes so
-record GoesOn (w v : State) : Type 0 where
-  moment : w.moment.0 ≤ v.moment.0
-  wrote : HasWritten w.moment w.store.writes v.store.writes
+pub record GoesOn (w v : State) : Type 0 where
+  pub moment : w.moment.0 ≤ v.moment.0
+  pub wrote : HasWritten w.moment w.store.writes v.store.writes
 
 module _ (w : State) (x : Next) where
   same_moment : x.0.moment ≡ w.moment → w.moment.0 ≤ x.0.moment.0
@@ -254,8 +243,8 @@ module _ (w : State) (x : Next) where
   stepped_moment z cost step None is = ap (λ (n : Next). n.0.moment) is
   stepped_moment z cost step (Some y) is = ap (λ (n : Next). n.0.moment) is
 
-  spared : (cost : Cost) → w.moment.0 ≤ x.0.moment.0 → Spares w cost x.0 → GoesOn w x.0
-  spared cost moment k = record { moment = moment; wrote = by_written k.written }
+  spared : (cost : Cost) → Spares w cost x.0 → GoesOn w x.0
+  spared cost k = record { moment = k.moment; wrote = by_written k.written }
     where
       by_written : (x.0.store.writes ≡ w.store.writes) ⊎ ((j : Instance) × Leaves (bump j) w.store.writes x.0.store.writes) → HasWritten w.moment w.store.writes x.0.store.writes
       by_written (inl same) = inl same
@@ -338,84 +327,15 @@ module _ (w : State) (x : Next) where
 
   -- ---- an event
 
-  pub goes_moment : (y : Way) (cost : Cost) → MovesOn w y → Goes w y cost x → w.moment.0 ≤ x.0.moment.0
-  goes_moment (way.alone i does) cost k h = by_node (slice_get w.servers i.0) h
-    where
-      by_node : (n : Option ServerNode) → ServerDoesAt n w i does cost x → w.moment.0 ≤ x.0.moment.0
-      by_node None h = absurd h
-      by_node (Some old) (new, step, is) = same_moment (ap (λ (z : State). z.moment) is)
-  goes_moment (way.looks i does) cost k h = by_node (slice_get w.servers i.0) h
-    where
-      by_node : (n : Option ServerNode) → ServerFetchesAt n w i does cost x → w.moment.0 ≤ x.0.moment.0
-      by_node None h = absurd h
-      by_node (Some old) (new, log, step, is) = same_moment (ap (λ (z : State). z.moment) is)
-  goes_moment (way.calls i does) cost k h = by_node (slice_get w.servers i.0) h
-    where
-      by_node : (n : Option ServerNode) → ServerCallsAt n w i does cost x → w.moment.0 ≤ x.0.moment.0
-      by_node None h = absurd h
-      by_node (Some old) (new, store, step, is) = same_moment (ap (λ (z : State). z.moment) is)
-  goes_moment (way.gets i does) cost k h = by_node (slice_get w.servers i.0) h
-    where
-      by_node : (n : Option ServerNode) → ServerGetsAt n w i does cost x → w.moment.0 ≤ x.0.moment.0
-      by_node None h = absurd h
-      by_node (Some old) (new, deep, step, is) = same_moment (ap (λ (z : State). z.moment) is)
-  goes_moment (way.sends i asks) cost k h = by_node (slice_get w.servers i.0) h
-    where
-      by_node : (n : Option ServerNode) → SendsAt n w i asks cost x → w.moment.0 ≤ x.0.moment.0
-      by_node None h = absurd h
-      by_node (Some old) (new, request, step, is) = same_moment (ap (λ (z : Next). z.0.moment) is)
-  goes_moment (way.takes m) cost k h = by_found (reply_at w m) h
-    where
-      by_node : (r : Reply) (n : Option ServerNode) → ServerDoesAt n w r.number.instance (λ old new outcome. (outcome, new) ≡ node_took old r) cost x
-          → w.moment.0 ≤ x.0.moment.0
-      by_node r None h = absurd h
-      by_node r (Some old) (new, step, is) = same_moment (ap (λ (z : State). z.moment) is)
+  goes_so : (y : Way) (cost : Cost) → IsFree cost y → Leaving w cost y → Goes w y cost x → GoesOn w x.0
+  goes_so (way.turns c does told) cost free left h = turns_on c does told cost h
+  goes_so (way.handles m c) cost free left h = handles_on m c cost h
+  goes_so (way.works c j) cost free left h = works_on c j cost h
+  goes_so (way.keeps c p chore) cost free left h = keeps_on c p chore cost h
+  goes_so y cost free left h = spared cost (spares w cost x y tt free left h)
 
-      by_found : (o : Option Reply) → RepliesAt o w cost x → w.moment.0 ≤ x.0.moment.0
-      by_found None h = absurd h
-      by_found (Some r) h = by_node r (slice_get w.servers r.number.instance.0) h
-  goes_moment (way.routes q p) cost k h = by_query (query_at w q) h
-    where
-      by_query : (o : Option Asking) → RoutesAt o w q p cost x → w.moment.0 ≤ x.0.moment.0
-      by_query None h = absurd h
-      by_query (Some a) (new, store, answer, routes, told, is) = same_moment (ap (λ (z : State). z.moment) is)
-  goes_moment (way.serves q p t i) cost k h = by_query (query_at w q) h
-    where
-      by_piece : (a : Asking) (o : Option Piece) (n : Option ServerNode) → PiecesOf o n a w q i cost x → w.moment.0 ≤ x.0.moment.0
-      by_piece a None n h = absurd h
-      by_piece a (Some piece) None h = absurd h
-      by_piece a (Some piece) (Some n) (new, what, gives, notes, is) = same_moment (ap (λ (z : Next). z.0.moment) is)
-
-      by_query : (o : Option Asking) → PiecesAt o w q p t i cost x → w.moment.0 ≤ x.0.moment.0
-      by_query None h = absurd h
-      by_query (Some a) h = by_piece a (piece_at a p t) (slice_get w.servers i.0) h
-  goes_moment (way.closes q) cost k h = by_query (query_at w q) h
-    where
-      by_query : (o : Option Asking) → AnswersAt o w q cost x → w.moment.0 ≤ x.0.moment.0
-      by_query None h = absurd h
-      by_query (Some a) (answer, right, is) = same_moment (ap (λ (z : Next). z.0.moment) is)
-  goes_moment (way.outside next) cost k h = omega (arith, k cost, ap (λ (z : Next). z.0.moment.0) h)
-  goes_moment (way.turns c does told) cost k h = (turns_on c does told cost h).moment
-  goes_moment (way.handles m c) cost k h = (handles_on m c cost h).moment
-  goes_moment (way.works c j) cost k h = (works_on c j cost h).moment
-  goes_moment (way.keeps c p chore) cost k h = (keeps_on c p chore cost h).moment
-
-  goes_so : (y : Way) (cost : Cost) → MovesOn w y → IsFree cost y → Leaving w cost y → Goes w y cost x → GoesOn w x.0
-  goes_so (way.turns c does told) cost k free left h = turns_on c does told cost h
-  goes_so (way.handles m c) cost k free left h = handles_on m c cost h
-  goes_so (way.works c j) cost k free left h = works_on c j cost h
-  goes_so (way.keeps c p chore) cost k free left h = keeps_on c p chore cost h
-  goes_so y cost k free left h = spared cost (goes_moment y cost k h) (spares w cost x y tt free left h)
-
-pub event_moves : (w : State) (e : Event) → MovesOn w (way_of w e)
-event_moves w (event.Produce p message) = λ cost. omega arith
-event_moves w (event.Tick millis) = λ cost. omega arith
-event_moves w (event.FaultStore kept) = λ cost. omega arith
-event_moves w (event.FaultDeep kept) = λ cost. omega arith
-event_moves w (event.Ask query) = λ cost. omega arith
-event_moves w (event.ShowMeta p q) = λ cost. omega arith
-event_moves w event.ShowIdeal = λ cost. omega arith
-event_moves w e = tt
+pub event_goes_on : (w : State) (e : Event) (new : State) (o : Outcome) → Steps w e new (Ok o) → GoesOn w new
+event_goes_on w e new o (cost, due, h) = goes_so w (new, o) (way_of w e) cost (is_free w e cost due) (leaving w e cost due) h
 
 -- ---- a run
 
@@ -423,8 +343,8 @@ later_before : (h : List Seen) (now then : Moment) → now.0 ≤ then.0 → AreB
 later_before h now then on all v m has is = let own = all v m has is in omega (arith, own, on)
 
 turn_before : (w : State) (turn : Turn) (new : State) → IsWrittenBefore w → TurnsTo w turn new → IsWrittenBefore new
-turn_before w (happens e o) new all (fits, (cost, due, h)) =
-    let k = goes_so w (new, o) (way_of w e) cost (event_moves w e) (is_free w e cost due) (leaving w e cost due) h in
+turn_before w (happens e o) new all (fits, steps) =
+    let k = event_goes_on w e new o steps in
     later_before new.store.writes w.moment new.moment k.moment (before_then w.moment w.store.writes new.store.writes k.wrote all)
 turn_before w passes new all (cost, due, is) = subst IsWrittenBefore (sym is) all
 

@@ -1,5 +1,5 @@
 -- What all ways of events leave but those of controllers.
-use Rattle.std.proofs.Common.{◌≡◌, ◌⊎◌, inl, inr, ℕ, List, [], ◌∷◌, ◌++◌, Option, Some, None, refl, sym, ap, subst, slice_get}
+use Rattle.std.proofs.Common.{◌≡◌, ◌⊎◌, inl, inr, ℕ, ◌≤◌, List, [], ◌∷◌, ◌++◌, Option, Some, None, refl, sym, subst, arith, slice_get}
 use Rattle.std.specs.Prelude.{slice_set}
 use Rattle.rt_base.specs.declared.numbers.Instance.{Instance}
 use Rattle.rt_base.specs.declared.numbers.Partition.{Partition}
@@ -18,7 +18,7 @@ use Rattle.rt_nodes.specs.declared.server_node.ServerNode.{ServerNode}
 use Rattle.rt_past.proofs.Growth.{grows_same}
 use Rattle.rt_past.specs.Past.{Grows}
 use Rattle.rt_safety.proofs.Adds.{Adds, adds_quietly, adds_request, grows_history, grows_sent, same_files, same_log}
-use Rattle.rt_safety.proofs.Ways.{Counts, IsFree, Leaving}
+use Rattle.rt_safety.proofs.Ways.{counted_so, Counts, IsFree, Leaving}
 use Rattle.rt_safety.specs.Counted.{bytes_of}
 use Rattle.rt_state.specs.Applying.{Next}
 use Rattle.rt_state.specs.Finding.{query_at, reply_at}
@@ -28,9 +28,8 @@ use Rattle.rt_state.specs.Messages.{node_took, Replies, RepliesAt}
 use Rattle.rt_state.specs.Nodes.{ServerCalls, ServerCallsAt, ServerDoes, ServerDoesAt, ServerFetches, ServerFetchesAt, ServerGets, ServerGetsAt, ServerStep, with_server}
 use Rattle.rt_state.specs.Queries.{Answers, AnswersAt, closed, Pieces, PiecesAt, PiecesOf, Routes, RoutesAt, with_query}
 use Rattle.rt_state.specs.Requests.{AskStep, SendsAt, SendsRequest}
-use Rattle.rt_state.specs.Room.{counted, spent}
+use Rattle.rt_state.specs.Room.{counted}
 use Rattle.rt_state.specs.declared.cost.Cost.{Cost}
-use Rattle.rt_state.specs.declared.counts.Counts.{Counts as Counted}
 use Rattle.rt_state.specs.declared.state.State.{State}
 use Rattle.rt_store.specs.Answers.{Leaves}
 use Rattle.rt_store.specs.Meaning.{Told}
@@ -47,25 +46,30 @@ IsSpare (way.works c j) = ⊥
 IsSpare (way.keeps c p chore) = ⊥
 IsSpare other = Unit {0}
 
--- the setup and the controllers stay, a server's incarnation is written at most, and a request sent; and all that there was is
--- there still
+-- the setup and the controllers stay, a server's incarnation is written at most, and a request sent; the clock never goes back, and all
+-- that there was is there still
 pub record Spares (w : State) (cost : Cost) (new : State) : Type 0 where
   pub setup : new.setup ≡ w.setup
   pub controllers : new.controllers ≡ w.controllers
   pub written : (new.store.writes ≡ w.store.writes) ⊎ ((j : Instance) × Leaves (bump j) w.store.writes new.store.writes)
   pub sent : ((new.sent ≡ w.sent) × (cost.uploads ≡ 0)) ⊎ ((q : Request) × (new.sent ≡ w.sent ++ sent.Request q ∷ []) × (bytes_of q.kind ≡ cost.uploads))
   pub counts : Counts w cost new
+  pub moment : w.moment.0 ≤ new.moment.0
   pub past : IsSafeWorld w → Grows (past_of w) (past_of new)
 
-counted_so : (w : State) (cost : Cost) (new : State) → new.counts ≡ spent w.counts cost → Counts w cost new
-counted_so w cost new e =
-    record { events = ap (λ (k : Counted). k.events) e; uploads = ap (λ (k : Counted). k.uploads) e; stored = ap (λ (k : Counted). k.stored) e }
-
--- nothing is written or sent
+-- nothing is written or sent, and no time goes by
 still : (w : State) (cost : Cost) (new : State) → new.setup ≡ w.setup → new.controllers ≡ w.controllers → new.store.writes ≡ w.store.writes → new.sent ≡ w.sent
-    → cost.uploads ≡ 0 → Counts w cost new → Grows (past_of w) (past_of new) → Spares w cost new
-still w cost new setup controllers written sent free counts past =
-    record { setup = setup; controllers = controllers; written = inl written; sent = inl (sent, free); counts = counts; past = λ s. past }
+    → new.moment.0 ≡ w.moment.0 → cost.uploads ≡ 0 → Counts w cost new → Grows (past_of w) (past_of new) → Spares w cost new
+still w cost new setup controllers written sent moment free counts past =
+    record {
+      setup = setup;
+      controllers = controllers;
+      written = inl written;
+      sent = inl (sent, free);
+      counts = counts;
+      moment = omega (arith, moment);
+      past = λ s. past;
+    }
 
 leaves_front : (call : Write) (h now : List Seen) → Leaves call h now → IsFront h now
 leaves_front call h now (inl same) = subst (IsFront h) (sym same) (front_same h)
@@ -80,7 +84,7 @@ module _ (w : State) (cost : Cost) (x : Next) where
       by_node : (n : Option ServerNode) → ServerDoesAt n w i does cost x → Spares w cost x.0
       by_node None h = absurd h
       by_node (Some old) (new, step, is) =
-          subst (Spares w cost) (sym is) (still w cost (counted (with_server w i new) cost) refl refl refl refl free (counted_so w cost _ refl) (grows_same (past_of w)))
+          subst (Spares w cost) (sym is) (still w cost (counted (with_server w i new) cost) refl refl refl refl refl free (counted_so w cost _ refl) (grows_same (past_of w)))
 
   looks_spares : (i : Instance) (does : Log → Log → ServerStep) → cost.uploads ≡ 0 → Leaving w cost (way.looks i does) → ServerFetches w i does cost x → Spares w cost x.0
   looks_spares i does free same h = by_node (slice_get w.servers i.0) h
@@ -89,7 +93,7 @@ module _ (w : State) (cost : Cost) (x : Next) where
       by_node None h = absurd h
       by_node (Some old) (new, log, step, is) =
           subst (Spares w cost) (sym is)
-          (still w cost (counted (record w { servers = slice_set w.servers i.0 new; log = log }) cost) refl refl refl refl free (counted_so w cost _ refl)
+          (still w cost (counted (record w { servers = slice_set w.servers i.0 new; log = log }) cost) refl refl refl refl refl free (counted_so w cost _ refl)
           (same_log (past_of w) log (same old new log x.1 step)))
 
   calls_spares : (i : Instance) (does : Told → Told → ServerStep) → cost.uploads ≡ 0 → Leaving w cost (way.calls i does) → ServerCalls w i does cost x → Spares w cost x.0
@@ -106,6 +110,7 @@ module _ (w : State) (cost : Cost) (x : Next) where
             written = inr wrote;
             sent = inl (refl, free);
             counts = counted_so w cost _ refl;
+            moment = omega arith;
             past = λ s. grows_history (past_of w) store.writes (leaves_front (bump wrote.0) w.store.writes store.writes wrote.1);
           })
 
@@ -116,7 +121,7 @@ module _ (w : State) (cost : Cost) (x : Next) where
       by_node None h = absurd h
       by_node (Some old) (new, deep, step, is) =
           subst (Spares w cost) (sym is)
-          (still w cost (counted (record w { servers = slice_set w.servers i.0 new; deep = deep }) cost) refl refl refl refl free (counted_so w cost _ refl)
+          (still w cost (counted (record w { servers = slice_set w.servers i.0 new; deep = deep }) cost) refl refl refl refl refl free (counted_so w cost _ refl)
           (same_files (past_of w) deep.files (same old new deep x.1 step)))
 
   sends_spares : (i : Instance) (asks : AskStep) → Leaving w cost (way.sends i asks) → SendsRequest w i asks cost x → Spares w cost x.0
@@ -132,6 +137,7 @@ module _ (w : State) (cost : Cost) (x : Next) where
             written = inl refl;
             sent = inr (request, refl, bytes old new request at step);
             counts = counted_so w cost _ refl;
+            moment = omega arith;
             past = λ s. grows_sent (past_of w) (sent.Request request);
           })
 
@@ -152,7 +158,7 @@ module _ (w : State) (cost : Cost) (x : Next) where
       by_query (Some a) (b, store, answer, routed, told, is) =
           let same : store.writes ≡ w.store.writes = routed_reads w store a b p answer x.1 routed told in
           subst (Spares w cost) (sym is)
-          (still w cost (counted (record w { queries = slice_set w.queries q (Some b); store = store }) cost) refl refl same refl free (counted_so w cost _ refl)
+          (still w cost (counted (record w { queries = slice_set w.queries q (Some b); store = store }) cost) refl refl same refl refl free (counted_so w cost _ refl)
           (grows_history (past_of w) store.writes (subst (IsFront w.store.writes) (sym same) (front_same w.store.writes))))
 
   serves_spares : (q : ℕ) (p : Partition) (s : Sequence) (i : Instance) → cost.uploads ≡ 0 → Pieces w q p s i cost x → Spares w cost x.0
@@ -163,7 +169,7 @@ module _ (w : State) (cost : Cost) (x : Next) where
       by_piece a (Some piece) None h = absurd h
       by_piece a (Some piece) (Some n) (b, what, gives, notes, is) =
           subst (λ (y : Next). Spares w cost y.0) (sym is)
-          (still w cost (counted (with_query w q (Some b)) cost) refl refl refl refl free (counted_so w cost _ refl) (grows_same (past_of w)))
+          (still w cost (counted (with_query w q (Some b)) cost) refl refl refl refl refl free (counted_so w cost _ refl) (grows_same (past_of w)))
 
       by_query : (o : Option Asking) → PiecesAt o w q p s i cost x → Spares w cost x.0
       by_query None h = absurd h
@@ -175,7 +181,7 @@ module _ (w : State) (cost : Cost) (x : Next) where
       by_query : (o : Option Asking) → AnswersAt o w q cost x → Spares w cost x.0
       by_query None h = absurd h
       by_query (Some a) (answer, right, is) =
-          subst (λ (y : Next). Spares w cost y.0) (sym is) (still w cost (closed w q cost) refl refl refl refl free (record { events = refl; uploads = refl; stored = refl }) (grows_same (past_of w)))
+          subst (λ (y : Next). Spares w cost y.0) (sym is) (still w cost (closed w q cost) refl refl refl refl refl free (record { events = refl; uploads = refl; stored = refl }) (grows_same (past_of w)))
 
   -- ---- any way but a controller's
 
@@ -191,7 +197,15 @@ module _ (w : State) (cost : Cost) (x : Next) where
   spares (way.closes q) spare free left h = closes_spares q free h
   spares (way.outside next) spare free left h =
       subst (λ (y : Next). Spares w cost y.0) (sym h)
-      (record { setup = left.setup; controllers = left.controllers; written = inl left.written; sent = inl (left.sent, free); counts = left.counts; past = left.past })
+      (record {
+        setup = left.setup;
+        controllers = left.controllers;
+        written = inl left.written;
+        sent = inl (left.sent, free);
+        counts = left.counts;
+        moment = left.moment;
+        past = left.past;
+      })
   spares y spare free left h = absurd spare
 
 -- ---- so it adds to a safe world

@@ -1,5 +1,5 @@
 -- What the way of an event leaves as it was, where the event is due in a safe world.
-use Rattle.std.proofs.Common.{◌≡◌, ℕ, ◌+◌, ◌<◌, Bool, true, false, cond, List, Option, Some, None, Result, Ok, Err, inl, refl, sym, ◌∙◌, ap, subst, arith, length, slice_get}
+use Rattle.std.proofs.Common.{◌≡◌, ℕ, ◌+◌, ◌<◌, ◌≤◌, Bool, true, false, cond, List, Option, Some, None, Result, Ok, Err, inl, refl, sym, ◌∙◌, ap, subst, arith, length, slice_get}
 use Rattle.std.proofs.lemmas.Bool.{ltb-true}
 use Rattle.rt_base.specs.declared.numbers.ControllerId.{ControllerId}
 use Rattle.rt_base.specs.declared.numbers.Instance.{Instance}
@@ -47,10 +47,11 @@ use Rattle.rt_state.specs.Queries.{asked}
 use Rattle.rt_nodes.specs.declared.chore.Chore.{Chore}
 use Rattle.rt_nodes.specs.declared.chore.Chore.TheVariants.{Repair, Retire}
 use Rattle.rt_state.specs.Repairs.{chore_by, chore_due, find_upkeep, upkeep_at}
-use Rattle.rt_state.specs.Room.{message_cost, priced}
+use Rattle.rt_state.specs.Room.{message_cost, priced, spent}
 use Rattle.rt_state.specs.Shows.{ideal_shown, meta_shown}
 use Rattle.rt_state.specs.Stream.{produce_due, produced}
 use Rattle.rt_state.specs.declared.cost.Cost.{Cost}
+use Rattle.rt_state.specs.declared.counts.Counts.{Counts as Counted}
 use Rattle.rt_state.specs.declared.state.State.{State}
 use Rattle.rt_store.specs.Answers.{Leaves}
 use Rattle.rt_store.specs.Meaning.{Told}
@@ -70,14 +71,20 @@ pub record Counts (w : State) (cost : Cost) (new : State) : Type 0 where
   pub uploads : new.counts.uploads ≡ w.counts.uploads + cost.uploads
   pub stored : new.counts.stored ≡ w.counts.stored
 
--- no node took a step: the setup, the controllers, and what was written and sent are as they were, and in a safe world all that
--- there was is there still
+pub counted_so : (w : State) (cost : Cost) (new : State) → new.counts ≡ spent w.counts cost → Counts w cost new
+counted_so w cost new e =
+    record { events = ap (λ (k : Counted). k.events) e; uploads = ap (λ (k : Counted). k.uploads) e; stored = ap (λ (k : Counted). k.stored) e }
+
+-- no node took a step: the setup, the nodes, and what was written and sent are as they were, the clock never goes back, and in a safe
+-- world all that there was is there still
 pub record IsOutside (w : State) (cost : Cost) (new : State) : Type 0 where
   pub setup : new.setup ≡ w.setup
   pub controllers : new.controllers ≡ w.controllers
+  pub servers : new.servers ≡ w.servers
   pub written : new.store.writes ≡ w.store.writes
   pub sent : new.sent ≡ w.sent
   pub counts : Counts w cost new
+  pub moment : w.moment.0 ≤ new.moment.0
   pub past : IsSafeWorld w → Grows (past_of w) (past_of new)
 
 -- a chore of the partition begins only where it may
@@ -111,9 +118,11 @@ produce_leaves w p message cost due =
     record {
       setup = refl;
       controllers = refl;
+      servers = refl;
       written = refl;
       sent = refl;
-      counts = record { events = refl; uploads = refl; stored = refl };
+      counts = counted_so w cost _ refl;
+      moment = omega arith;
       past =
           λ s.
           let log = with_message w.log p message in
@@ -122,15 +131,17 @@ produce_leaves w p message cost due =
     }
 
 -- nothing that was produced, written, put or sent changes
-quiet : (w : State) (cost : Cost) (new : State) → new.setup ≡ w.setup → new.controllers ≡ w.controllers → past_of new ≡ past_of w → Counts w cost new
-    → IsOutside w cost new
-quiet w cost new setup controllers past counts =
+quiet : (w : State) (cost : Cost) (new : State) → new.setup ≡ w.setup → new.controllers ≡ w.controllers → new.servers ≡ w.servers → past_of new ≡ past_of w
+    → new.counts ≡ spent w.counts cost → w.moment.0 ≤ new.moment.0 → IsOutside w cost new
+quiet w cost new setup controllers servers past counts moment =
     record {
       setup = setup;
       controllers = controllers;
+      servers = servers;
       written = ap (λ (a : Past). a.history) past;
       sent = ap (λ (a : Past). a.sent) past;
-      counts = counts;
+      counts = counted_so w cost new counts;
+      moment = moment;
       past = λ s. subst (Grows (past_of w)) (sym past) (grows_same (past_of w));
     }
 
@@ -192,7 +203,7 @@ chore_leaves w c p chore cost due =
 
 pub leaving : (w : State) (e : Event) (cost : Cost) → due_at w e ≡ Ok cost → Leaving w cost (way_of w e)
 leaving w (event.Produce p message) cost due = produce_leaves w p message cost due
-leaving w (event.Tick millis) cost due = quiet w cost (ticked w millis cost).0 refl refl refl (record { events = refl; uploads = refl; stored = refl })
+leaving w (event.Tick millis) cost due = quiet w cost (ticked w millis cost).0 refl refl refl refl refl (omega arith)
 leaving w (event.Lead c on) cost due = λ n. refl
 leaving w (event.Consume i p q max) cost due =
     λ old new log o step. takes_looks w.log log old.server.table new.server.table p q max w.moment (Ok tt) step.0
@@ -218,9 +229,9 @@ leaving w (event.Download i p q) cost due =
     λ old new deep o step. unput w.deep deep (downloads_looks w.deep deep old.server.setup.schema old.server.table new.server.table p q step.0 step.1)
 leaving w (event.Repair c p) cost due = chore_leaves w c p Repair cost due
 leaving w (event.Retain c p) cost due = chore_leaves w c p Retire cost due
-leaving w (event.FaultStore kept) cost due = quiet w cost (store_faulted w kept cost).0 refl refl refl (record { events = refl; uploads = refl; stored = refl })
-leaving w (event.FaultDeep kept) cost due = quiet w cost (deep_faulted w kept cost).0 refl refl refl (record { events = refl; uploads = refl; stored = refl })
-leaving w (event.Ask query) cost due = quiet w cost (asked w query cost).0 refl refl refl (record { events = refl; uploads = refl; stored = refl })
-leaving w (event.ShowMeta p q) cost due = quiet w cost (meta_shown w p q cost).0 refl refl refl (record { events = refl; uploads = refl; stored = refl })
-leaving w event.ShowIdeal cost due = quiet w cost (ideal_shown w cost).0 refl refl refl (record { events = refl; uploads = refl; stored = refl })
+leaving w (event.FaultStore kept) cost due = quiet w cost (store_faulted w kept cost).0 refl refl refl refl refl (omega arith)
+leaving w (event.FaultDeep kept) cost due = quiet w cost (deep_faulted w kept cost).0 refl refl refl refl refl (omega arith)
+leaving w (event.Ask query) cost due = quiet w cost (asked w query cost).0 refl refl refl refl refl (omega arith)
+leaving w (event.ShowMeta p q) cost due = quiet w cost (meta_shown w p q cost).0 refl refl refl refl refl (omega arith)
+leaving w event.ShowIdeal cost due = quiet w cost (ideal_shown w cost).0 refl refl refl refl refl (omega arith)
 leaving w e cost due = tt
