@@ -1,5 +1,5 @@
--- The turn of a replica goes by what it has to do next. Any other event of it isn't tried, or is refused for want of
--- something to do, whatever the run has room for, and so comes to nothing; where its server is down, or isn't there, the turn is refused for that.
+-- The turn of a replica goes by what it has to do next. Any other event of it isn't tried, or is refused for want of something to
+-- do, whatever the run has room for, and so comes to nothing; where its server is down, or isn't there, the turn is refused for that.
 use Rattle.std.proofs.Common.{◌≡◌, ◌&&◌, ℕ, Bool, true, false, cond, Option, Some, None, Ok, Err, Result, nat_lt, not, refl, sym, ◌∙◌, ap, subst}
 use Rattle.std.proofs.lemmas.Bool.{and_from, and_left, and_parts, false≢true, not_from_false, true≢false}
 use Rattle.rt_base.specs.declared.numbers.ControllerId.{ControllerId}
