@@ -1,5 +1,5 @@
 -- Each event is refused by its own limits alone, and each of these is passed then.
-use Rattle.std.proofs.Common.{◌≡◌, ℕ, ◌+◌, ◌<◌, ◌≤◌, ◌⊎◌, inl, inr, Bool, true, false, Option, Result, Ok, Err, refl, sym, ◌∙◌, subst, nat_le, nat_lt, arith}
+use Rattle.std.proofs.Common.{◌≡◌, ℕ, ◌+◌, ◌<◌, ◌≤◌, ◌⊎◌, inl, inr, Bool, true, false, Option, Result, Ok, Err, refl, subst, nat_le, nat_lt, arith}
 use Rattle.std.proofs.lemmas.Bool.{leb-false, ltb-false}
 use Rattle.rt_base.specs.declared.limits.TheConstants.{LAST_MOMENT, LONGEST_MESSAGE, MOST_EVENTS, MOST_QUERIES, MOST_SENT, MOST_STORED}
 use Rattle.rt_base.specs.declared.which.Which.{Which}
@@ -8,15 +8,15 @@ use Rattle.rt_events.specs.declared.event.Event.{Event}
 use Rattle.rt_events.specs.declared.event.Event.TheVariants as event
 use Rattle.rt_events.specs.declared.refusal.Refusal.{Refusal}
 use Rattle.rt_events.specs.declared.refusal.Refusal.TheVariants.{Limit}
-use Rattle.rt_state.proofs.Possible.{HasRoom, priced_room}
+use Rattle.rt_state.proofs.Possible.{HasRoom, met_price, priced_room}
 use Rattle.rt_state.specs.IsSafeWorld.{IsSafeWorld}
 use Rattle.rt_state.specs.Jobs.{sets_of_job}
 use Rattle.rt_state.specs.Repairs.{repair_in, retirement_in, upkeep_at}
 use Rattle.rt_state.specs.Room.{Due, dropped, no_cost, only_if, priced, set_cost}
 use Rattle.rt_state.specs.declared.cost.Cost.{Cost}
 use Rattle.rt_state.specs.declared.state.State.{State}
-use Rattle.rt_world.proofs.Costs.{ComesTo, comes_to, due_priced}
-use Rattle.rt_world.specs.Step.{due_at, due_of, set_by_repair, set_by_retirement}
+use Rattle.rt_world.proofs.Costs.{due_priced}
+use Rattle.rt_world.specs.Step.{due_at, due_of, set_by_repair, set_by_retirement, tests_at}
 use Rattle.rt_safety.specs.Limits.{IsPassed, appends, asks, can_pass, cost_of, reports, steps_upkeep, ticks}
 
 -- ---- the limit that a price passes
@@ -111,18 +111,10 @@ dropped_fine : (due : Due) → dropped due ≡ fine tt → (c : Cost) × (due �
 dropped_fine (Ok c) e = (c, refl)
 dropped_fine (Err f) e = absurd (cc)
 
-same_refusal : (e f : Refusal) → by {X = Cost} e ≡ by f → e ≡ f
-same_refusal e f h = cc
-
 pub limit_passed : (w : State) (e : Event) (which : Which) → due_of w e ≡ Err (Limit which) → IsPassed w (cost_of w e) which
-limit_passed w e which h = by_price (comes_to w e)
-  where
-    due : due_at w e ≡ by_limit which
-    due = dropped_limit (due_at w e) which h
-
-    by_price : ComesTo (due_at w e) (priced w (cost_of w e)) → IsPassed w (cost_of w e) which
-    by_price (inl is) = passes_limit w (cost_of w e) which (sym is ∙ due)
-    by_price (inr (f, is, other)) = absurd (other which (same_refusal f (Limit which) (sym is ∙ due)))
+limit_passed w e which h =
+    passes_limit w (cost_of w e) which
+    (met_price (tests_at w e) (priced w (cost_of w e)) (by_limit which) tt (dropped_limit (due_at w e) which h))
 
 pub room_left : (w : State) (e : Event) (which : Which) → due_of w e ≡ Ok tt → IsPassed w (cost_of w e) which → ⊥
 room_left w e which h over =

@@ -11,10 +11,11 @@ use Rattle.rt_server.specs.Table.{replica_of}
 use Rattle.rt_state.specs.Finding.{find_controller, find_server, has_controller, has_partition, has_server, is_controller_up, is_server_up, passes, replica_at, replica_in}
 use Rattle.rt_state.specs.Replicas.{replica_due}
 use Rattle.rt_state.specs.Room.{no_cost, only_if, priced}
+use Rattle.rt_state.specs.Tests.{Tests, met}
 use Rattle.rt_state.specs.declared.cost.Cost.{Cost}
 use Rattle.rt_nodes.specs.declared.server_node.ServerNode.{ServerNode}
 use Rattle.rt_state.specs.declared.state.State.{State}
-use Rattle.rt_state.proofs.Possible.{HasRoom, only_passed, priced_room, then_passed}
+use Rattle.rt_state.proofs.Possible.{HasRoom, met_price, only_passed, priced_room, then_passed}
 
 pub both : (a b : Bool) → (a && b) ≡ true → (a ≡ true) × (b ≡ true)
 both true b h = (refl, h)
@@ -58,6 +59,10 @@ room_spends w cost r = (omega (arith, r.events), omega (arith, r.sent), omega (a
 
 pub priced_spends : (w : State) (c cost : Cost) → priced w c ≡ Ok cost → Spends w cost
 priced_spends w c cost h = let room = priced_room w c cost h in subst (Spends w) room.0 (room_spends w c room.1)
+
+-- behind tests too
+pub met_spends : (w : State) (t : Tests) (c cost : Cost) → met t (priced w c) ≡ Ok cost → Spends w cost
+met_spends w t c cost h = priced_spends w c cost (met_price t (priced w c) (Ok cost) tt h)
 
 -- ---- a replica's call
 

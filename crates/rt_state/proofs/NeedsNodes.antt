@@ -1,5 +1,5 @@
 -- What the events of the clock, the stream, lives, controllers and queries need, and find in a safe world.
-use Rattle.std.proofs.Common.{◌≡◌, ◌+◌, ◌<◌, ◌≤◌, ◌^◌, ◌&&◌, ℕ, true, not, List, length, slice_get, Option, Some, None, Ok, refl, sym, ap, subst, ◌∙◌, arith, is_some, IsNone, IsSome, IfSome, unwrap_or}
+use Rattle.std.proofs.Common.{◌≡◌, ◌+◌, ◌<◌, ◌≤◌, ◌^◌, ◌&&◌, ℕ, true, List, length, slice_get, Option, Some, None, Ok, refl, sym, ap, subst, ◌∙◌, arith, is_some, IsNone, IsSome, IfSome, unwrap_or}
 use Rattle.std.proofs.lemmas.Bool.{ltb-true}
 use Rattle.std.proofs.lemmas.Option.{slice_get_within}
 use Rattle.rt_nodes.specs.declared.server_node.ServerNode.{ServerNode}
@@ -12,16 +12,16 @@ use Rattle.rt_model.specs.Starting.{Starting}
 use Rattle.rt_store.specs.Contents.{starting_of}
 use Rattle.rt_controller.specs.IsController.{IsController}
 use Rattle.rt_controller.proofs.Lasts.{ready_over}
-use Rattle.rt_repair.specs.Repairing.{Repairing, set_entries, beginning as repair_beginning}
-use Rattle.rt_repair.specs.Retirement.{Retirement, set_entries as retire_sets, beginning as retire_beginning}
+use Rattle.rt_repair.specs.Repairing.{Repairing, beginning as repair_beginning}
+use Rattle.rt_repair.specs.Retirement.{Retirement, beginning as retire_beginning}
 use Rattle.rt_repair.proofs.Growing.{repair_begins_over, retire_begins_over, repair_ready, retire_ready}
-use Rattle.rt_state.proofs.Dues.{Spends, both, controller_there, priced_spends}
+use Rattle.rt_state.proofs.Dues.{Spends, both, controller_there, met_spends, priced_spends}
 use Rattle.rt_state.proofs.Possible.{only_passed, priced_room, then_passed}
 use Rattle.rt_state.specs.Clock.{tick_due, lead_due}
-use Rattle.rt_state.specs.Finding.{find_controller, has_controller, has_partition, has_server, is_controller_up, is_server_up, is_up, request_at, reply_at}
+use Rattle.rt_state.specs.Finding.{find_controller, has_controller, has_partition, has_server, is_server_up, is_up, partition_tests, request_at, reply_at}
 use Rattle.rt_state.specs.IsSafe.{IsControllerAt, IsUpkeepAt, past_of}
 use Rattle.rt_state.specs.IsSafeWorld.{IsSafeWorld}
-use Rattle.rt_state.specs.Jobs.{has_job, job_due, sets_of_job, job_told, job_told_by, stepped, stepped_by}
+use Rattle.rt_state.specs.Jobs.{has_job, job_due, job_tests, sets_of_job, job_told, job_told_by, stepped, stepped_by}
 use Rattle.rt_state.specs.Shows.{show_meta_due}
 use Rattle.rt_model.specs.Setup.{IsSetup}
 use Rattle.rt_model.specs.declared.job_step.JobStep.{JobStep}
@@ -29,11 +29,11 @@ use Rattle.rt_model.specs.declared.reply.Reply.{Reply}
 use Rattle.rt_repair.specs.Lasting.{IsRepairOver, IsRetireOver}
 use Rattle.rt_repair.specs.Repairing.{IsUnended as repair_unended}
 use Rattle.rt_repair.specs.Retirement.{IsUnended as retire_unended}
-use Rattle.rt_state.specs.Lives.{crash_server_due, restart_server_due, restart_controller_due}
-use Rattle.rt_state.specs.Messages.{deliver_due, reply_by, reply_due}
+use Rattle.rt_state.specs.Lives.{crash_server_due, crash_server_tests, restart_controller_due, restart_controller_tests, restart_server_due, restart_server_tests}
+use Rattle.rt_state.specs.Messages.{deliver_due, deliver_tests, reply_by, reply_due}
 use Rattle.rt_nodes.specs.declared.chore.Chore.{Chore}
 use Rattle.rt_nodes.specs.declared.chore.Chore.TheVariants.{Repair, Retire}
-use Rattle.rt_state.specs.Repairs.{IsReadyFor, IsReadyRepair, IsReadyRetirement, begun, believes_at, chore_by, chore_due, find_upkeep, repair_by, repair_in, retain_by, retirement_in, retiring, upkeep_at, upkeep_in}
+use Rattle.rt_state.specs.Repairs.{IsReadyFor, IsReadyRepair, IsReadyRetirement, begun, believes_at, chore_by, chore_due, chore_tests, find_upkeep, retain_by, retirement_in, retiring, set_by, upkeep_at, upkeep_in}
 use Rattle.rt_state.specs.Room.{counted, message_cost, no_cost, priced, set_cost, time_cost}
 use Rattle.rt_state.specs.Stream.{produce_due}
 use Rattle.rt_nodes.specs.declared.controller_node.ControllerNode.{ControllerNode}
@@ -65,22 +65,16 @@ produce_needs w p message cost s h =
 
 pub crash_server_needs : (w : State) (i : Instance) (cost : Cost) → crash_server_due w i ≡ Ok cost → (i.0 < length w.servers) × Spends w cost
 crash_server_needs w i cost h =
-    let there = only_passed (has_server w i) NoSuchNode _ cost h in
-    let up = only_passed (is_server_up w i) NodeDown _ cost there.1 in
-    (ltb-true _ _ there.0, priced_spends w no_cost cost up.1)
+    (ltb-true _ _ (only_passed (has_server w i) NoSuchNode _ cost h).0, met_spends w (crash_server_tests w i) no_cost cost h)
 
 pub restart_server_needs : (w : State) (i : Instance) (cost : Cost) → restart_server_due w i ≡ Ok cost → (i.0 < length w.servers) × Spends w cost
 restart_server_needs w i cost h =
-    let there = only_passed (has_server w i) NoSuchNode _ cost h in
-    let down = only_passed (not (is_server_up w i)) NothingToDo _ cost there.1 in
-    (ltb-true _ _ there.0, priced_spends w no_cost cost down.1)
+    (ltb-true _ _ (only_passed (has_server w i) NoSuchNode _ cost h).0, met_spends w (restart_server_tests w i) no_cost cost h)
 
 pub restart_controller_needs : (w : State) (c : ControllerId) (cost : Cost) → restart_controller_due w c ≡ Ok cost
     → (c.0 < length w.controllers) × Spends w cost
 restart_controller_needs w c cost h =
-    let there = only_passed (has_controller w c) NoSuchNode _ cost h in
-    let down = only_passed (not (is_controller_up w c)) NothingToDo _ cost there.1 in
-    (ltb-true _ _ there.0, priced_spends w no_cost cost down.1)
+    (ltb-true _ _ (only_passed (has_controller w c) NoSuchNode _ cost h).0, met_spends w (restart_controller_tests w c) no_cost cost h)
 
 -- ---- messages and jobs
 
@@ -92,13 +86,11 @@ pub deliver_needs : (w : State) (m : ℕ) (c : ControllerId) (cost : Cost) → I
     → (is_some (request_at w m) ≡ true) × (c.0 < length w.controllers)
     × ((n : ControllerNode) → slice_get w.controllers c.0 ≡ Some n → n.controller.started < 2 ^ 63) × Spends w cost
 deliver_needs w m c cost s h =
-    let there = only_passed (has_controller w c) NoSuchNode _ cost h in
-    let asked = only_passed (is_some (request_at w m)) NoSuchMessage _ cost there.1 in
-    let up = only_passed (is_controller_up w c) NodeDown _ cost asked.1 in (
-      asked.0,
+    let there = only_passed (has_controller w c) NoSuchNode _ cost h in (
+      (only_passed (is_some (request_at w m)) NoSuchMessage _ cost there.1).0,
       ltb-true _ _ there.0,
       λ n found. omega (arith, s.few.started c.0 n found, s.few.events),
-      priced_spends w no_cost cost up.1,
+      met_spends w (deliver_tests w m c) no_cost cost h,
     )
 
 pub job_needs : (w : State) (c : ControllerId) (j : ℕ) (cost : Cost) → IsSafeWorld w → job_due w c j ≡ Ok cost
@@ -106,14 +98,12 @@ pub job_needs : (w : State) (c : ControllerId) (j : ℕ) (cost : Cost) → IsSaf
     × ((n : ControllerNode) → slice_get w.controllers c.0 ≡ Some n → (s : Starting) × IsController s w.store.writes n.controller)
     × Spends w cost
 job_needs w c j cost s h =
-    let there = only_passed (has_controller w c) NoSuchNode _ cost h in
-    let open_job = only_passed (has_job w c j) NoSuchMessage _ cost there.1 in
-    let up = only_passed (is_controller_up w c) NodeDown _ cost open_job.1 in (
-      open_job.0,
+    let there = only_passed (has_controller w c) NoSuchNode _ cost h in (
+      (only_passed (has_job w c j) NoSuchMessage _ cost there.1).0,
       ltb-true _ _ there.0,
       s.few.moment,
       λ n found. (starting_of w.setup, ready_over w.setup (past_of w) n.controller s.safe.setup s.safe.past (node_at w c n s found).over),
-      priced_spends w (set_cost (sets_of_job w c j)) cost up.1,
+      met_spends w (job_tests w c j) (set_cost (sets_of_job w c j)) cost h,
     )
 
 -- ---- repairs
@@ -147,10 +137,6 @@ begun_ready w p u (Some r) s within e k = (
   ),
 )
 
-repair_spends : (w : State) (c : ControllerId) (r : Option Repairing) (cost : Cost) → repair_by w c r ≡ Ok cost → Spends w cost
-repair_spends w c None cost h = priced_spends w no_cost cost (only_passed (believes_at w c) NothingToDo (priced w no_cost) cost h).1
-repair_spends w c (Some r) cost h = priced_spends w (set_cost (set_entries r w.moment)) cost h
-
 -- a retirement begins with the retention, where one is set
 pub retention_kept : (o : Option ℕ) → IsSome o → Some (unwrap_or o 0) ≡ o
 retention_kept None set = absurd (cc)
@@ -176,11 +162,6 @@ retiring_ready w p u (Some r) s within set e k = (
   ),
 )
 
-retain_spends : (w : State) (c : ControllerId) (r : Option Retirement) (cost : Cost) → retain_by w c r ≡ Ok cost → Spends w cost
-retain_spends w c None cost h =
-    priced_spends w no_cost cost (only_passed (is_some w.setup.retention && believes_at w c) NothingToDo (priced w no_cost) cost h).1
-retain_spends w c (Some r) cost h = priced_spends w (set_cost (retire_sets r w.moment)) cost h
-
 -- a retirement begins only where a retention is set
 pub retain_keeps : (w : State) (c : ControllerId) (r : Option Retirement) (cost : Cost) → retain_by w c r ≡ Ok cost → IsNone r → IsSome w.setup.retention
 retain_keeps w c None cost h none =
@@ -202,10 +183,6 @@ chore_ready w c p n u Retire cost s within found stands k due =
     (subst (λ o. IsNone o) (sym (retirement_there w c p n u found stands)) none)
     in (set, retiring_ready w p u u.retirement s within set refl k)
 
-chore_spends : (w : State) (c : ControllerId) (u : Option Upkeep) (chore : Chore) (cost : Cost) → chore_by chore w c u ≡ Ok cost → Spends w cost
-chore_spends w c u Repair cost h = repair_spends w c (repair_in u) cost h
-chore_spends w c u Retire cost h = retain_spends w c (retirement_in u) cost h
-
 pub chore_needs : (w : State) (c : ControllerId) (p : Partition) (chore : Chore) (cost : Cost) → IsSafeWorld w → chore_due w c p chore ≡ Ok cost
     → (c.0 < length w.controllers) × IsSetup w.setup × (p.0 < w.setup.partitions) × (w.moment.0 ≤ LAST_MOMENT)
     × ((n : ControllerNode) → slice_get w.controllers c.0 ≡ Some n → (p.0 < length n.upkeep)
@@ -223,7 +200,7 @@ chore_needs w c p chore cost s h =
             omega (arith, there.partition, node.partitions),
             λ u stands. chore_ready w c p n u chore cost s there.partition at stands (node.upkeep p.0 u stands) found.1,
           ),
-      chore_spends w c (upkeep_at w c p) chore cost found.1,
+      met_spends w (chore_tests w c p chore) (set_cost (set_by chore (upkeep_at w c p) w.moment)) cost h,
     )
 
 -- ---- what a job's step tells
@@ -239,7 +216,7 @@ stepped_told w cost step = stepped_told_by w cost step step.reply
 -- ---- shows
 
 pub show_needs : (w : State) (p : Partition) (cost : Cost) → show_meta_due w p ≡ Ok cost → Spends w cost
-show_needs w p cost h = priced_spends w no_cost cost (only_passed (has_partition w p) NoSuchNode (priced w no_cost) cost h).1
+show_needs w p cost h = met_spends w (partition_tests w p) no_cost cost h
 
 -- ---- replies
 

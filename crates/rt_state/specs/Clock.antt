@@ -6,9 +6,11 @@ use Rattle.rt_base.specs.declared.numbers.Moment.{Moment}
 use Rattle.rt_controller.specs.Controller.{believing}
 use Rattle.rt_events.specs.declared.refusal.Refusal.{Refusal}
 use Rattle.rt_state.specs.Applying.{Next}
-use Rattle.rt_state.specs.Finding.{find_controller}
+use Rattle.rt_state.specs.Finding.{controller_tests}
 use Rattle.rt_state.specs.Nodes.{ControllerDoes}
-use Rattle.rt_state.specs.Room.{Due, then_due, no_cost, time_cost, priced, counted}
+use Rattle.rt_state.specs.Room.{Due, no_cost, time_cost, priced, counted}
+use Rattle.rt_state.specs.Tests.{Tests, met}
+use Rattle.rt_state.specs.Tests as test
 use Rattle.rt_nodes.specs.declared.controller_node.ControllerNode.{ControllerNode}
 use Rattle.rt_state.specs.declared.cost.Cost.{Cost}
 use Rattle.rt_state.specs.declared.state.State.{State}
@@ -25,8 +27,11 @@ ticked w millis cost =
 
 -- ---- lead
 
+abbrev pub lead_tests : State → ControllerId → Tests
+lead_tests w c = test.behind (controller_tests w c) test.none
+
 abbrev pub lead_due : State → ControllerId → Due
-lead_due w c = then_due (find_controller w c) (priced w no_cost)
+lead_due w c = met (lead_tests w c) (priced w no_cost)
 
 abbrev pub node_believing : Bool → ControllerNode → ControllerNode
 node_believing on n = record n { controller = believing n.controller on }

@@ -5,13 +5,14 @@ use Rattle.rt_base.specs.declared.numbers.Instance.{Instance}
 use Rattle.rt_base.specs.declared.numbers.Partition.{Partition}
 use Rattle.rt_base.specs.declared.numbers.Sequence.{Sequence}
 use Rattle.rt_broker.specs.Asking.{Asking}
-use Rattle.rt_events.specs.declared.refusal.Refusal.TheVariants.{NoSuchNode, NodeDown}
 use Rattle.rt_model.specs.declared.reply.Reply.{Reply}
 use Rattle.rt_model.specs.declared.request.Request.{Request}
 use Rattle.rt_model.specs.declared.sent.Sent.{Sent}
 use Rattle.rt_consumer.specs.declared.consumer.Consumer.{Consumer}
 use Rattle.rt_server.specs.Table.{replica_of}
-use Rattle.rt_state.specs.Room.{only_if, Found}
+use Rattle.rt_state.specs.Room.{Found}
+use Rattle.rt_state.specs.Tests.{Tests, met}
+use Rattle.rt_state.specs.Tests as test
 use Rattle.rt_nodes.specs.declared.controller_node.ControllerNode.{ControllerNode}
 use Rattle.rt_nodes.specs.declared.server_node.ServerNode.{ServerNode}
 use Rattle.rt_state.specs.declared.state.State.{State}
@@ -42,13 +43,22 @@ abbrev pub is_controller_up : State → ControllerId → Bool
 is_controller_up w c = is_up_controller (slice_get w.controllers c.0)
 
 -- a server and a partition that are there, the server being up
+abbrev pub server_tests : State → Instance → Partition → Tests
+server_tests w i p = test.there (has_server w i && has_partition w p) (test.up (is_server_up w i) test.none)
+
 abbrev pub find_server : State → Instance → Partition → Found
-find_server w i p =
-    only_if (has_server w i && has_partition w p) NoSuchNode (only_if (is_server_up w i) NodeDown (Ok tt))
+find_server w i p = met (server_tests w i p) (Ok tt)
 
 -- a controller that is there and up
+abbrev pub controller_tests : State → ControllerId → Tests
+controller_tests w c = test.there (has_controller w c) (test.up (is_controller_up w c) test.none)
+
 abbrev pub find_controller : State → ControllerId → Found
-find_controller w c = only_if (has_controller w c) NoSuchNode (only_if (is_controller_up w c) NodeDown (Ok tt))
+find_controller w c = met (controller_tests w c) (Ok tt)
+
+-- a partition that is there
+abbrev pub partition_tests : State → Partition → Tests
+partition_tests w p = test.there (has_partition w p) test.none
 
 -- ---- what stands at a server
 

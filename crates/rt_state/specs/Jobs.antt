@@ -6,7 +6,6 @@ use Rattle.rt_controller.specs.Controller.{Controlling}
 use Rattle.rt_controller.specs.Steps.{Works}
 use Rattle.rt_deep.specs.Meaning.{Told as ToldDeep}
 use Rattle.rt_deep.specs.Memory.{means as deep_means}
-use Rattle.rt_events.specs.declared.refusal.Refusal.TheVariants.{NoSuchMessage, NoSuchNode, NodeDown}
 use Rattle.rt_model.specs.declared.job_step.JobStep.{JobStep}
 use Rattle.rt_model.specs.declared.reply.Reply.{Reply}
 use Rattle.rt_store.specs.Meaning.{Told}
@@ -14,7 +13,9 @@ use Rattle.rt_store.specs.Memory.{means}
 use Rattle.rt_state.specs.Applying.{Next}
 use Rattle.rt_state.specs.Finding.{has_controller, is_controller_up}
 use Rattle.rt_state.specs.Messages.{with_reply, after_step}
-use Rattle.rt_state.specs.Room.{only_if, Due, set_cost, priced, with_set, counted}
+use Rattle.rt_state.specs.Room.{Due, set_cost, priced, with_set, counted}
+use Rattle.rt_state.specs.Tests.{Tests, met}
+use Rattle.rt_state.specs.Tests as test
 use Rattle.rt_nodes.specs.declared.controller_node.ControllerNode.{ControllerNode}
 use Rattle.rt_state.specs.declared.cost.Cost.{Cost}
 use Rattle.rt_state.specs.declared.state.State.{State}
@@ -34,11 +35,11 @@ sets_in (Some n) j = sets_next n.controller j
 abbrev pub sets_of_job : State → ControllerId → ℕ → Option ℕ
 sets_of_job w c j = sets_in (slice_get w.controllers c.0) j
 
+abbrev pub job_tests : State → ControllerId → ℕ → Tests
+job_tests w c j = test.there (has_controller w c) (test.known (has_job w c j) (test.up (is_controller_up w c) test.none))
+
 abbrev pub job_due : State → ControllerId → ℕ → Due
-job_due w c j =
-    only_if (has_controller w c) NoSuchNode
-    (only_if (has_job w c j) NoSuchMessage
-    (only_if (is_controller_up w c) NodeDown (priced w (set_cost (sets_of_job w c j)))))
+job_due w c j = met (job_tests w c j) (priced w (set_cost (sets_of_job w c j)))
 
 -- what was set is counted, where the history has grown
 abbrev pub noted_set : State → Cost → ℕ → State

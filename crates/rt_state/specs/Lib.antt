@@ -17,3 +17,4 @@ pub mod Servers
 pub mod Shows
 pub mod Start
 pub mod Stream
+pub mod Tests

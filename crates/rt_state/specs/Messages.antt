@@ -1,5 +1,5 @@
 -- A message is taken: a request by a controller, a reply by the server that asked.
-use Rattle.std.specs.Prelude.{◌≡◌, ◌++◌, ◌∷◌, [], ℕ, length, slice_get, slice_set, Option, Some, None, is_some, Ok, Err}
+use Rattle.std.specs.Prelude.{◌≡◌, ◌++◌, ◌∷◌, [], ℕ, length, slice_get, slice_set, Option, Some, None, is_some, false, Ok}
 use Rattle.rt_base.specs.declared.numbers.ControllerId.{ControllerId}
 use Rattle.rt_controller.specs.Controller.{Controlling}
 use Rattle.rt_controller.specs.Steps.{Handles}
@@ -7,7 +7,6 @@ use Rattle.rt_controller.specs.declared.handled.Handled.{Handled}
 use Rattle.rt_deep.specs.Meaning.{Told as ToldDeep}
 use Rattle.rt_deep.specs.Memory.{means as deep_means}
 use Rattle.rt_events.specs.declared.outcome.Outcome.{Outcome}
-use Rattle.rt_events.specs.declared.refusal.Refusal.TheVariants.{NoSuchMessage, NoSuchNode, NodeDown}
 use Rattle.rt_model.specs.declared.reply.Reply.{Reply}
 use Rattle.rt_model.specs.declared.request.Request.{Request}
 use Rattle.rt_store.specs.Meaning.{Told}
@@ -15,7 +14,9 @@ use Rattle.rt_store.specs.Memory.{means}
 use Rattle.rt_state.specs.Applying.{Next}
 use Rattle.rt_state.specs.Finding.{has_controller, is_server_up, is_controller_up, request_at, reply_at}
 use Rattle.rt_state.specs.Nodes.{ServerDoes}
-use Rattle.rt_state.specs.Room.{only_if, Due, no_cost, priced, counted}
+use Rattle.rt_state.specs.Room.{Due, no_cost, priced, counted}
+use Rattle.rt_state.specs.Tests.{Tests, met}
+use Rattle.rt_state.specs.Tests as test
 use Rattle.rt_nodes.specs.declared.controller_node.ControllerNode.{ControllerNode}
 use Rattle.rt_state.specs.declared.cost.Cost.{Cost}
 use Rattle.rt_state.specs.declared.state.State.{State}
@@ -34,10 +35,11 @@ answers w r = (with_reply w r, (length w.sent, r))
 
 -- ---- deliver
 
+abbrev pub deliver_tests : State → ℕ → ControllerId → Tests
+deliver_tests w m c = test.there (has_controller w c) (test.known (is_some (request_at w m)) (test.up (is_controller_up w c) test.none))
+
 abbrev pub deliver_due : State → ℕ → ControllerId → Due
-deliver_due w m c =
-    only_if (has_controller w c) NoSuchNode
-    (only_if (is_some (request_at w m)) NoSuchMessage (only_if (is_controller_up w c) NodeDown (priced w no_cost)))
+deliver_due w m c = met (deliver_tests w m c) (priced w no_cost)
 
 -- the reply is sent, or a job was started
 abbrev pub tells : State → Handled → State × Outcome
@@ -69,9 +71,12 @@ Delivers w m c cost x = DeliversAt (request_at w m) (slice_get w.controllers c.0
 
 -- ---- reply
 
+abbrev pub reply_tests : State → Option Reply → Tests
+reply_tests w None = test.known false test.none
+reply_tests w (Some r) = test.up (is_server_up w r.number.instance) test.none
+
 abbrev pub reply_by : State → Option Reply → Due
-reply_by w None = Err NoSuchMessage
-reply_by w (Some r) = only_if (is_server_up w r.number.instance) NodeDown (priced w no_cost)
+reply_by w o = met (reply_tests w o) (priced w no_cost)
 
 abbrev pub reply_due : State → ℕ → Due
 reply_due w m = reply_by w (reply_at w m)

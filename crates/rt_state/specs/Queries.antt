@@ -1,5 +1,5 @@
 -- The broker's queries, piece by piece.
-use Rattle.std.specs.Prelude.{◌≡◌, ◌++◌, ◌∷◌, [], ◌&&◌, not, ℕ, length, slice_get, slice_set, Option, Some, None, Result, Ok, Err, ◌≤◌, IfSome}
+use Rattle.std.specs.Prelude.{◌≡◌, ◌++◌, ◌∷◌, [], ◌&&◌, false, not, ℕ, length, slice_get, slice_set, Option, Some, None, Result, Ok, ◌≤◌, IfSome}
 use Rattle.rt_base.specs.declared.numbers.Instance.{Instance}
 use Rattle.rt_base.specs.declared.numbers.Partition.{Partition}
 use Rattle.rt_base.specs.declared.numbers.Sequence.{Sequence}
@@ -9,7 +9,6 @@ use Rattle.rt_broker.specs.Noting.{Notes}
 use Rattle.rt_broker.specs.Routing.{Routes as broker_routes}
 use Rattle.rt_broker.specs.declared.piece_got.PieceGot.{PieceGot}
 use Rattle.rt_broker.specs.declared.refused.BrokerRefused.{BrokerRefused}
-use Rattle.rt_events.specs.declared.refusal.Refusal.TheVariants.{NoSuchMessage, NoSuchNode, NothingToDo}
 use Rattle.rt_lists.specs.Members.{Has}
 use Rattle.rt_model.specs.Checked.{IsQuery}
 use Rattle.rt_model.specs.Aggregate.{result_rows}
@@ -21,7 +20,9 @@ use Rattle.rt_store.specs.Meaning.{Told}
 use Rattle.rt_store.specs.Memory.{means}
 use Rattle.rt_state.specs.Applying.{Next}
 use Rattle.rt_state.specs.Finding.{has_partition, has_server, query_at}
-use Rattle.rt_state.specs.Room.{only_if, Due, no_cost, query_cost, priced, with_query_closed, counted}
+use Rattle.rt_state.specs.Room.{Due, no_cost, query_cost, priced, with_query_closed, counted}
+use Rattle.rt_state.specs.Tests.{Tests, met}
+use Rattle.rt_state.specs.Tests as test
 use Rattle.rt_state.specs.declared.cost.Cost.{Cost}
 use Rattle.rt_nodes.specs.declared.server_node.ServerNode.{ServerNode}
 use Rattle.rt_state.specs.declared.state.State.{State}
@@ -42,12 +43,18 @@ asked w query cost =
 
 -- ---- route
 
+abbrev pub untried_tests : Partition → Option Asking → Tests
+untried_tests p None = test.known false test.none
+untried_tests p (Some a) = test.due (not (is_tried a p)) test.none
+
 abbrev pub route_by : State → Partition → Option Asking → Due
-route_by w p None = Err NoSuchMessage
-route_by w p (Some a) = only_if (not (is_tried a p)) NothingToDo (priced w no_cost)
+route_by w p o = met (untried_tests p o) (priced w no_cost)
+
+abbrev pub route_tests : State → ℕ → Partition → Tests
+route_tests w q p = test.there (has_partition w p) (untried_tests p (query_at w q))
 
 abbrev pub route_due : State → ℕ → Partition → Due
-route_due w q p = only_if (has_partition w p) NoSuchNode (route_by w p (query_at w q))
+route_due w q p = met (route_tests w q p) (priced w no_cost)
 
 abbrev pub RoutesAt : Option Asking → State → ℕ → Partition → Cost → Next → Type 0
 RoutesAt None w q p cost x = ⊥
@@ -61,13 +68,18 @@ Routes w q p cost x = RoutesAt (query_at w q) w q p cost x
 
 -- ---- piece
 
+abbrev pub unasked_tests : Partition → Sequence → Instance → Option Asking → Tests
+unasked_tests p s i None = test.known false test.none
+unasked_tests p s i (Some a) = test.due (is_piece_due a p s i) test.none
+
 abbrev pub piece_by : State → Partition → Sequence → Instance → Option Asking → Due
-piece_by w p s i None = Err NoSuchMessage
-piece_by w p s i (Some a) = only_if (is_piece_due a p s i) NothingToDo (priced w no_cost)
+piece_by w p s i o = met (unasked_tests p s i o) (priced w no_cost)
+
+abbrev pub piece_tests : State → ℕ → Partition → Sequence → Instance → Tests
+piece_tests w q p s i = test.there (has_server w i && has_partition w p) (unasked_tests p s i (query_at w q))
 
 abbrev pub piece_due : State → ℕ → Partition → Sequence → Instance → Due
-piece_due w q p s i =
-    only_if (has_server w i && has_partition w p) NoSuchNode (piece_by w p s i (query_at w q))
+piece_due w q p s i = met (piece_tests w q p s i) (priced w no_cost)
 
 abbrev pub PiecesOf : Option Piece → Option ServerNode → Asking → State → ℕ → Instance → Cost → Next → Type 0
 PiecesOf None n a w q i cost x = ⊥
@@ -85,9 +97,12 @@ Pieces w q p s i cost x = PiecesAt (query_at w q) w q p s i cost x
 
 -- ---- answer
 
+abbrev pub answer_tests : Option Asking → Tests
+answer_tests None = test.known false test.none
+answer_tests (Some a) = test.due (is_answer_due a) test.none
+
 abbrev pub answer_by : State → Option Asking → Due
-answer_by w None = Err NoSuchMessage
-answer_by w (Some a) = only_if (is_answer_due a) NothingToDo (priced w no_cost)
+answer_by w o = met (answer_tests o) (priced w no_cost)
 
 abbrev pub answer_due : State → ℕ → Due
 answer_due w q = answer_by w (query_at w q)

@@ -3,20 +3,23 @@ use Rattle.std.specs.Prelude.{ℕ, Bool}
 use Rattle.rt_base.specs.declared.numbers.Instance.{Instance}
 use Rattle.rt_base.specs.declared.numbers.Partition.{Partition}
 use Rattle.rt_base.specs.declared.numbers.Sequence.{Sequence}
-use Rattle.rt_events.specs.declared.refusal.Refusal.TheVariants.{NothingToDo}
 use Rattle.rt_consumer.specs.declared.consumer.Consumer.{Consumer}
 use Rattle.rt_state.specs.Applying.{Next}
-use Rattle.rt_state.specs.Finding.{find_server, replica_at, passes}
+use Rattle.rt_state.specs.Finding.{passes, replica_at, server_tests}
 use Rattle.rt_state.specs.Nodes.{ServerDoes, ServerFetches}
-use Rattle.rt_state.specs.Room.{only_if, Due, then_due, no_cost, priced}
+use Rattle.rt_state.specs.Room.{Due, no_cost, priced}
+use Rattle.rt_state.specs.Tests.{Tests, met}
+use Rattle.rt_state.specs.Tests as test
 use Rattle.rt_state.specs.declared.cost.Cost.{Cost}
 use Rattle.rt_state.specs.declared.state.State.{State}
 pub use Rattle.rt_nodes.specs.Replicas.{takes_in, stops_in, consumed_in, standing_in, built_in, takes_now, NodeConsumes, forces_now, NodeForces, stops_now, NodeStops, builds_now, NodeBuilds}
 
 -- the replica of a segment at a server that is up passes a test
+abbrev pub replica_tests : State → Instance → Partition → Sequence → (Consumer → Bool) → Tests
+replica_tests w i p q is_due = test.behind (server_tests w i p) (test.due (passes is_due (replica_at w i p q)) test.none)
+
 abbrev pub replica_due : State → Instance → Partition → Sequence → (Consumer → Bool) → Due
-replica_due w i p q test =
-    then_due (find_server w i p) (only_if (passes test (replica_at w i p q)) NothingToDo (priced w no_cost))
+replica_due w i p q is_due = met (replica_tests w i p q is_due) (priced w no_cost)
 
 -- ---- consume
 

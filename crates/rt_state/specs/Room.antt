@@ -20,9 +20,9 @@ Found = Result (Unit {0}) Refusal
 abbrev pub Due : Type 0
 Due = Result Cost Refusal
 
-abbrev pub then_due : Found → Due → Due
-then_due (Ok u) due = due
-then_due (Err e) due = Err e
+abbrev pub then_due : {X : Type 0} → Found → Result X Refusal → Result X Refusal
+then_due (Ok u) rest = rest
+then_due (Err e) rest = Err e
 
 -- ---- costs
 

@@ -4,17 +4,17 @@ use Rattle.rt_base.specs.declared.numbers.Offset.{Offset}
 use Rattle.rt_base.specs.declared.numbers.Partition.{Partition}
 use Rattle.rt_events.specs.declared.outcome.Outcome.{Outcome}
 use Rattle.rt_events.specs.declared.refusal.Refusal.{Refusal}
-use Rattle.rt_events.specs.declared.refusal.Refusal.TheVariants.{NoSuchNode}
 use Rattle.rt_stream.specs.Log.{messages_of, with_message, end_of}
 use Rattle.rt_state.specs.Applying.{Next}
-use Rattle.rt_state.specs.Finding.{has_partition}
-use Rattle.rt_state.specs.Room.{only_if, Due, message_cost, priced, counted}
+use Rattle.rt_state.specs.Finding.{partition_tests}
+use Rattle.rt_state.specs.Room.{Due, message_cost, priced, counted}
+use Rattle.rt_state.specs.Tests.{met}
 use Rattle.rt_state.specs.declared.cost.Cost.{Cost}
 use Rattle.rt_state.specs.declared.state.State.{State}
 use Rattle.rt_events.specs.declared.outcome.Outcome.TheVariants as told
 
 abbrev pub produce_due : State → Partition → List ℕ → Due
-produce_due w p message = only_if (has_partition w p) NoSuchNode (priced w (message_cost (length message)))
+produce_due w p message = met (partition_tests w p) (priced w (message_cost (length message)))
 
 abbrev pub produced : State → Partition → List ℕ → Cost → Next
 produced w p message cost =

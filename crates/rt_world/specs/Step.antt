@@ -1,88 +1,67 @@
--- Each event, a line each: when it can happen, what it costs, and the way in which it goes.
-use Rattle.std.specs.Prelude.{◌≡◌, ℕ, true, false, length, Option, Some, None, Result, Ok, Err}
-use Rattle.rt_base.specs.declared.numbers.Moment.{Moment}
-use Rattle.rt_consumer.specs.Requests.{size_in}
-use Rattle.rt_consumer.specs.declared.consumer.Consumer.{Consumer}
+-- Each event, a line each: what it asks for, what it costs, and the way in which it goes.
+use Rattle.std.specs.Prelude.{◌≡◌, true, false, length, None, Result, Ok, Err}
 use Rattle.rt_events.specs.declared.event.Event.{Event}
 use Rattle.rt_events.specs.declared.event.Event.TheVariants as event
 use Rattle.rt_events.specs.declared.outcome.Outcome.{Outcome}
 use Rattle.rt_events.specs.declared.outcome.Outcome.TheVariants as told
 use Rattle.rt_events.specs.declared.refusal.Refusal.{Refusal}
 use Rattle.rt_events.specs.declared.refusal.Refusal.TheVariants.{Memory}
-use Rattle.rt_nodes.specs.declared.chore.Chore.{Chore}
 use Rattle.rt_nodes.specs.declared.chore.Chore.TheVariants.{Repair, Retire}
-use Rattle.rt_nodes.specs.declared.upkeep.Upkeep.{Upkeep}
-use Rattle.rt_repair.specs.Repairing.{Repairing, set_entries as repair_sets}
-use Rattle.rt_repair.specs.Retirement.{Retirement, set_entries as retire_sets}
 use Rattle.rt_state.specs.Applying.{Applies}
-use Rattle.rt_state.specs.Clock.{deep_faulted, fault_due, lead_due, node_believing, pass_due, Passes, store_faulted, tick_due, ticked}
-use Rattle.rt_state.specs.Finding.{replica_at}
-use Rattle.rt_state.specs.Jobs.{job_due, sets_of_job}
-use Rattle.rt_state.specs.Lives.{controller_crashed, controller_restarted, crash_controller_due, crash_server_due, NodeCrashes, NodeRestarts, restart_controller_due, restart_server_due}
-use Rattle.rt_state.specs.Messages.{deliver_due, reply_due}
-use Rattle.rt_state.specs.Queries.{answer_due, ask_due, asked, piece_due, route_due}
-use Rattle.rt_state.specs.Repairs.{chore_due, repair_in, retirement_in, upkeep_at}
-use Rattle.rt_state.specs.Replicas.{build_due, consume_due, force_due, NodeBuilds, NodeConsumes, NodeForces, NodeStops, stop_due}
-use Rattle.rt_state.specs.Requests.{extend_due, NodeAsks, NodeAsksFor, report_due}
-use Rattle.rt_state.specs.Room.{Due, dropped, Found, message_cost, no_cost, query_cost, set_cost, time_cost, upload_cost}
-use Rattle.rt_state.specs.Servers.{download_due, NodeLoads, NodeMoves, NodeSees, see_due, transit_due}
-use Rattle.rt_state.specs.Shows.{ideal_shown, meta_shown, show_ideal_due, show_meta_due}
-use Rattle.rt_state.specs.Stream.{produce_due, produced}
+use Rattle.rt_state.specs.Clock.{deep_faulted, lead_tests, node_believing, pass_due, Passes, store_faulted, ticked}
+use Rattle.rt_state.specs.Finding.{partition_tests, query_at, replica_at, reply_at}
+use Rattle.rt_state.specs.Jobs.{job_tests, sets_of_job}
+use Rattle.rt_state.specs.Lives.{controller_crashed, controller_restarted, crash_controller_tests, crash_server_tests, NodeCrashes, NodeRestarts, restart_controller_tests, restart_server_tests}
+use Rattle.rt_state.specs.Messages.{deliver_tests, reply_tests}
+use Rattle.rt_state.specs.Queries.{answer_tests, asked, piece_tests, route_tests}
+use Rattle.rt_state.specs.Repairs.{chore_tests, upkeep_at}
+use Rattle.rt_state.specs.Replicas.{builds_now, forces_now, NodeBuilds, NodeConsumes, NodeForces, NodeStops, replica_tests, stops_now, takes_now}
+use Rattle.rt_state.specs.Requests.{asks_due, extends_now, NodeAsks, NodeAsksFor}
+use Rattle.rt_state.specs.Room.{Due, dropped, Found, message_cost, no_cost, priced, query_cost, set_cost, time_cost, upload_cost}
+use Rattle.rt_state.specs.Servers.{download_tests, NodeLoads, NodeMoves, NodeSees, see_tests, transit_tests}
+use Rattle.rt_state.specs.Shows.{ideal_shown, meta_shown}
+use Rattle.rt_state.specs.Stream.{produced}
+use Rattle.rt_state.specs.Tests.{Tests, met}
+use Rattle.rt_state.specs.Tests as test
 use Rattle.rt_state.specs.declared.cost.Cost.{Cost}
 use Rattle.rt_state.specs.declared.state.State.{State}
 use Rattle.rt_world.specs.Kept.{Kept}
 use Rattle.rt_world.specs.Way.{Goes, Way}
 use Rattle.rt_world.specs.Way as way
+pub use Rattle.rt_state.specs.Repairs.{set_by, set_by_repair, set_by_retirement}
+pub use Rattle.rt_state.specs.Requests.{size_of}
 
--- what an event costs that can happen, or why it can't
-abbrev pub due_at : State → Event → Due
-due_at w (event.Produce p message) = produce_due w p message
-due_at w (event.Tick millis) = tick_due w millis
-due_at w (event.Lead c on) = lead_due w c
-due_at w (event.Consume i p q max) = consume_due w i p q max
-due_at w (event.Force i p q) = force_due w i p q
-due_at w (event.Stop i p q) = stop_due w i p q
-due_at w (event.Build i p q) = build_due w i p q
-due_at w (event.Report i p q) = report_due w i p q
-due_at w (event.Extend i p q millis) = extend_due w i p q
-due_at w (event.Deliver m c) = deliver_due w m c
-due_at w (event.Job c j) = job_due w c j
-due_at w (event.Reply m) = reply_due w m
-due_at w (event.CrashServer i) = crash_server_due w i
-due_at w (event.CrashController c) = crash_controller_due w c
-due_at w (event.RestartServer i) = restart_server_due w i
-due_at w (event.RestartController c) = restart_controller_due w c
-due_at w (event.See i) = see_due w i
-due_at w (event.Transit i p q) = transit_due w i p q
-due_at w (event.Download i p q) = download_due w i p q
-due_at w (event.Repair c p) = chore_due w c p Repair
-due_at w (event.Retain c p) = chore_due w c p Retire
-due_at w (event.FaultStore kept) = fault_due w
-due_at w (event.FaultDeep kept) = fault_due w
-due_at w (event.Ask query) = ask_due w
-due_at w (event.Route q p) = route_due w q p
-due_at w (event.Piece q p s i) = piece_due w q p s i
-due_at w (event.Answer q) = answer_due w q
-due_at w (event.ShowMeta p q) = show_meta_due w p
-due_at w event.ShowIdeal = show_ideal_due w
-
--- the bytes of the upload that a replica has to send
-abbrev pub size_of : Option Consumer → ℕ
-size_of None = 0
-size_of (Some r) = size_in r.phase
-
--- the entries of the ideal state that the next step of what is under way sets
-abbrev pub set_by_repair : Option Repairing → Moment → Option ℕ
-set_by_repair None now = None
-set_by_repair (Some r) now = repair_sets r now
-
-abbrev pub set_by_retirement : Option Retirement → Moment → Option ℕ
-set_by_retirement None now = None
-set_by_retirement (Some r) now = retire_sets r now
-
-abbrev pub set_by : Chore → Option Upkeep → Moment → Option ℕ
-set_by Repair u now = set_by_repair (repair_in u) now
-set_by Retire u now = set_by_retirement (retirement_in u) now
+-- what an event asks for before it happens
+abbrev pub tests_at : State → Event → Tests
+tests_at w (event.Produce p message) = partition_tests w p
+tests_at w (event.Tick millis) = test.none
+tests_at w (event.Lead c on) = lead_tests w c
+tests_at w (event.Consume i p q max) = replica_tests w i p q (takes_now max)
+tests_at w (event.Force i p q) = replica_tests w i p q forces_now
+tests_at w (event.Stop i p q) = replica_tests w i p q stops_now
+tests_at w (event.Build i p q) = replica_tests w i p q builds_now
+tests_at w (event.Report i p q) = replica_tests w i p q asks_due
+tests_at w (event.Extend i p q millis) = replica_tests w i p q extends_now
+tests_at w (event.Deliver m c) = deliver_tests w m c
+tests_at w (event.Job c j) = job_tests w c j
+tests_at w (event.Reply m) = reply_tests w (reply_at w m)
+tests_at w (event.CrashServer i) = crash_server_tests w i
+tests_at w (event.CrashController c) = crash_controller_tests w c
+tests_at w (event.RestartServer i) = restart_server_tests w i
+tests_at w (event.RestartController c) = restart_controller_tests w c
+tests_at w (event.See i) = see_tests w i
+tests_at w (event.Transit i p q) = transit_tests w i p q
+tests_at w (event.Download i p q) = download_tests w i p q
+tests_at w (event.Repair c p) = chore_tests w c p Repair
+tests_at w (event.Retain c p) = chore_tests w c p Retire
+tests_at w (event.FaultStore kept) = test.none
+tests_at w (event.FaultDeep kept) = test.none
+tests_at w (event.Ask query) = test.none
+tests_at w (event.Route q p) = route_tests w q p
+tests_at w (event.Piece q p s i) = piece_tests w q p s i
+tests_at w (event.Answer q) = answer_tests (query_at w q)
+tests_at w (event.ShowMeta p q) = partition_tests w p
+tests_at w event.ShowIdeal = test.none
 
 -- what an event costs, beside its place among the events
 abbrev pub cost_of : State → Event → Cost
@@ -94,6 +73,10 @@ cost_of w (event.Repair c p) = set_cost (set_by Repair (upkeep_at w c p) w.momen
 cost_of w (event.Retain c p) = set_cost (set_by Retire (upkeep_at w c p) w.moment)
 cost_of w (event.Ask query) = query_cost
 cost_of w _ = no_cost
+
+-- what an event costs that can happen, or why it can't
+abbrev pub due_at : State → Event → Due
+due_at w e = met (tests_at w e) (priced w (cost_of w e))
 
 -- the way in which an event goes
 abbrev pub way_of : State → Event → Way
