@@ -1,5 +1,5 @@
 -- What the lines of a script tell of commits agrees with one range of each segment.
-use Rattle.std.proofs.Common.{◌≡◌, ◌<◌, ◌≤◌, ◌==◌, ◌||◌, ℕ, true, false, cond, List, [], ◌∷◌, ◌++◌, Option, Some, None, Ok, nat_lt, refl, sym, ◌∙◌, ap, subst, arith, ⊎_elim}
+use Rattle.std.proofs.Common.{◌≡◌, ◌<◌, ◌≤◌, ◌==◌, ◌||◌, ℕ, true, false, List, [], ◌∷◌, ◌++◌, Option, Some, None, Ok, nat_lt, refl, sym, ◌∙◌, ap, subst, arith, ⊎_elim}
 use Rattle.std.specs.Prelude.{Bool, IfSome}
 use Rattle.rt_base.specs.declared.numbers.ControllerId.{ControllerId}
 use Rattle.rt_base.specs.declared.numbers.Instance.{Instance}
@@ -29,7 +29,7 @@ use Rattle.rt_play.proofs.Keeping.{Keeps, choose_keeps, each_from_keeps, passed_
 use Rattle.rt_play.proofs.Known.{IsKnown, known_committed}
 use Rattle.rt_play.proofs.Leading.{leads_then}
 use Rattle.rt_play.proofs.LineReads.{beside, same_told, was_then}
-use Rattle.rt_play.proofs.Noted.{Holds, WasCommitted, job_kept, lie_below, stays_and_more, stays_with_jobs}
+use Rattle.rt_play.proofs.Noted.{Holds, WasCommitted, job_kept, lie_below, stays_and_more, stays_and_posted, stays_with_jobs}
 use Rattle.rt_play.proofs.NotedAnswers.{names_so}
 use Rattle.rt_play.proofs.Pairing.{paired}
 use Rattle.rt_play.proofs.QueryLines.{query_answer}
@@ -38,7 +38,7 @@ use Rattle.rt_play.proofs.ScriptRuns.{line_leads, lines_lead}
 use Rattle.rt_play.proofs.TellingWords.{fits_words}
 use Rattle.rt_play.specs.Beginning.{going_from}
 use Rattle.rt_play.specs.Going.{Going}
-use Rattle.rt_play.specs.Ledger.{AllTellSo, CommitsStay, IsTold, LineTells, Marks, Notes, Ranges, Segment, Working, event_noted, exchange_noted, is_success_status, knows_commit, no_notes}
+use Rattle.rt_play.specs.Ledger.{AllTellSo, CommitsStay, IsTold, LineTells, Marks, Notes, Ranges, Segment, Working, committed_if, event_noted, exchange_noted, exchange_posted, is_success_status, knows_commit, no_notes}
 use Rattle.rt_play.specs.Report.{FrontRuns, RunAll, Runs as LineRuns, said_at}
 use Rattle.rt_play.specs.declared.beginning.Beginning.{Beginning}
 use Rattle.rt_report.specs.BrokerTexts.{noquery_text}
@@ -122,7 +122,7 @@ module _ (ranges : Ranges) (w : State) (notes : Notes) (safe : IsSafeWorld w) (k
         told = event_text e text t.told (same_told text (outcome_text e t.told) t.further.1);
         paired = paired w u.world e t.told steps;
         words = fits_words w u.world e t.told safe fits steps;
-        so = tells ranges w u.world notes safe goes ranged k e t.told fits steps;
+        so = tells ranges w u.world notes safe goes ranged k e t.told steps;
         behind = f (event_noted e t.told notes) (noted ranges w u.world notes safe goes ranged k e t.told fits steps);
       }
 
@@ -147,19 +147,23 @@ module _ (ranges : Ranges) (w : State) (notes : Notes) (safe : IsSafeWorld w) (k
         status = x.status;
         stands = x.state;
         told = t.told;
-        behind = f (exchange_noted p q x.status x.state notes) (by_test (is_success_status x.status) (knows_commit x.state) t.is.success t.is.knows);
+        word = t.word;
+        behind =
+            f (exchange_noted p q x.request x.status x.state notes)
+            (by_test (exchange_posted p q x.request notes) (stays_and_posted ranges v notes p q x.request holds t.posted) (is_success_status x.status) (knows_commit x.state)
+            t.success t.knows);
       }
     where
-      more : IsKnown v p q → Holds ranges v (record notes { committed = only p q ++ notes.committed })
-      more known =
-          stays_and_more ranges v notes (only p q) holds
+      more : (now : Notes) → Holds ranges v now → IsKnown v p q → Holds ranges v (record now { committed = only p q ++ now.committed })
+      more now holds known =
+          stays_and_more ranges v now (only p q) holds
           (λ s has. ⊎_elim (λ same. subst (WasCommitted ranges v) same (known_committed ranges v p q ranged known)) (λ none. absurd none) has)
 
-      by_test : (a b : Bool) → (a ≡ true → IsKnown v p q) → (b ≡ true → IsKnown v p q)
-          → Holds ranges v (record notes { committed = cond (a || b) (only p q ++ notes.committed) notes.committed })
-      by_test true b success knows = more (success refl)
-      by_test false true success knows = more (knows refl)
-      by_test false false success knows = holds
+      by_test : (now : Notes) → Holds ranges v now → (a b : Bool) → (a ≡ true → IsKnown v p q) → (b ≡ true → IsKnown v p q)
+          → Holds ranges v (committed_if (a || b) p q now)
+      by_test now holds true b success knows = more now holds (success refl)
+      by_test now holds false true success knows = more now holds (knows refl)
+      by_test now holds false false success knows = holds
 
   line_says : (said : Line) (desk after : Desk) (v : Reached) (text : List ℕ) → FitsLine w.setup.schema said → GoesOn w v.world
       → AreRanged (starting_of v.world.setup) v.world.store.writes ranges → LineTold said desk w v (Ok (told after text)) → Says ranges w v.world notes (Some said) text

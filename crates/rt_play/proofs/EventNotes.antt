@@ -9,6 +9,7 @@ use Rattle.rt_base.specs.declared.numbers.Offset.{Offset}
 use Rattle.rt_base.specs.declared.numbers.Partition.{Partition}
 use Rattle.rt_base.specs.declared.numbers.Sequence.{Sequence}
 use Rattle.rt_base.specs.declared.range.Range.{Range}
+use Rattle.rt_commit.specs.Lasting.{commit_end}
 use Rattle.rt_controller.proofs.StartsAlone.{starts_at_machine}
 use Rattle.rt_controller.specs.Controller.{Controlling}
 use Rattle.rt_controller.specs.Steps.{Handles}
@@ -48,7 +49,7 @@ use Rattle.rt_nodes.specs.declared.controller_node.ControllerNode.{ControllerNod
 use Rattle.rt_play.proofs.Deleted.{was_deleted}
 use Rattle.rt_play.proofs.JobLines.{IsDoneTo, goes_on, sets_done, succeeds}
 use Rattle.rt_play.proofs.Known.{IsKnown, known_committed, taken_knows}
-use Rattle.rt_play.proofs.Noted.{Holds, IsAtWork, IsPosted, WasCommitted, committed_stays, deleted_stays, its_range, job_stays, posted_stays, stands_from, stays_and_deleted, stays_and_more, stays_but_jobs, stays_with_jobs, still_works}
+use Rattle.rt_play.proofs.Noted.{Holds, IsAtWork, IsEnding, IsPosted, WasCommitted, committed_stays, deleted_stays, its_range, job_stays, posted_stays, stands_from, stays_and_deleted, stays_and_more, stays_but_jobs, stays_with_jobs, still_works}
 use Rattle.rt_play.proofs.Ranged.{AreRanged, node_range}
 use Rattle.rt_play.proofs.Retired.{gone_below, there_above}
 use Rattle.rt_play.proofs.ShownStays.{node_of, stays_or_gone}
@@ -70,6 +71,7 @@ use Rattle.rt_state.specs.declared.state.State.{State}
 use Rattle.rt_store.specs.Contents.{starting_of}
 use Rattle.rt_store.specs.Meaning.{Told}
 use Rattle.rt_store.specs.Memory.{means}
+use Rattle.rt_unrefused.proofs.Answered.{delivers}
 use Rattle.rt_unrefused.proofs.JobSteps.{OwnStep, own_step}
 use Rattle.rt_unrefused.proofs.Requested.{IsRequested, requested}
 use Rattle.rt_unrefused.proofs.StartedJobs.{commit_started}
@@ -111,7 +113,7 @@ not_true true e = absurd (false≢true e)
 not_true false e = refl
 
 -- a job of this number, with the rest of another one
-abbrev working : ControllerId → ℕ → Segment → Offset → Working
+abbrev working : ControllerId → ℕ → Segment → Option Offset → Working
 working c j segment end = record { controller = c; job = j; segment = segment; end = end }
 
 working_is : (c : ControllerId) (j : ℕ) (x : Working) → is_job c j x ≡ true → x ≡ working c j x.segment x.end
@@ -145,6 +147,12 @@ range_ends r (node.Ideal i) k = absurd k
 range_ends r node.Boot k = absurd k
 range_ends r node.Gone k = absurd k
 
+-- and where a job ends there, its range does
+ends_there : (r : Range) (n : Node) (own end : Option Offset) → SaysDone r n → ((x : Offset) → own ≡ Some x → end_in n ≡ x) → IfSome end (λ x. own ≡ Some x)
+    → IfSome end (λ x. r.end ≡ x)
+ends_there r n own None says ends same = tt
+ends_there r n own (Some x) says ends same = range_ends r n says ∙ ends x same
+
 success_of : (r : ReplyStatus) → is_success_status r ≡ true → (seen : SeenMeta) × (r ≡ status.CommitSuccess seen)
 success_of (status.CommitSuccess seen) e = (seen, refl)
 success_of other e = absurd (false≢true e)
@@ -153,9 +161,9 @@ success_of other e = absurd (false≢true e)
 started_only : (j n : ℕ) (r : Reply) → came.Started j ≡ came.Replied n r → ⊥
 started_only j n r e = cc
 
-commit_end : (q : RequestKind) → is_commit_end q ≡ true → (path : List ℕ) × (q ≡ kind.CommitEnd path)
-commit_end (kind.CommitEnd path) e = (path, refl)
-commit_end other e = absurd (false≢true e)
+ends_commit : (q : RequestKind) → is_commit_end q ≡ true → (path : List ℕ) × (q ≡ kind.CommitEnd path)
+ends_commit (kind.CommitEnd path) e = (path, refl)
+ends_commit other e = absurd (false≢true e)
 
 module _ (ranges : Ranges) (w v : State) (notes : Notes) (safe : IsSafeWorld w) (goes : GoesOn w v) (ranged : AreRanged (starting_of v.setup) v.store.writes ranges)
     (k : Holds ranges w notes) where
@@ -184,22 +192,20 @@ module _ (ranges : Ranges) (w v : State) (notes : Notes) (safe : IsSafeWorld w) 
       old_posted x has = posted_stays w v x goes (k.requests x has)
 
       by_kind : (its : IsRequested w v i p q o) (b : Bool) → is_commit_end its.request.kind ≡ b → (x : Posted)
-          → Has (cond b (record { message = length w.sent; segment = record { partition = p; sequence = q }; end = its.request.offset } ∷ notes.requests) notes.requests) x
+          → Has (cond b (record { message = length w.sent; segment = record { partition = p; sequence = q }; end = Some its.request.offset } ∷ notes.requests) notes.requests) x
           → IsPosted v x
       by_kind its false e x has = old_posted x has
       by_kind its true e x (inr has) = old_posted x has
       by_kind its true e x (inl is) =
-          let named = commit_end its.request.kind e in
+          let named = ends_commit its.request.kind e in
           let one : Partition → Segment = λ t. record { partition = t; sequence = its.request.sequence } in
           let other : Sequence → Segment = λ t. record { partition = p; sequence = t } in
           subst (IsPosted v) is
           (record {
             request = its.request;
             there = its.there;
-            path = named.0;
-            names = named.1;
             segment = ap one its.segment.0 ∙ ap other its.segment.1;
-            end = refl;
+            end = (named.0, named.1, refl);
           })
 
   -- ---- a delivery
@@ -219,33 +225,43 @@ module _ (ranges : Ranges) (w v : State) (notes : Notes) (safe : IsSafeWorld w) 
   same_started : (i j : ℕ) → came.Started i ≡ came.Started j → i ≡ j
   same_started i j e = cc
 
+  own_partition : (m : ℕ) (q : Request) → request_at w m ≡ Some q → q.partition.0 < v.setup.partitions
+  own_partition m q asks =
+      subst (λ (s : Setup). q.partition.0 < s.partitions) (sym goes.setup) (safe.safe.past.requests q (request_sent w m q asks)).partition
+
   -- the job that is started is open, for the request
+  starts_job : (m : ℕ) (c : ControllerId) (j : ℕ) (q : Request) → request_at w m ≡ Some q → Steps w (event.Deliver m c) v (Ok (came.Started j))
+      → IsAtWork v (working c j (segment_of q) None)
+  starts_job m c j q asks steps =
+      record { request = q; segment = refl; within = own_partition m q asks; its = delivers w v m c q (came.Started j) safe asks steps; end = tt }
+
+  -- for a commitEnd it commits up to its offset
   starts_work : (m : ℕ) (c : ControllerId) (j : ℕ) (q : Request) (path : List ℕ) → request_at w m ≡ Some q → q.kind ≡ kind.CommitEnd path
-      → Steps w (event.Deliver m c) v (Ok (came.Started j)) → IsAtWork v (working c j (segment_of q) q.offset)
+      → Steps w (event.Deliver m c) v (Ok (came.Started j)) → IsAtWork v (working c j (segment_of q) (Some q.offset))
   starts_work m c j q path asks names steps =
       by_node (slice_get w.controllers c.0) refl
       (subst (λ (r : Option Request). DeliversAt r (slice_get w.controllers c.0) w c steps.0 (v, came.Started j)) asks steps.2)
     where
       by_what : (n : ControllerNode) (new : Controlling) (store : Told) (deep : ToldDeep) (what : Handled) → slice_get w.controllers c.0 ≡ Some n
           → Handles {E = Unit {0}} (means w.store) (means store) (deep_means w.deep) (deep_means deep) n.controller q w.moment new (Ok what)
-          → (v, came.Started j) ≡ handed (after_step w c n new store deep) steps.0 what → IsAtWork v (working c j (segment_of q) q.offset)
+          → (v, came.Started j) ≡ handed (after_step w c n new store deep) steps.0 what → IsAtWork v (working c j (segment_of q) (Some q.offset))
       by_what n new store deep (handled.Reply r) at h is = absurd (started_only j _ r (ap (λ (x : Next). x.1) is))
       by_what n new store deep (handled.Job i) at h is =
           let starts = starts_at_machine (means w.store) (means store) (deep_means w.deep) (deep_means deep) n.controller new q w.moment (handled.Job i) h
           (commit_started n.controller q w.moment path names (means w.store) (means store) (deep_means w.deep) (deep_means deep) new i h) in
           let opens = commit_opens w m c q n starts.path starts.place starts.machine v (came.Started j) safe asks at starts.timely steps in
           let number : j ≡ n.controller.started = same_started j n.controller.started opens.told_so in
+          let its = subst (λ n. IsOpen v c n (asked_of q) q.offset 23) (sym number) opens.opened in
           record {
             request = q;
             segment = refl;
-            end = refl;
-            within = subst (λ (s : Setup). q.partition.0 < s.partitions) (sym goes.setup) (safe.safe.past.requests q (request_sent w m q asks)).partition;
-            left = 23;
-            its = subst (λ n. IsOpen v c n (asked_of q) q.offset 23) (sym number) opens.opened;
+            within = own_partition m q asks;
+            its = record { job = its.job; there = its.there; asked = its.asked };
+            end = its.ends_at;
           }
 
       by_node : (n : Option ControllerNode) → slice_get w.controllers c.0 ≡ n → DeliversAt (Some q) n w c steps.0 (v, came.Started j)
-          → IsAtWork v (working c j (segment_of q) q.offset)
+          → IsAtWork v (working c j (segment_of q) (Some q.offset))
       by_node None at h = absurd h
       by_node (Some n) at (new, what, store, deep, h, is) = by_what n new store deep what at h is
 
@@ -259,28 +275,32 @@ module _ (ranges : Ranges) (w v : State) (notes : Notes) (safe : IsSafeWorld w) 
       by_open x has =
           let a = opened m c j x has in
           let p = k.requests a.posted a.has in
-          let starts = starts_work m c j p.request p.path (ap (request_at w) (sym a.message) ∙ p.there) p.names steps in
-          let one : Segment → Working = λ s. working c j s p.request.offset in
-          let other : Offset → Working = λ end. working c j a.posted.segment end in
-          subst (IsAtWork v) (ap one p.segment ∙ ap other p.end ∙ sym a.same) starts
+          let one : Segment → Working = λ s. working c j s a.posted.end in
+          subst (IsAtWork v) (ap one p.segment ∙ sym a.same) (by_end p.request (ap (request_at w) (sym a.message) ∙ p.there) a.posted.end p.end)
+        where
+          by_end : (q : Request) → request_at w m ≡ Some q → (end : Option Offset) → IfSome end (IsEnding q) → IsAtWork v (working c j (segment_of q) end)
+          by_end q asks None none = starts_job m c j q asks steps
+          by_end q asks (Some end) ends =
+              let one : Offset → Working = λ x. working c j (segment_of q) (Some x) in
+              subst (IsAtWork v) (ap one ends.2) (starts_work m c j q ends.0 asks ends.1 steps)
   deliver_noted m c other steps jobs = stays_but_jobs ranges w v notes notes.jobs goes k jobs
 
   -- ---- a step of a job
 
-  module _ (c : ControllerId) (j : ℕ) (fits : Fits w.setup.schema (event.Job c j)) (o : Outcome) (steps : Steps w (event.Job c j) v (Ok o)) where
+  module _ (c : ControllerId) (j : ℕ) (o : Outcome) (steps : Steps w (event.Job c j) v (Ok o)) where
     did : OwnStep w v c j o
     did = own_step w v c j o steps
 
     -- another job
     other_stays : (x : Working) → is_job c j x ≡ false → IsAtWork w x → IsAtWork v x
-    other_stays x e at = job_stays w v x (event.Job c j) o safe goes fits steps refl (other_number c j x e) at
+    other_stays x e at = job_stays w v x (event.Job c j) o safe goes steps refl (other_number c j x e) at
 
     own_stays : (x : Working) → is_job c j x ≡ true → did.did.reply ≡ None → IsAtWork w x → IsAtWork v x
     own_stays x e none at =
         let same = working_is c j x e in
         let there = subst (IsAtWork w) same at in
-        let next = goes_on w v c j o safe did there.request there.left there.its none in
-        subst (IsAtWork v) (sym same) (still_works w v (working c j x.segment x.end) next.0 goes there next.1)
+        let next = goes_on w v c j o safe did there.request there.its none in
+        subst (IsAtWork v) (sym same) (still_works w v (working c j x.segment x.end) goes there next.0 next.1)
 
     any_stays : (x : Working) → did.did.reply ≡ None → IsAtWork w x → IsAtWork v x
     any_stays x none at = by_test (is_job c j x) refl
@@ -295,29 +315,29 @@ module _ (ranges : Ranges) (w v : State) (notes : Notes) (safe : IsSafeWorld w) 
         let f = Has-filter (λ (y : Working). not (is_job c j y)) notes.jobs x has in
         other_stays x (not_true (is_job c j x) f.1) (k.jobs x f.0)
 
-    -- one that tells it has committed
-    done_to : (x : Working) → Has notes.jobs x → is_job c j x ≡ true → tells_commit did.did ≡ true → IsDoneTo v x.segment.partition x.segment.sequence x.end
-    done_to x has e tells = by_reply did.did.reply refl tells
-      where
-        at : IsAtWork w (working c j x.segment x.end)
-        at = subst (IsAtWork w) (working_is c j x e) (k.jobs x has)
+    at_work : (x : Working) → Has notes.jobs x → is_job c j x ≡ true → IsAtWork w (working c j x.segment x.end)
+    at_work x has e = subst (IsAtWork w) (working_is c j x e) (k.jobs x has)
 
-        its_own : IsDoneTo v at.request.partition at.request.sequence at.request.offset → IsDoneTo v x.segment.partition x.segment.sequence x.end
-        its_own d =
-            subst (λ (s : Segment). IsDoneTo v s.partition s.sequence x.end) at.segment
-            (subst (IsDoneTo v at.request.partition at.request.sequence) at.end d)
+    -- one that tells it has committed
+    done_to : (x : Working) (at : IsAtWork w (working c j x.segment x.end)) → tells_commit did.did ≡ true
+        → IsDoneTo v x.segment.partition x.segment.sequence (commit_end at.its.job.stage)
+    done_to x at tells = by_reply did.did.reply refl tells
+      where
+        its_own : IsDoneTo v at.request.partition at.request.sequence (commit_end at.its.job.stage)
+            → IsDoneTo v x.segment.partition x.segment.sequence (commit_end at.its.job.stage)
+        its_own d = subst (λ (s : Segment). IsDoneTo v s.partition s.sequence (commit_end at.its.job.stage)) at.segment d
 
         by_reply : (r : Option Reply) → did.did.reply ≡ r → (is_success r || (is_done_step did.did.step && is_none r)) ≡ true
-            → IsDoneTo v x.segment.partition x.segment.sequence x.end
-        by_reply None f t = its_own (sets_done w v c j o safe did at.request at.left at.its f (and_parts (is_done_step did.did.step) true t).0)
+            → IsDoneTo v x.segment.partition x.segment.sequence (commit_end at.its.job.stage)
+        by_reply None f t = its_own (sets_done w v c j o safe did at.request at.its f (and_parts (is_done_step did.did.step) true t).0)
         by_reply (Some reply) f t =
             let success = success_of reply.status (no_more (is_success_status reply.status) (is_done_step did.did.step) t) in
-            its_own (succeeds w v c j o safe did at.request at.left at.its reply success.0 f success.1)
+            its_own (succeeds w v c j o safe did at.request at.its reply success.0 f success.1)
 
     commits : (x : Working) → Has notes.jobs x → is_job c j x ≡ true → tells_commit did.did ≡ true → WasCommitted ranges v x.segment
     commits x has e tells =
-        let d = done_to x has e tells in
-        let at = k.jobs x has in
+        let at = at_work x has e in
+        let d = done_to x at tells in
         let within = subst (λ (s : Segment). s.partition.0 < w.setup.partitions) at.segment at.within in
         committed_by x.segment d.write (subst (λ (s : Setup). x.segment.partition.0 < s.partitions) (sym goes.setup) within) d.has d.of d.done
 
@@ -341,12 +361,13 @@ module _ (ranges : Ranges) (w v : State) (notes : Notes) (safe : IsSafeWorld w) 
         by_test false e holds = holds
 
     job_tells : TellsSo ranges (mark_of w.store.writes) notes (event.Job c j) o
-    unfolding done_to commits did committed_by
+    unfolding at_work done_to commits did committed_by
     job_tells =
         subst (λ (x : Outcome). TellsSo ranges (mark_of w.store.writes) notes (event.Job c j) x) (sym did.told.1)
         (λ x tells has e.
-        let d = done_to x has e tells in
-        range_ends (ranges x.segment.partition x.segment.sequence) d.write.node (commits x has e tells).done ∙ d.ends)
+        let at = at_work x has e in
+        let d = done_to x at tells in
+        ends_there (ranges x.segment.partition x.segment.sequence) d.write.node (commit_end at.its.job.stage) x.end (commits x has e tells).done d.ends at.end)
 
   -- ---- a replica that takes a reply
 
@@ -475,29 +496,29 @@ module _ (ranges : Ranges) (w v : State) (notes : Notes) (safe : IsSafeWorld w) 
       stays_but_jobs ranges w v notes (filter (λ (x : Working). not (x.controller.0 == c.0)) notes.jobs) goes k
       (λ x has.
       let f = Has-filter (λ (y : Working). not (y.controller.0 == c.0)) notes.jobs x has in
-      job_stays w v x (event.CrashController c) o safe goes tt steps (turned x.controller.0 c.0 (not_true (x.controller.0 == c.0) f.1)) (λ e. cc) (k.jobs x f.0))
+      job_stays w v x (event.CrashController c) o safe goes steps (turned x.controller.0 c.0 (not_true (x.controller.0 == c.0) f.1)) (λ e. cc) (k.jobs x f.0))
     where
       turned : (a b : ℕ) → (a == b) ≡ false → (b == a) ≡ false
       turned a b e = ne_eqb b a (λ same. false≢true (sym e ∙ eq-eqb a b (sym same)))
 
   pub noted : (e : Event) (o : Outcome) → Fits w.setup.schema e → Steps w e v (Ok o) → Holds ranges v (event_noted e o notes)
   noted (event.Report i p q) o fits steps =
-      report_noted i p q o steps (λ x has. job_stays w v x (event.Report i p q) o safe goes fits steps refl (λ e. cc) (k.jobs x has))
+      report_noted i p q o steps (λ x has. job_stays w v x (event.Report i p q) o safe goes steps refl (λ e. cc) (k.jobs x has))
   noted (event.Deliver m c) o fits steps =
-      deliver_noted m c o steps (λ x has. job_stays w v x (event.Deliver m c) o safe goes fits steps refl (λ e. cc) (k.jobs x has))
-  noted (event.Job c j) o fits steps = job_noted c j fits o steps
+      deliver_noted m c o steps (λ x has. job_stays w v x (event.Deliver m c) o safe goes steps refl (λ e. cc) (k.jobs x has))
+  noted (event.Job c j) o fits steps = job_noted c j o steps
   noted (event.Reply m) o fits steps =
       reply_noted m o (leads_safe w (happens (event.Reply m) o ∷ []) v safe (v, (fits, steps), refl)) steps
-      (λ x has. job_stays w v x (event.Reply m) o safe goes fits steps refl (λ e. cc) (k.jobs x has))
+      (λ x has. job_stays w v x (event.Reply m) o safe goes steps refl (λ e. cc) (k.jobs x has))
   noted (event.CrashController c) o fits steps = crash_noted c o steps
   noted (event.ShowMeta p q) o fits steps =
-      show_noted p q o steps (λ x has. job_stays w v x (event.ShowMeta p q) o safe goes fits steps refl (λ e. cc) (k.jobs x has))
+      show_noted p q o steps (λ x has. job_stays w v x (event.ShowMeta p q) o safe goes steps refl (λ e. cc) (k.jobs x has))
   noted (event.Retain c p) o fits steps =
-      retain_noted c p o steps (λ x has at. job_stays w v x (event.Retain c p) o safe goes fits steps refl (λ f. cc) at)
+      retain_noted c p o steps (λ x has at. job_stays w v x (event.Retain c p) o safe goes steps refl (λ f. cc) at)
   noted e o fits steps =
-      stays_with_jobs ranges w v notes goes (λ x has at. job_stays w v x e o safe goes fits steps refl (λ f. cc) at) k
+      stays_with_jobs ranges w v notes goes (λ x has at. job_stays w v x e o safe goes steps refl (λ f. cc) at) k
 
-  pub tells : (e : Event) (o : Outcome) → Fits w.setup.schema e → Steps w e v (Ok o) → TellsSo ranges (mark_of w.store.writes) notes e o
-  tells (event.Job c j) o fits steps = job_tells c j fits o steps
-  tells (event.ShowMeta p q) o fits steps = show_tells p q o steps
-  tells e o fits steps = tt
+  pub tells : (e : Event) (o : Outcome) → Steps w e v (Ok o) → TellsSo ranges (mark_of w.store.writes) notes e o
+  tells (event.Job c j) o steps = job_tells c j o steps
+  tells (event.ShowMeta p q) o steps = show_tells p q o steps
+  tells e o steps = tt

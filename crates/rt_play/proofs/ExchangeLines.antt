@@ -1,10 +1,13 @@
 -- What an `exchange` line tells of a commit is of its own segment.
-use Rattle.std.proofs.Common.{◌≡◌, ◌∷◌, [], ℕ, zero, suc, true, List, length, Option, Some, None, Ok, Err, refl, sym, ◌∙◌, ap, subst}
+use Rattle.std.proofs.Common.{◌≡◌, ◌∷◌, ◌++◌, [], ℕ, zero, suc, false, true, List, length, Option, Some, None, Ok, Err, refl, sym, ◌∙◌, ap, subst, arith}
 use Rattle.std.proofs.lemmas.Option.{none-some, same_Some}
 use Rattle.rt_base.specs.declared.numbers.ControllerId.{ControllerId}
 use Rattle.rt_base.specs.declared.numbers.Instance.{Instance}
 use Rattle.rt_base.specs.declared.numbers.Partition.{Partition}
 use Rattle.rt_base.specs.declared.numbers.Sequence.{Sequence}
+use Rattle.rt_desk.proofs.Reaching.{leads_by, pausing}
+use Rattle.rt_desk.proofs.ReachingMacros.{exchange_goes}
+use Rattle.rt_desk.specs.Paused.{Allowed}
 use Rattle.rt_events.specs.Fits.{Fits}
 use Rattle.rt_events.specs.declared.event.Event.{Event}
 use Rattle.rt_events.specs.declared.event.Event.TheVariants as event
@@ -24,10 +27,13 @@ use Rattle.rt_model.specs.declared.reply.Reply.{Reply}
 use Rattle.rt_model.specs.declared.request.Request.{Request}
 use Rattle.rt_play.proofs.Known.{IsKnown, known_stays, reply_knows, taken}
 use Rattle.rt_play.proofs.LineReads.{same_told, told_or, was_then}
-use Rattle.rt_play.specs.Ledger.{is_success_status, knows_commit}
+use Rattle.rt_play.proofs.Noted.{IsPosted, request_stays}
+use Rattle.rt_play.specs.AnswerTexts.{IsWord}
+use Rattle.rt_play.specs.Ledger.{Posted, Segment, is_success_status, knows_commit}
 use Rattle.rt_safety.proofs.Later.{leads_on}
 use Rattle.rt_safety.proofs.Runs.{leads_safe}
-use Rattle.rt_safety.specs.Runs.{happens}
+use Rattle.rt_safety.specs.Runs.{Leads, Turn, happens}
+use Rattle.rt_state.proofs.Bounds.{few_sent}
 use Rattle.rt_state.specs.Finding.{request_at}
 use Rattle.rt_state.specs.IsSafeWorld.{IsSafeWorld}
 use Rattle.rt_state.specs.Room.{Found}
@@ -40,6 +46,9 @@ use Rattle.rt_world.specs.Step.{Steps}
 
 abbrev world_of : Reached → State
 world_of v = v.world
+
+abbrev turns_of : Reached → List Turn
+turns_of v = v.turns
 
 happened_safe : (w v : State) (e : Event) (o : Outcome) → IsSafeWorld w → Fits w.setup.schema e → Steps w e v (Ok o) → IsSafeWorld v
 happened_safe w v e o safe fits steps = leads_safe w (happens e o ∷ []) v safe (v, (fits, steps), refl)
@@ -104,8 +113,9 @@ handles_request c m q w v r safe asks h =
 
 -- ---- the answer is taken
 
--- what is told of the exchange tells of a commit
-pub record IsExchanged (v : State) (p : Partition) (q : Sequence) (x : Exchanged) : Type 0 where
+-- what is told of the exchange tells the request, and of a commit
+pub record IsExchanged (request : ℕ) (v : State) (p : Partition) (q : Sequence) (x : Exchanged) : Type 0 where
+  pub number : x.request ≡ request
   pub success : is_success_status x.status ≡ true → IsKnown v p q
   pub knows : knows_commit x.state ≡ true → IsKnown v p q
 
@@ -124,16 +134,17 @@ abbrev told_of : ℕ → Replied → ReplicaState → Exchanged
 told_of request y stands = record { request = request; reply = y.message; status = y.status; state = stands }
 
 takes_answer : (request : ℕ) (p : Partition) (q : Sequence) (a : Asked) (y : Replied) (w : State) (v : Reached) (x : Exchanged)
-    → (a.partition ≡ p) × (a.sequence ≡ q) → Answers w a y → TakesAnswer request y w v (Ok x) → IsExchanged v.world p q x
+    → (a.partition ≡ p) × (a.sequence ≡ q) → Answers w a y → TakesAnswer request y w v (Ok x) → IsExchanged request v.world p q x
 takes_answer request p q a y w v x own k h =
     let t = was_then (Happens (event.Reply y.message)) (λ outcome. AfterReply request y (state_in outcome)) w v x h in
-    subst (λ (z : State). IsExchanged z p q x) (sym (ap world_of t.whole)) (by_state t.between.world t.last t.told (state_in t.told) t.came.by.0 refl t.further)
+    subst (λ (z : State). IsExchanged request z p q x) (sym (ap world_of t.whole)) (by_state t.between.world t.last t.told (state_in t.told) t.came.by.0 refl t.further)
   where
     of_segment : (v : State) → IsKnown v k.answer.reply.partition k.answer.reply.sequence → IsKnown v p q
     of_segment v known =
         subst (IsKnown v p) (k.answer.sequence ∙ own.1) (subst (λ (s : Partition). IsKnown v s k.answer.reply.sequence) (k.answer.partition ∙ own.0) known)
 
-    in_world : (u : State) (o : Outcome) (stands : ReplicaState) → Steps w (event.Reply y.message) u (Ok o) → state_in o ≡ Some stands → IsExchanged u p q (told_of request y stands)
+    in_world : (u : State) (o : Outcome) (stands : ReplicaState) → Steps w (event.Reply y.message) u (Ok o) → state_in o ≡ Some stands
+        → IsExchanged request u p q (told_of request y stands)
     in_world u o stands steps e =
         let took = took_so o stands e in
         let its = taken w u y.message o took.instance took.partition took.sequence stands steps took.told in
@@ -141,6 +152,7 @@ takes_answer request p q a y w v x own k h =
         let goes = leads_on w (happens (event.Reply y.message) o ∷ []) u k.safe (u, (tt, steps), refl) in
         let next = happened_safe w u (event.Reply y.message) o k.safe tt steps in
         record {
+          number = refl;
           success =
               λ success.
               known_stays w u p q goes
@@ -156,29 +168,29 @@ takes_answer request p q a y w v x own k h =
         }
 
     by_state : (u : State) (z : Reached) (o : Outcome) (s : Option ReplicaState) → Steps w (event.Reply y.message) u (Ok o) → state_in o ≡ s
-        → AfterReply request y s u z (Ok x) → IsExchanged z.world p q x
+        → AfterReply request y s u z (Ok x) → IsExchanged request z.world p q x
     by_state u z o None steps e g = absurd (told_or x _ g.1)
     by_state u z o (Some stands) steps e g =
-        subst (λ (s : State). IsExchanged s p q x) (sym (ap world_of g.0))
-        (subst (IsExchanged u p q) (sym (same_told x (told_of request y stands) g.1)) (in_world u o stands steps e))
+        subst (λ (s : State). IsExchanged request s p q x) (sym (ap world_of g.0))
+        (subst (IsExchanged request u p q) (sym (same_told x (told_of request y stands) g.1)) (in_world u o stands steps e))
 
 -- ---- an exchange
 
 sends_and_takes : (c : ControllerId) (m : ℕ) (p : Partition) (q : Sequence) (request : Request) (w : State) (v : Reached) (x : Exchanged) → IsSafeWorld w
-    → request_at w m ≡ Some request → ((asked_of request).partition ≡ p) × ((asked_of request).sequence ≡ q) → SendsAndTakes c m w v (Ok x) → IsExchanged v.world p q x
+    → request_at w m ≡ Some request → ((asked_of request).partition ≡ p) × ((asked_of request).sequence ≡ q) → SendsAndTakes c m w v (Ok x) → IsExchanged m v.world p q x
 sends_and_takes c m p q request w v x safe asks own h =
     let t = was_then (HandlesRequest c m) (TakesAnswer m) w v x h in
-    subst (λ (z : State). IsExchanged z p q x) (sym (ap world_of t.whole))
+    subst (λ (z : State). IsExchanged m z p q x) (sym (ap world_of t.whole))
     (takes_answer m p q (asked_of request) t.told t.between.world t.last x own (handles_request c m request w t.between t.told safe asks t.came) t.further)
 
 exchanges : (i : Instance) (p : Partition) (q : Sequence) (c : ControllerId) (w : State) (v : Reached) (x : Exchanged) → IsSafeWorld w
-    → ReportsAndFinishes (event.Report i p q) c w v (Ok x) → IsExchanged v.world p q x
+    → ReportsAndFinishes (event.Report i p q) c w v (Ok x) → IsExchanged (length w.sent) v.world p q x
 exchanges i p q c w v x safe h =
     let report = event.Report i p q in
     let t = was_then (Happens report) (AfterReport c) w v x h in
     let u = t.between.world in
     let its = requested w u i p q t.told safe t.came.by.0 in
-    subst (λ (z : State). IsExchanged z p q x) (sym (ap world_of t.whole))
+    subst (λ (z : State). IsExchanged (length w.sent) z p q x) (sym (ap world_of t.whole))
     (sends_and_takes c (length w.sent) p q its.request u t.last x (happened_safe w u report t.told safe tt t.came.by.0) its.there its.segment
     (subst (λ (o : Outcome). AfterReport c o u t.last (Ok x)) its.told t.further))
 
@@ -187,11 +199,42 @@ if_due : (f : Found) (report : Event) (c : ControllerId) (w : State) (v : Reache
 if_due (Ok u) report c w v x h = h
 if_due (Err refusal) report c w v x h = absurd (told_or x refusal h.1)
 
--- what the text of the line tells
+-- ---- its request
+
+-- the report is its first turn
+report_first : (report : Event) (c : ControllerId) (w : State) (v : Reached) (x : Exchanged) → ReportsAndFinishes report c w v (Ok x)
+    → (o : Outcome) × (rest : List Turn) × (v.turns ≡ happens report o ∷ rest)
+report_first report c w v x h =
+    let t = was_then (Happens report) (AfterReport c) w v x h in
+    (t.told, t.last.turns, ap turns_of t.whole ∙ ap (λ (ts : List Turn). ts ++ t.last.turns) t.came.by.1)
+
+abbrev sent_by : ℕ → Partition → Sequence → Posted
+sent_by message p q = record { message = message; segment = record { partition = p; sequence = q }; end = None }
+
+-- what was sent in it stays
+sent_first : (i : Instance) (p : Partition) (q : Sequence) (w v : State) (o : Outcome) (rest : List Turn) → IsSafeWorld w
+    → Leads w (happens (event.Report i p q) o ∷ rest) v → IsPosted v (sent_by (length w.sent) p q)
+sent_first i p q w v o rest safe (u, t, further) =
+    let its = requested w u i p q o safe t.1 in
+    let goes = leads_on u rest v (happened_safe w u (event.Report i p q) o safe tt t.1) further in
+    let one : Partition → Segment = λ s. record { partition = s; sequence = its.request.sequence } in
+    let other : Sequence → Segment = λ s. record { partition = p; sequence = s } in
+    record {
+      request = its.request;
+      there = request_stays u v (length w.sent) its.request goes its.there;
+      segment = ap one its.segment.0 ∙ ap other its.segment.1;
+      end = tt;
+    }
+
+-- ---- what the text of the line tells
+
 pub record TellsExchange (v : State) (p : Partition) (q : Sequence) (text : List ℕ) : Type 0 where
   pub exchanged : Exchanged
   pub told : text ≡ exchange_text exchanged
-  pub is : IsExchanged v p q exchanged
+  pub word : IsWord exchanged.request
+  pub posted : IsPosted v (record { message = exchanged.request; segment = record { partition = p; sequence = q }; end = None })
+  pub success : is_success_status exchanged.status ≡ true → IsKnown v p q
+  pub knows : knows_commit exchanged.state ≡ true → IsKnown v p q
 
 pub exchange_told : (i : Instance) (p : Partition) (q : Sequence) (c : ControllerId) (w : State) (v : Reached) (text : List ℕ) → IsSafeWorld w
     → ExchangeTold i p q c w v (Ok text) → TellsExchange v.world p q text
@@ -199,10 +242,20 @@ exchange_told i p q c w v text safe h =
     let t = was_then (Exchanges i p q c) (λ x. Gives (exchange_text x)) w v text h in
     let same : v.world ≡ t.between.world = ap world_of t.whole ∙ ap world_of t.further.0 in
     let report = event.Report i p q in
+    let made = if_due (exchange_due w report c) report c w t.between t.told t.came in
+    let is = subst (λ (z : State). IsExchanged (length w.sent) z p q t.told) (sym same) (exchanges i p q c w t.between t.told safe made) in
+    let first = report_first report c w t.between t.told made in
+    let rest : List Turn = first.1 ++ t.last.turns in
+    let turns : v.turns ≡ happens report first.0 ∷ rest = ap turns_of t.whole ∙ ap (λ (ts : List Turn). ts ++ t.last.turns) first.2 in
+    let led = leads_by (Allowed false) v.turns w v.world (exchange_goes (pausing false) i p q c w v (Ok text) h) in
+    let word : IsWord (length w.sent) = omega (arith, few_sent w safe) in
     record {
       exchanged = t.told;
       told = same_told text (exchange_text t.told) t.further.1;
-      is =
-          subst (λ (z : State). IsExchanged z p q t.told) (sym same)
-          (exchanges i p q c w t.between t.told safe (if_due (exchange_due w report c) report c w t.between t.told t.came));
+      word = subst IsWord (sym is.number) word;
+      posted =
+          subst (λ (m : ℕ). IsPosted v.world (sent_by m p q)) (sym is.number)
+          (sent_first i p q w v.world first.0 rest safe (subst (λ (ts : List Turn). Leads w ts v.world) turns led));
+      success = is.success;
+      knows = is.knows;
     }

@@ -42,7 +42,7 @@ use Rattle.rt_model.specs.declared.setup.Setup.{Setup}
 use Rattle.rt_nodes.specs.declared.controller_node.ControllerNode.{ControllerNode}
 use Rattle.rt_play.specs.Ledger.{is_done_step}
 use Rattle.rt_safety.proofs.SuccessEnds.{answer_made, step_of, success_ends}
-use Rattle.rt_safety.specs.CommitRun.{IsOpen, job_in}
+use Rattle.rt_safety.specs.CommitRun.{job_in}
 use Rattle.rt_state.specs.IsSafe.{past_of}
 use Rattle.rt_state.specs.IsSafeWorld.{IsSafeWorld}
 use Rattle.rt_state.specs.declared.state.State.{State}
@@ -51,6 +51,7 @@ use Rattle.rt_store.specs.Memory.{means}
 use Rattle.rt_past.specs.Past.{Past, with_history}
 use Rattle.rt_past.specs.Segments.{WasDone}
 use Rattle.rt_znodes.specs.Znodes.{end_by, end_in}
+use Rattle.rt_unrefused.proofs.Answered.{IsFor}
 use Rattle.rt_unrefused.proofs.JobSteps.{OwnStep, is_open_job, over, there_then}
 
 -- ---- a step by its name
@@ -72,14 +73,23 @@ named_step c n now answer w job there trying made =
 no_done : (n m : StepName) → n ≡ m → is_done_step m ≡ false → is_done_step n ≡ true → ⊥
 no_done n m same other is = false≢true (sym other ∙ ap is_done_step (sym same) ∙ is)
 
--- a job that makes its step `done` has 22 steps left
-left_at_done : (from : JobStage) (n : StepName) → IsNamedBy from n → is_done_step n ≡ true → steps_left from ≡ 22
-left_at_done (stage.Check from end path) n same is = absurd (no_done n name.Check same refl is)
-left_at_done (stage.Done from commit) n same is = refl
-left_at_done (stage.Next done) n same is = absurd (no_done n name.Next same refl is)
-left_at_done (stage.IdealRead w found) n same is = absurd (no_done n name.IdealRead same refl is)
-left_at_done (stage.IdealSet w found ideal) n same is = absurd (no_done n name.IdealSet same refl is)
-left_at_done stage.Ended n same is = absurd same
+-- a job that makes its step `done` commits its segment, and has 22 steps left
+record SetsDone (from : JobStage) : Type 0 where
+  end : Offset
+  ends : commit_end from ≡ Some end
+  left : steps_left from ≡ 22
+
+at_done : (from : JobStage) (n : StepName) → IsNamedBy from n → is_done_step n ≡ true → SetsDone from
+at_done (stage.Check from end path) n same is = absurd (no_done n name.Check same refl is)
+at_done (stage.Done from commit) n same is = record { end = commit.end; ends = refl; left = refl }
+at_done (stage.Next done) n same is = absurd (no_done n name.Next same refl is)
+at_done (stage.IdealRead w found) n same is = absurd (no_done n name.IdealRead same refl is)
+at_done (stage.IdealSet w found ideal) n same is = absurd (no_done n name.IdealSet same refl is)
+at_done stage.Ended n same is = absurd same
+
+-- what ends where a job does ends at the job's one offset
+one_end : (own other : Option Offset) (end x at : Offset) → own ≡ Some end → own ≡ other → at ≡ end → other ≡ Some x → at ≡ x
+one_end own other end x at ends same is e = is ∙ same_Some end x (sym ends ∙ same ∙ e)
 
 -- a job with fewer left that commits up to an offset has made its segment Done
 record HasSet (h : List Seen) (a : Asked) (end : Offset) : Type 0 where
@@ -108,15 +118,16 @@ job_over setup past c n job over there = by_place (job_place c.jobs n) there
 
 -- ---- the job that is stepped
 
--- a segment is DONE up to an offset
-pub record IsDoneTo (w : State) (p : Partition) (q : Sequence) (end : Offset) : Type 0 where
+-- a segment is DONE, where an offset is given up to there
+pub record IsDoneTo (w : State) (p : Partition) (q : Sequence) (end : Option Offset) : Type 0 where
   pub write : Seen
   pub has : Has w.store.writes write
   pub of : write.key ≡ node_key p q.0
   pub done : IsDone write.node
-  pub ends : end_in write.node ≡ end
+  pub ends : (x : Offset) → end ≡ Some x → end_in write.node ≡ x
 
-module _ (w v : State) (c : ControllerId) (j : ℕ) (o : Outcome) (safe : IsSafeWorld w) (k : OwnStep w v c j o) (request : Request) (left : ℕ) (works : IsOpen w c j (asked_of request) request.offset left) where
+module _ (w v : State) (c : ControllerId) (j : ℕ) (o : Outcome) (safe : IsSafeWorld w) (k : OwnStep w v c j o) (request : Request)
+    (works : IsFor w c j (asked_of request)) where
   abbrev its : WorksOver w.setup (past_of w) w.store k.store w.deep k.deep k.node.controller k.new j k.did
   its = over w v c j o safe k
 
@@ -126,27 +137,24 @@ module _ (w v : State) (c : ControllerId) (j : ℕ) (o : Outcome) (safe : IsSafe
   same_job : its.job ≡ works.job
   same_job = is_open_job w v c j o safe k works.job works.there
 
-  -- without a reply it goes on
-  pub goes_on : k.did.reply ≡ None → (next : ℕ) × IsOpen v c j (asked_of request) request.offset next
-  goes_on none = let l = subst (λ (r : Option Reply). LeavesJob its.job r (job_of k.new j)) none its.leaves in (
-    steps_left l.0.stage,
-    record {
-      job = l.0;
-      there = there_then w v c j o safe k ∙ l.1;
-      asked = l.3 ∙ ap (λ (x : Job). x.asked) same_job ∙ works.asked;
-      ends_at = l.4 ∙ ap (λ (x : Job). commit_end x.stage) same_job ∙ works.ends_at;
-      few = omega arith;
-    },
-  )
+  same_end : commit_end its.job.stage ≡ commit_end works.job.stage
+  same_end = ap (λ (x : Job). commit_end x.stage) same_job
 
   its_asked : its.job.asked ≡ asked_of request
   its_asked = ap (λ (x : Job). x.asked) same_job ∙ works.asked
+
+  -- without a reply it goes on
+  pub goes_on : k.did.reply ≡ None → (next : IsFor v c j (asked_of request)) × (commit_end next.job.stage ≡ commit_end works.job.stage)
+  goes_on none = let l = subst (λ (r : Option Reply). LeavesJob its.job r (job_of k.new j)) none its.leaves in (
+    record { job = l.0; there = there_then w v c j o safe k ∙ l.1; asked = l.3 ∙ its_asked },
+    l.4 ∙ same_end,
+  )
 
   abbrev Was : SeenMeta → Asked → Type 0
   Was seen a = WasDone k.store.writes a.partition a.sequence seen
 
   -- behind its step `done` it has committed
-  pub sets_done : k.did.reply ≡ None → is_done_step k.did.step ≡ true → IsDoneTo v request.partition request.sequence request.offset
+  pub sets_done : k.did.reply ≡ None → is_done_step k.did.step ≡ true → IsDoneTo v request.partition request.sequence (commit_end works.job.stage)
   sets_done none is =
       let l = subst (λ (r : Option Reply). LeavesJob its.job r (job_of k.new j)) none its.leaves in
       let made = answer_made (means w.store) (means k.store) (deep_means w.deep) (deep_means k.deep) (work_call k.node.controller j w.moment)
@@ -154,33 +162,35 @@ module _ (w v : State) (c : ControllerId) (j : ℕ) (o : Outcome) (safe : IsSafe
       let before = job_over w.setup (past_of w) k.node.controller j its.job (safe.safe.controllers c.0 k.node k.at).over its.open_job in
       let named = named_step k.node.controller j w.moment made.0 (record { controller = k.new; step = k.did }) its.job its.open_job before.trying made.1 in
       let after = job_over w.setup (with_history (past_of w) k.store.writes) k.new j l.0 its.over l.1 in
-      let ends : commit_end l.0.stage ≡ Some request.offset = l.4 ∙ ap (λ (x : Job). commit_end x.stage) same_job ∙ works.ends_at in
-      let few : steps_left l.0.stage < 22 = omega (arith, l.5, left_at_done its.job.stage k.did.step named is) in
-      let set = past_done k.store.writes l.0.asked l.0.stage request.offset after.job.at few ends in
+      let done = at_done its.job.stage k.did.step named is in
+      let few : steps_left l.0.stage < 22 = omega (arith, l.5, done.left) in
+      let set = past_done k.store.writes l.0.asked l.0.stage done.end after.job.at few (l.4 ∙ done.ends) in
       let asked : l.0.asked ≡ asked_of request = l.3 ∙ its_asked in
       record {
         write = set.write;
         has = subst (λ (t : Told). Has t.writes set.write) (sym k.written) set.set.has;
         of = set.set.of ∙ ap (λ (a : Asked). node_key a.partition a.sequence.0) asked;
         done = set.set.done;
-        ends = set.ends;
+        ends = λ x. one_end (commit_end its.job.stage) (commit_end works.job.stage) done.end x (end_in set.write.node) done.ends same_end set.ends;
       }
 
   -- with COMMIT_SUCCESS it has committed
   pub succeeds : (reply : Reply) (seen : SeenMeta) → k.did.reply ≡ Some reply → reply.status ≡ status.CommitSuccess seen
-      → IsDoneTo v request.partition request.sequence request.offset
+      → IsDoneTo v request.partition request.sequence (commit_end works.job.stage)
   succeeds reply seen told is =
       let so = subst (EndsSo k.store.writes its.job.asked.partition its.job.asked.sequence (MetFault w.store k.store w.deep k.deep) (commits its.job.stage) k.did.step)
       told its.ends in
       let was = subst (StatusSo k.store.writes its.job.asked.partition its.job.asked.sequence (MetFault w.store k.store w.deep k.deep) (commits its.job.stage) k.did.step)
       is so in
       let own : Was seen (asked_of request) = subst (Was seen) its_asked was.1 in
-      let ends = success_ends w.setup (past_of w) (means w.store) (means k.store) (deep_means w.deep) (deep_means k.deep) k.node.controller j w.moment
-      (record { controller = k.new; step = k.did }) works.job request.offset reply seen (safe.safe.controllers c.0 k.node k.at).over k.works own_job works.ends_at told is own.1 in
       record {
         write = listed_write request.partition (record { sequence = request.sequence; seen = seen });
         has = subst (λ (t : Told). Has t.writes (listed_write request.partition (record { sequence = request.sequence; seen = seen }))) (sym k.written) own.0;
         of = refl;
         done = own.1;
-        ends = ap end_by ends.1 ∙ ends.2;
+        ends =
+            λ x e.
+            let ends = success_ends w.setup (past_of w) (means w.store) (means k.store) (deep_means w.deep) (deep_means k.deep) k.node.controller j w.moment
+            (record { controller = k.new; step = k.did }) works.job x reply seen (safe.safe.controllers c.0 k.node k.at).over k.works own_job e told is own.1 in
+            ap end_by ends.1 ∙ ends.2;
       }

@@ -127,7 +127,7 @@ module _ (x : Working) where
       let led : Leads w (happens e o ∷ []) v = (v, (fits w, steps), refl) in
       record {
         safe = leads_safe w (happens e o ∷ []) v k.safe led;
-        at = job_stays w v x e o k.safe (leads_on w (happens e o ∷ []) v k.safe led) (fits w) steps (calm o) other k.at;
+        at = job_stays w v x e o k.safe (leads_on w (happens e o ∷ []) v k.safe led) steps (calm o) other k.at;
       }
 
   happens_works : (e : Event) → Spares e → Keeps Works (Happens e)

@@ -1,13 +1,18 @@
 -- What is noted of a script's lines holds in the world behind them.
-use Rattle.std.proofs.Common.{◌≡◌, ◌<◌, ◌≤◌, ℕ, false, List, [], ◌∷◌, ◌++◌, Option, Some, None, Ok, refl, sym, ◌∙◌, ap, subst, slice_get, ⊎_elim}
-use Rattle.rt_events.specs.Fits.{Fits}
+use Rattle.std.proofs.Common.{◌≡◌, ◌<◌, ◌≤◌, ℕ, false, List, ◌∷◌, ◌++◌, Option, Some, None, Ok, refl, sym, ◌∙◌, ap, subst, slice_get, ⊎_elim}
+use Rattle.std.specs.Prelude.{IfSome}
+use Rattle.std.proofs.lemmas.Bool.{eq-eqb, false≢true}
+use Rattle.rt_base.specs.declared.numbers.ControllerId.{ControllerId}
+use Rattle.rt_base.specs.declared.numbers.Offset.{Offset}
+use Rattle.rt_base.specs.declared.numbers.Partition.{Partition}
+use Rattle.rt_base.specs.declared.numbers.Sequence.{Sequence}
+use Rattle.rt_commit.specs.Lasting.{commit_end}
+use Rattle.rt_commit.specs.declared.job.Job.{Job}
 use Rattle.rt_events.specs.declared.event.Event.{Event}
 use Rattle.rt_events.specs.declared.event.Event.TheVariants as event
 use Rattle.rt_events.specs.declared.outcome.Outcome.{Outcome}
 use Rattle.rt_lists.proofs.Members.{Has-append_cases, Has-front, slice_get-append}
 use Rattle.rt_lists.specs.Members.{Has}
-use Rattle.rt_base.specs.declared.numbers.Partition.{Partition}
-use Rattle.rt_base.specs.declared.numbers.Sequence.{Sequence}
 use Rattle.rt_model.specs.History.{value_of}
 use Rattle.rt_model.specs.Messages.{asked_of}
 use Rattle.rt_model.specs.Metadata.{IsDeleted, node_key}
@@ -17,39 +22,42 @@ use Rattle.rt_model.specs.declared.request.Request.{Request}
 use Rattle.rt_model.specs.declared.request.RequestKind.TheVariants as kind
 use Rattle.rt_model.specs.declared.sent.Sent.{Sent}
 use Rattle.rt_model.specs.declared.setup.Setup.{Setup}
-use Rattle.rt_nodes.specs.declared.controller_node.ControllerNode.{ControllerNode}
 use Rattle.rt_play.proofs.Ranged.{node_range}
 use Rattle.rt_play.proofs.Retired.{deleted_gone, gone_below, there_above}
-use Rattle.rt_play.specs.Ledger.{AreBelow, Notes, Posted, Ranges, SaysDone, Segment, StandFrom, Working}
-use Rattle.rt_safety.proofs.CommitRuns.{commit_runs}
-use Rattle.rt_safety.specs.CommitRun.{IsOpen, is_crash, job_in}
+use Rattle.rt_play.specs.Ledger.{AreBelow, Notes, Posted, Ranges, SaysDone, Segment, StandFrom, Working, exchange_posted}
+use Rattle.rt_safety.proofs.JobsOn.{KeepsJob, Stays, believing_stays, controllers_stay, goes_stays, slot_stays}
+use Rattle.rt_safety.proofs.Ways.{is_free, leaving}
+use Rattle.rt_safety.specs.CommitRun.{is_crash}
 use Rattle.rt_safety.specs.GoesOn.{GoesOn}
 use Rattle.rt_safety.specs.Runs.{happens}
 use Rattle.rt_state.specs.Finding.{request_at, request_in}
 use Rattle.rt_state.specs.IsSafeWorld.{IsSafeWorld}
 use Rattle.rt_state.specs.declared.state.State.{State}
 use Rattle.rt_store.specs.Contents.{starting_of}
-use Rattle.rt_world.specs.Step.{Steps}
+use Rattle.rt_unrefused.proofs.Answered.{IsFor}
+use Rattle.rt_unrefused.proofs.JobSteps.{over, own_step}
+use Rattle.rt_world.specs.Step.{Steps, way_of}
 
 -- ---- what holds
 
--- a message is a commitEnd of this segment, up to this offset
+-- a request is a commitEnd up to this offset
+abbrev pub IsEnding : Request → Offset → Type 0
+IsEnding request end = (path : List ℕ) × (request.kind ≡ kind.CommitEnd path) × (request.offset ≡ end)
+
+-- a message is a request of this segment, and where an offset is noted a commitEnd up to it
 pub record IsPosted (w : State) (x : Posted) : Type 0 where
   pub request : Request
   pub there : request_at w x.message ≡ Some request
-  pub path : List ℕ
-  pub names : request.kind ≡ kind.CommitEnd path
   pub segment : record { partition = request.partition; sequence = request.sequence } ≡ x.segment
-  pub end : request.offset ≡ x.end
+  pub end : IfSome x.end (IsEnding request)
 
--- a job commits this segment, of a partition of the cluster, up to this offset
+-- a job is open for a request of this segment, of a partition of the cluster, and where an offset is noted commits it up to there
 pub record IsAtWork (w : State) (x : Working) : Type 0 where
   pub request : Request
   pub segment : record { partition = request.partition; sequence = request.sequence } ≡ x.segment
-  pub end : request.offset ≡ x.end
   pub within : request.partition.0 < w.setup.partitions
-  pub left : ℕ
-  pub its : IsOpen w x.controller x.job (asked_of request) request.offset left
+  pub its : IsFor w x.controller x.job (asked_of request)
+  pub end : IfSome x.end (λ y. commit_end its.job.stage ≡ Some y)
 
 -- a segment was made DONE, over its range
 pub record WasCommitted (ranges : Ranges) (w : State) (s : Segment) : Type 0 where
@@ -71,7 +79,7 @@ pub record Holds (ranges : Ranges) (w : State) (notes : Notes) : Type 0 where
 
 -- ---- in a later world
 
-request_stays : (w v : State) (message : ℕ) (q : Request) → GoesOn w v → request_at w message ≡ Some q → request_at v message ≡ Some q
+pub request_stays : (w v : State) (message : ℕ) (q : Request) → GoesOn w v → request_at w message ≡ Some q → request_at v message ≡ Some q
 request_stays w v message q goes k = by_slot (slice_get w.sent message) refl k
   where
     by_slot : (o : Option Sent) → slice_get w.sent message ≡ o → request_in o ≡ Some q → request_at v message ≡ Some q
@@ -84,8 +92,6 @@ pub posted_stays : (w v : State) (x : Posted) → GoesOn w v → IsPosted w x �
 posted_stays w v x goes k = record {
   request = k.request;
   there = request_stays w v x.message k.request goes k.there;
-  path = k.path;
-  names = k.names;
   segment = k.segment;
   end = k.end;
 }
@@ -102,41 +108,51 @@ committed_stays ranges w v s goes k = record {
 pub deleted_stays : (w v : State) (s : Segment) → GoesOn w v → WasDeleted w s → WasDeleted v s
 deleted_stays w v s goes d = (d.0, Has-front w.store.writes v.store.writes d.0 goes.past.history d.1, d.2, d.3)
 
--- a job that goes on, with so many steps left
-pub still_works : (w v : State) (x : Working) (left : ℕ) → GoesOn w v → (k : IsAtWork w x) → IsOpen v x.controller x.job (asked_of k.request) k.request.offset left
-    → IsAtWork v x
-still_works w v x left goes k job = record {
+-- a job that goes on, up to the same offset
+pub still_works : (w v : State) (x : Working) → GoesOn w v → (k : IsAtWork w x) → (its : IsFor v x.controller x.job (asked_of k.request))
+    → commit_end its.job.stage ≡ commit_end k.its.job.stage → IsAtWork v x
+still_works w v x goes k its same = record {
   request = k.request;
   segment = k.segment;
-  end = k.end;
   within = subst (λ (s : Setup). k.request.partition.0 < s.partitions) (sym goes.setup) k.within;
-  left = left;
-  its = job;
+  its = its;
+  end = subst (λ (o : Option Offset). IfSome x.end (λ y. o ≡ Some y)) (sym same) k.end;
 }
+
+-- the same job
+same_works : (w v : State) (x : Working) → GoesOn w v → (k : IsAtWork w x) → Stays w v x.controller x.job k.its.job → IsAtWork v x
+same_works w v x goes k stays =
+    still_works w v x goes k (record { job = k.its.job; there = stays k.its.there; asked = k.its.asked }) refl
 
 -- a job is looked for among the controllers alone
 pub job_kept : (w v : State) (x : Working) → GoesOn w v → v.controllers ≡ w.controllers → IsAtWork w x → IsAtWork v x
-job_kept w v x goes same k =
-    still_works w v x k.left goes k
-    (record {
-      job = k.its.job;
-      there = ap (λ (cs : List ControllerNode). job_in (slice_get cs x.controller.0) x.job) same ∙ k.its.there;
-      asked = k.its.asked;
-      ends_at = k.its.ends_at;
-      few = k.its.few;
-    })
+job_kept w v x goes same k = same_works w v x goes k (controllers_stay w v x.controller x.job k.its.job same)
 
--- it goes on through an event that is neither a crash of its controller nor its own step
-pub job_stays : (w v : State) (x : Working) (e : Event) (o : Outcome) → IsSafeWorld w → GoesOn w v → Fits w.setup.schema e → Steps w e v (Ok o)
-    → is_crash x.controller (happens e o) ≡ false → (e ≡ event.Job x.controller x.job → ⊥) → IsAtWork w x → IsAtWork v x
-job_stays w v x e o safe goes fits steps calm other k =
-    ⊎_elim
-    (λ ends. absurd (other (same_event e (event.Job x.controller x.job) o _ ends.own)))
-    (λ on. still_works w v x on.0 goes k on.2)
-    (commit_runs x.controller x.job (asked_of k.request) k.request.offset k.left w (happens e o ∷ []) v (v, (fits, steps), calm, refl) safe k.its)
-  where
-    same_event : (a b : Event) (p q : Outcome) → happens a p ≡ happens b q → a ≡ b
-    same_event a b p q f = cc
+-- an open job stays as it is through an event that is neither a crash of its controller nor its own step
+module _ (w v : State) (c : ControllerId) (n : ℕ) (job : Job) (o : Outcome) (safe : IsSafeWorld w) where
+  same_job : (d : ControllerId) (m : ℕ) → c.0 ≡ d.0 → n ≡ m → event.Job d m ≡ event.Job c n
+  same_job d m e f =
+      let id : ℕ → ControllerId = λ i. record { 0 = i } in
+      ap (λ (i : ℕ). event.Job (id i) m) (sym e) ∙ ap (event.Job c) (sym f)
+
+  by_way : (e : Event) → KeepsJob (way_of w e) c n job → Steps w e v (Ok o) → Stays w v c n job
+  by_way e keeps (cost, due, h) = goes_stays w (way_of w e) c n job cost (v, o) safe keeps (is_free w e cost due) (leaving w e cost due) h
+
+  open_stays : (e : Event) → Steps w e v (Ok o) → is_crash c (happens e o) ≡ false → (e ≡ event.Job c n → ⊥) → Stays w v c n job
+  open_stays (event.Job d m) steps calm other =
+      let did = own_step w v d m o steps in
+      slot_stays w v c d n job did.node (record did.node { controller = did.new }) did.at did.controllers
+      (λ i e. (over w v d m o safe did).stay n job (λ f. other (same_job d m i f)) e)
+  open_stays (event.Lead d on) steps calm other = by_way (event.Lead d on) (λ old i. believing_stays old on n job) steps
+  open_stays (event.CrashController d) steps calm other =
+      by_way (event.CrashController d) (λ old i. absurd (false≢true (sym calm ∙ eq-eqb d.0 c.0 (sym i)))) steps
+  open_stays (event.RestartController d) steps calm other = by_way (event.RestartController d) (λ old i e. e) steps
+  open_stays e steps calm other = by_way e tt steps
+
+pub job_stays : (w v : State) (x : Working) (e : Event) (o : Outcome) → IsSafeWorld w → GoesOn w v → Steps w e v (Ok o) → is_crash x.controller (happens e o) ≡ false
+    → (e ≡ event.Job x.controller x.job → ⊥) → IsAtWork w x → IsAtWork v x
+job_stays w v x e o safe goes steps calm other k =
+    same_works w v x goes k (open_stays w v x.controller x.job k.its.job o safe e steps calm other)
 
 -- ---- notes that stay
 
@@ -161,6 +177,16 @@ stays_and_more ranges w notes more k new = record {
   requests = k.requests;
   jobs = k.jobs;
   committed = λ s has. ⊎_elim (new s) (k.committed s) (Has-append_cases more notes.committed s has);
+  deleted = k.deleted;
+}
+
+-- one more request was sent
+pub stays_and_posted : (ranges : Ranges) (w : State) (notes : Notes) (p : Partition) (q : Sequence) (message : ℕ) → Holds ranges w notes
+    → IsPosted w (record { message = message; segment = record { partition = p; sequence = q }; end = None }) → Holds ranges w (exchange_posted p q message notes)
+stays_and_posted ranges w notes p q message k is = record {
+  requests = λ x has. ⊎_elim (λ same. subst (IsPosted w) same is) (k.requests x) has;
+  jobs = k.jobs;
+  committed = k.committed;
   deleted = k.deleted;
 }
 

@@ -24,7 +24,7 @@ use Rattle.rt_play.proofs.TellingKinds.{AreApart, IsIdle, all_alike, kind_of, sa
 use Rattle.rt_play.proofs.TellingSteps.{success_begins}
 use Rattle.rt_play.proofs.ToldNumbers.{same_decimal, tails}
 use Rattle.rt_play.specs.AnswerTexts.{IsWord}
-use Rattle.rt_play.specs.Ledger.{Notes, Posted, committed_if, is_commit_end, is_success_status, knows_commit, opens}
+use Rattle.rt_play.specs.Ledger.{Notes, Posted, committed_if, exchange_posted, is_commit_end, is_success_status, knows_commit, opens}
 use Rattle.rt_play.specs.NotedWords.{FitsWords}
 use Rattle.rt_play.specs.Telling.{AreAlike, NoteTheSame}
 use Rattle.rt_repair.specs.declared.retiring.RetireStep.TheVariants as retire
@@ -120,7 +120,7 @@ module _ (i : Instance) (p : Partition) (q : Sequence) where
   sent_begins other = refl
 
   abbrev posted : ℕ → Offset → Posted
-  posted message end = record { message = message; segment = record { partition = p; sequence = q }; end = end }
+  posted message end = record { message = message; segment = record { partition = p; sequence = q }; end = Some end }
 
   abbrev with_posted : Notes → Bool → ℕ → Offset → Notes
   with_posted notes ends message end = record notes { requests = cond ends (posted message end ∷ notes.requests) notes.requests }
@@ -335,12 +335,25 @@ last_state state.Discarded kept = refl
 last_word : (status : ReplyStatus) (stands : ReplicaState) → past_last 32 [] (exchange_behind status stands) ≡ state_text stands ++ codes "\n"
 last_word status stands = past_last_one 32 [] (status_text status) (state_text stands ++ codes "\n") ∙ last_state stands (state_text stands ++ codes "\n")
 
-pub exchanges_alike : (m n k l : ℕ) (a b : ReplyStatus) (s t : ReplicaState) → exchanged_text m k a s ≡ exchanged_text n l b t → NoteTheSame a s b t
-exchanges_alike m n k l a b s t same =
+-- behind the number of its request
+abbrev request_behind : ℕ → ReplyStatus → ReplicaState → List ℕ
+request_behind reply status stands = (codes " m" ++ (decimal reply ++ codes " ")) ++ exchange_behind status stands
+
+request_onto : (request reply : ℕ) (status : ReplyStatus) (stands : ReplicaState)
+    → (decimal request ++ (codes " m" ++ (decimal reply ++ codes " "))) ++ exchange_behind status stands ≡ decimal request ++ request_behind reply status stands
+request_onto request reply status stands = append_assoc (decimal request) (codes " m" ++ (decimal reply ++ codes " ")) (exchange_behind status stands)
+
+pub exchanges_alike : (m n k l : ℕ) (a b : ReplyStatus) (s t : ReplicaState) → IsWord m → IsWord n → exchanged_text m k a s ≡ exchanged_text n l b t
+    → NoteTheSame m a s n b t
+exchanges_alike m n k l a b s t v w same =
+    let request = (same_number m n (request_behind k a s) (request_behind l b t) v w space space
+    (sym (request_onto m k a s) ∙ append_cancel_left (codes "exchanged m") _ _ same ∙ request_onto n l b t)).0 in
     let behind = sym (past_numbers m k a s) ∙ ap (λ (ts : List ℕ). past 32 (past 32 (past 32 ts))) same ∙ past_numbers n l b t in
     let success = sym (success_begins a 32 (state_text s ++ codes "\n") refl) ∙ ap (begins (codes "COMMIT_SUCCESS")) behind ∙ success_begins b 32 (state_text t ++ codes "\n") refl in
     let knows = same_knows s t (sym (last_word a s) ∙ ap (past_last 32 []) behind ∙ last_word b t) in
     let tells : (is_success_status a || knows_commit s) ≡ (is_success_status b || knows_commit t) =
     ap (λ (x : Bool). x || knows_commit s) success ∙ ap (λ (x : Bool). is_success_status b || x) knows
     in
-    λ p q notes. ap (λ (x : Bool). committed_if x p q notes) tells
+    λ p q notes.
+    ap (λ (x : Bool). committed_if x p q (exchange_posted p q m notes)) tells
+    ∙ ap (λ (i : ℕ). committed_if (is_success_status b || knows_commit t) p q (exchange_posted p q i notes)) request

@@ -33,7 +33,7 @@ use Rattle.rt_model.specs.declared.seg_meta.SegMeta.{SegMeta}
 use Rattle.rt_model.specs.declared.setup.Setup.{Setup}
 use Rattle.rt_model.specs.declared.status.Status.{Status}
 use Rattle.rt_model.specs.declared.status.Status.TheVariants.{Done}
-use Rattle.rt_play.specs.AnswerTexts.{AreWords}
+use Rattle.rt_play.specs.AnswerTexts.{AreWords, IsWord}
 use Rattle.rt_play.specs.Named.{Each, Spares, ranges_at, span}
 use Rattle.rt_play.specs.NotedWords.{FitsWords}
 use Rattle.rt_repair.specs.declared.retiring.RetireStep.TheVariants.{Deleted}
@@ -51,20 +51,20 @@ pub record Segment : Type 0 where
   pub partition : Partition
   pub sequence : Sequence
 
--- a commitEnd, by the number of its message: the segment, and up to which offset
+-- a request, by the number of its message: the segment, and of a commitEnd whose offset is told this offset
 pub record Posted : Type 0 where
   pub message : ℕ
   pub segment : Segment
-  pub end : Offset
+  pub end : Option Offset
 
--- a commit job, by its controller and its number there
+-- a job for one, by its controller and its number there
 pub record Working : Type 0 where
   pub controller : ControllerId
   pub job : ℕ
   pub segment : Segment
-  pub end : Offset
+  pub end : Option Offset
 
--- the commitEnds that were told, the commit jobs that go on for them, and the segments that were told to be committed, and to be deleted
+-- the requests that may be commitEnds, the jobs that go on for them, and the segments that were told to be committed, and to be deleted
 pub record Notes : Type 0 where
   pub requests : List Posted
   pub jobs : List Working
@@ -78,7 +78,7 @@ abbrev pub is_commit_end : RequestKind → Bool
 is_commit_end (CommitEnd path) = true
 is_commit_end other = false
 
--- a message with a commitEnd opens a commit job
+-- a message with such a request opens a job for it
 abbrev pub opens : ℕ → ControllerId → ℕ → List Posted → List Working
 opens message controller job posted =
     map (λ p. record { controller = controller; job = job; segment = p.segment; end = p.end }) (filter (λ p. p.message == message) posted)
@@ -115,7 +115,7 @@ left_open controller job (Some reply) jobs = filter (λ w. not (is_job controlle
 abbrev pub posted_by : Partition → Sequence → ℕ → Request → List Posted → List Posted
 posted_by partition sequence message request posted =
     if is_commit_end request.kind
-    then record { message = message; segment = record { partition = partition; sequence = sequence }; end = request.offset } ∷ posted
+    then record { message = message; segment = record { partition = partition; sequence = sequence }; end = Some request.offset } ∷ posted
     else posted
 
 -- where a replica stands that was told of its segment's commit
@@ -160,9 +160,14 @@ event_noted (Retain controller p) (Retired (Deleted q)) notes =
     record notes { deleted = record { partition = p; sequence = q } ∷ notes.deleted }
 event_noted event outcome notes = notes
 
--- an exchange tells of a commit of its segment by the reply, a COMMIT_SUCCESS, or by where the replica then stands
-abbrev pub exchange_noted : Partition → Sequence → ReplyStatus → ReplicaState → Notes → Notes
-exchange_noted p q status stands notes = committed_if (is_success_status status || knows_commit stands) p q notes
+-- an exchange tells the message of its request, and not of which kind that is
+abbrev pub exchange_posted : Partition → Sequence → ℕ → Notes → Notes
+exchange_posted p q request notes =
+    record notes { requests = record { message = request; segment = record { partition = p; sequence = q }; end = None } ∷ notes.requests }
+
+-- it tells of a commit of its segment by the reply, a COMMIT_SUCCESS, or by where the replica then stands
+abbrev pub exchange_noted : Partition → Sequence → ℕ → ReplyStatus → ReplicaState → Notes → Notes
+exchange_noted p q request status stands notes = committed_if (is_success_status status || knows_commit stands) p q (exchange_posted p q request notes)
 
 -- ---- what a line tells, by the ranges of the segments and the marks of the partitions
 
@@ -194,14 +199,15 @@ StandFrom ranges marks notes p q =
     (s : Segment) → Has notes.committed s → s.partition ≡ p → q.0 ≤ s.sequence.0 → marks p ≤ (ranges s.partition s.sequence).start.0
 
 -- a segment that was told to be committed is shown so, and one that is shown DONE now; and where a node is there, whatever it says, no later
--- segment is gone. A job commits its segment up to the offset of its commitEnd
+-- segment is gone. A job commits its segment up to the offset of its commitEnd, where that was told
 abbrev pub TellsSo : Ranges → Marks → Notes → Event → Outcome → Type 0
 TellsSo ranges marks notes (ShowMeta p q) (Shown seen) =
     (Has notes.committed (record { partition = p; sequence = q }) → ShowsDone (ranges p q) (marks p) seen)
     × (shows_done seen ≡ true → ShowsDone (ranges p q) (marks p) seen)
     × IfSome seen (λ node. StandFrom ranges marks notes p q)
 TellsSo ranges marks notes (Job c j) (Stepped done message) =
-    (w : Working) → tells_commit done ≡ true → Has notes.jobs w → is_job c j w ≡ true → (ranges w.segment.partition w.segment.sequence).end ≡ w.end
+    (w : Working) → tells_commit done ≡ true → Has notes.jobs w → is_job c j w ≡ true
+    → IfSome w.end (λ end. (ranges w.segment.partition w.segment.sequence).end ≡ end)
 TellsSo ranges marks notes event outcome = Unit {0}
 
 -- nothing is missing of a partition
@@ -260,7 +266,8 @@ pub record ExchangeTells (notes : Notes) (p : Partition) (q : Sequence) (text : 
   pub status : ReplyStatus
   pub stands : ReplicaState
   pub told : text ≡ exchanged_text request reply status stands
-  pub behind : later (exchange_noted p q status stands notes)
+  pub word : IsWord request
+  pub behind : later (exchange_noted p q request status stands notes)
 
 -- an `exchange` and a `settle` make steps of no jobs but those that they start, so that the known ones go on
 abbrev pub LineTells : Setup → Ranges → Marks → Notes → Option Line → List ℕ → (Notes → Type 0) → Type 0

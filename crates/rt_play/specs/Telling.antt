@@ -1,5 +1,5 @@
 -- Outcomes of an event, and exchanges, of which the reader's ledger notes and tells the same.
-use Rattle.std.specs.Prelude.{◌≡◌}
+use Rattle.std.specs.Prelude.{◌≡◌, ℕ}
 use Rattle.hex.specs.Hex.{encode_lower}
 use Rattle.rt_base.specs.declared.numbers.Partition.{Partition}
 use Rattle.rt_base.specs.declared.numbers.Sequence.{Sequence}
@@ -23,9 +23,9 @@ pub record AreAlike (event : Event) (a b : Outcome) : Type 0 where
   pub tells : (ranges : Ranges) (marks : Marks) (notes : Notes) → TellsSo ranges marks notes event a → TellsSo ranges marks notes event b
 
 -- whichever of the two exchanges of a segment it was, the same is noted
-abbrev pub NoteTheSame : ReplyStatus → ReplicaState → ReplyStatus → ReplicaState → Type 0
-NoteTheSame status stands other others =
-    (p : Partition) (q : Sequence) (notes : Notes) → exchange_noted p q status stands notes ≡ exchange_noted p q other others notes
+abbrev pub NoteTheSame : ℕ → ReplyStatus → ReplicaState → ℕ → ReplyStatus → ReplicaState → Type 0
+NoteTheSame request status stands number other others =
+    (p : Partition) (q : Sequence) (notes : Notes) → exchange_noted p q request status stands notes ≡ exchange_noted p q number other others notes
 
 -- ---- a node that is shown
 

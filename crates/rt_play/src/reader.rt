@@ -36,9 +36,9 @@ pub fn what_is_shown_to_have_ended_stays()
 {}
 
 /// What was committed stays: there is one range for each segment, and from a line on that tells of a segment's commit (a `show meta` that
-/// tells DONE; a `job` that tells COMMIT_SUCCESS, or its step `done`, for a request that a `report` line told; an `exchange` that tells
-/// COMMIT_SUCCESS; a `reply` or an `exchange` behind which the replica knows of the commit), each later `show meta` line of it tells DONE
-/// over this range, or that the segment is gone; and the answer of each later `query` line names the whole of this range, or nothing of it.
+/// tells DONE; a `job` that tells COMMIT_SUCCESS, or its step `done`, for a request that a `report` or an `exchange` line told; an `exchange`
+/// that tells COMMIT_SUCCESS; a `reply` or an `exchange` behind which the replica knows of the commit), each later `show meta` line of it tells
+/// DONE over this range, or that the segment is gone; and the answer of each later `query` line names the whole of this range, or nothing of it.
 /// What is gone is gone from the front on and for good: each partition has a mark, which never falls, and is 0 where the table has no
 /// retention. Such a segment is shown to be gone exactly where its range lies below the mark, no answer of a `query` line names an offset
 /// below it, and one that misses nothing of a partition goes from it on without a gap through every such range above it.

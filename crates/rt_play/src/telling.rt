@@ -5,6 +5,7 @@ ghost use Rattle.rt_events.specs.declared.outcome.Outcome.{Outcome};
 ghost use Rattle.rt_model.specs.declared.node.Seen.{Seen};
 ghost use Rattle.rt_model.specs.declared.replica_state.ReplicaState.{ReplicaState};
 ghost use Rattle.rt_model.specs.declared.reply.ReplyStatus.{ReplyStatus};
+ghost use Rattle.rt_play.specs.AnswerTexts.{IsWord};
 ghost use Rattle.rt_play.specs.Ledger.{IsPaired};
 ghost use Rattle.rt_play.specs.NotedWords.{FitsWords};
 ghost use Rattle.rt_play.specs.Telling.{AreAlike, IsSeenFit, NoteTheSame, SameSeen};
@@ -22,10 +23,11 @@ pub fn the_text_of_an_event_tells_what_is_noted()
         → outcome_text event a ≡ outcome_text event b → AreAlike event a b }
 {}
 
-/// The text of an exchange tells its answer and where the replica then stands, as far as they are noted: two exchanges with one text leave
-/// the same notes.
+/// The text of an exchange tells the message of its request, its answer and where the replica then stands, as far as they are noted: two
+/// exchanges with one text, whose requests' numbers fit 64 bits, leave the same notes.
 pub fn the_text_of_an_exchange_tells_what_is_noted()
-    ensures { (m n k l : ℕ) (a b : ReplyStatus) (s t : ReplicaState) → exchanged_text m k a s ≡ exchanged_text n l b t → NoteTheSame a s b t }
+    ensures { (m n k l : ℕ) (a b : ReplyStatus) (s t : ReplicaState) → IsWord m → IsWord n
+        → exchanged_text m k a s ≡ exchanged_text n l b t → NoteTheSame m a s n b t }
 {}
 
 /// The text of a `show meta` line tells the segment's node whole: its version, its name, its start, its status, when it was written, and of a
